@@ -285,7 +285,7 @@ EndsMake-append (x ∷ y ∷ xs) d name h = (h.0, EndsMake-append (y ∷ xs) d n
 
 module _ (g : Grammar) (p : Policy) (d : ℕ) (h : DomainIn p d) where
   -- the Learn that is asked for fits, and is no Make
-  line-ready : (r : ℕ) (mode : Option Mode) (reason : Reason) (name : NamePlace) (step : Move) (target : Option DomainName) (line : Option Entry) → NotAsk reason → IfSome line (λ line. fits_entry g line ≡ true) → (let v : Verdict = record { mode = mode; reason = reason; name = name; step = step; target = target; line = line } in AllByRecursion (Ready g p) (steps_of_line g d r v) × NoMake (steps_of_line g d r v))
+  pub line-ready : (r : ℕ) (mode : Option Mode) (reason : Reason) (name : NamePlace) (step : Move) (target : Option DomainName) (line : Option Entry) → NotAsk reason → IfSome line (λ line. fits_entry g line ≡ true) → (let v : Verdict = record { mode = mode; reason = reason; name = name; step = step; target = target; line = line } in AllByRecursion (Ready g p) (steps_of_line g d r v) × NoMake (steps_of_line g d r v))
   line-ready r mode Reason.Learn name step target (Some line) not_ask fits = (((fits, h), tt), (refl, tt))
   line-ready r mode Reason.Learn name step target None not_ask fits = (tt, tt)
   line-ready r mode Reason.Ask name step target line not_ask fits = absurd not_ask
@@ -298,7 +298,7 @@ module _ (g : Grammar) (p : Policy) (d : ℕ) (h : DomainIn p d) where
   line-ready r mode Reason.NoManual name step target line not_ask fits = (tt, tt)
 
   -- the Make or the Fail that is asked for fits
-  move-ready : (mode : Option Mode) (reason : Reason) (name : NamePlace) (step : Move) (target : Option DomainName) (line : Option Entry) → MoveFits g p h.domain step target → (let v : Verdict = record { mode = mode; reason = reason; name = name; step = step; target = target; line = line } in AllByRecursion (Ready g p) (steps_of_move d v))
+  pub move-ready : (mode : Option Mode) (reason : Reason) (name : NamePlace) (step : Move) (target : Option DomainName) (line : Option Entry) → MoveFits g p h.domain step target → (let v : Verdict = record { mode = mode; reason = reason; name = name; step = step; target = target; line = line } in AllByRecursion (Ready g p) (steps_of_move d v))
   move-ready mode reason name Move.Stay target line fits = tt
   move-ready mode reason name (Move.Enter n) target line fits = tt
   move-ready mode reason name Move.Make None line fits = absurd cc
