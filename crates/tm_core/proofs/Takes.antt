@@ -149,6 +149,42 @@ first-leads g history p d h line mode reason name Move.Make None entry none fits
 first-leads g history p d h line mode reason name Move.Make (Some made) entry none fits = inl (EndsMake-append line d made none)
 first-leads g history p d h line mode reason name Move.Fail target entry none fits = (NoMake-append line (Step.Fail d ∷ []) none (refl, tt), refl)
 
+-- How many steps are asked for
+
+line-few : (g : Grammar) (d r : ℕ) (mode : Option Mode) (reason : Reason) (name : NamePlace) (step : Move) (target : Option DomainName) (line : Option Entry) → (let v : Verdict = record { mode = mode; reason = reason; name = name; step = step; target = target; line = line } in length (steps_of_line g d r v) ≤ 1)
+line-few g d r mode Reason.Learn name step target (Some line) = omega arith
+line-few g d r mode Reason.Learn name step target None = omega arith
+line-few g d r mode Reason.Ask name step target (Some line) = omega arith
+line-few g d r mode Reason.Ask name step target None = omega arith
+line-few g d r mode (Reason.Entry place) name step target line = omega arith
+line-few g d r mode Reason.Disabled name step target line = omega arith
+line-few g d r mode Reason.Permissive name step target line = omega arith
+line-few g d r mode Reason.Quota name step target line = omega arith
+line-few g d r mode Reason.NoEntry name step target line = omega arith
+line-few g d r mode Reason.NotReady name step target line = omega arith
+line-few g d r mode Reason.NoManual name step target line = omega arith
+
+move-few : (d : ℕ) (mode : Option Mode) (reason : Reason) (name : NamePlace) (step : Move) (target : Option DomainName) (line : Option Entry) → (let v : Verdict = record { mode = mode; reason = reason; name = name; step = step; target = target; line = line } in length (steps_of_move d v) ≤ 1)
+move-few d mode reason name Move.Stay target line = omega arith
+move-few d mode reason name (Move.Enter n) target line = omega arith
+move-few d mode reason name Move.Make (Some made) line = omega arith
+move-few d mode reason name Move.Make None line = omega arith
+move-few d mode reason name Move.Fail target line = omega arith
+
+-- a verdict asks for two steps at most
+pub owed-few : (scene : Scene) (d : ℕ) (v : Verdict) → length (owed_by scene d v) ≤ 2
+owed-few scene d v = go (is_granting v.reason)
+  where
+    line : length (steps_of_line scene.grammar d 0 v) ≤ 1
+    line = line-few scene.grammar d 0 v.mode v.reason v.name v.step v.target v.line
+
+    move : length (steps_of_move d v) ≤ 1
+    move = move-few d v.mode v.reason v.name v.step v.target v.line
+
+    go : (b : Bool) → length (steps_of_line scene.grammar d 0 v ++ (if b then steps_of_move d v else [])) ≤ 2
+    go true = rw (length-append (steps_of_line scene.grammar d 0 v) (steps_of_move d v)) (omega (arith, line, move))
+    go false = rw (length-append (steps_of_line scene.grammar d 0 v) []) (omega (arith, line))
+
 -- the take that a look begins
 abbrev pub begun_with : Scene → Player → Situation → Request → ℕ → Verdict → Begun
 begun_with scene player now request d v =
@@ -178,7 +214,9 @@ pub record Looks (scene : Scene) (player : Player) (t : ℕ) (tree : Tree) (at :
   pub stage : begun.stage ≡ Stage.Owing rest
   pub running : Running scene player.steps player.state.policy t tree at items takes begun
   pub goes : OnTheWay scene player.steps player.state.policy begun rest
+  pub first : begun.looked ≡ []
   pub own_none : begun.look.own ≡ []
+  pub few : length rest ≤ 2
 
 pub look-holds : (scene : Scene) (player : Player) (t : ℕ) (tree : Tree) (at : Situations) (pid : ℕ) (request : Request) (items : List Item) (takes : List Take) → IsGrammar scene.grammar → Sane scene player → Standing scene player.steps player.state.policy t tree takes at (Item.Do pid request ∷ items) → Looks scene player t tree at pid request items takes
 unfolding look_at
@@ -230,7 +268,9 @@ look-holds scene player t tree at pid request items takes grammar sane h =
           let granting : is_granting v.reason ≡ true = sym (grants-is v.reason None lawful.not_ask) ∙ grants in
           rw granting (first-leads scene.grammar player.steps p d a.there (steps_of_line scene.grammar d 0 v) v.mode v.reason v.name v.step v.target v.line (line-ready scene.grammar p d a.there 0 v.mode v.reason v.name v.step v.target v.line lawful.not_ask lawful.line).1 lawful.move);
       };
+      first = refl;
       own_none = refl;
+      few = owed-few scene d v;
     }
 
 -- The next own step
@@ -254,7 +294,7 @@ module _ (scene : Scene) (history : History) (p q : Policy) (b : Begun) (rest : 
         leads = leads;
       }
 
-  next-holds : (step : Step) (reply : Reply) → OnTheWay scene history p b (step ∷ rest) → Ready scene.grammar p step → RepliesTo q step reply → Stepped scene history q b rest reply step
+  pub next-holds : (step : Step) (reply : Reply) → OnTheWay scene history p b (step ∷ rest) → Ready scene.grammar p step → RepliesTo q step reply → Stepped scene history q b rest reply step
   next-holds (Step.Learn d entry) reply h ready (learned, is) =
       subst (λ (r : Reply). Stepped scene history q b rest r (Step.Learn d entry)) (sym is)
       (record {
