@@ -131,7 +131,7 @@ module _ (scene : Scene) (history : History) (p : Policy) (t : ℕ) (tree : Tree
 
 -- The first look
 
-grants-is : (reason : Reason) (heard : Option Heard) → NotAsk reason → grants_with reason heard ≡ is_granting reason
+pub grants-is : (reason : Reason) (heard : Option Heard) → NotAsk reason → grants_with reason heard ≡ is_granting reason
 grants-is Reason.Ask heard not_ask = absurd not_ask
 grants-is (Reason.Entry place) heard not_ask = refl
 grants-is Reason.Disabled heard not_ask = refl
