@@ -117,7 +117,7 @@ ready-own g p (Step.End t) h = absurd h
 replaced : (scene : Scene) (player : Player) (n : ℕ) (way new : Way) → PlayHolds scene player → slice_get player.ways n ≡ Some way → (t : Tree_ scene player n way) → WayHolds scene player.steps player.state.policy t.number t.tree new → ((k : ℕ) → times k (way_own new) ≡ times k (way_own way)) → PlayHolds scene (on_way scene.grammar player n new)
 replaced scene player n way new h at t holds same =
     record {
-      sane = record { true_to = record { state = h.sane.true_to.state; replies = h.sane.true_to.replies }; sound = h.sane.sound; alone = h.sane.alone };
+      sane = record { true_to = record { state = h.sane.true_to.state; replies = h.sane.true_to.replies }; sound = h.sane.sound; alone = h.sane.alone; none_asked = h.sane.none_asked };
       owned = h.owned;
       ways = way-set (WayHolds scene player.steps player.state.policy) (WayHolds scene player.steps player.state.policy) 1 scene.trace player.ways n t.number t.tree new h.ways t.there t.numbered holds (λ k other w held. held);
       counted = λ k.
@@ -233,7 +233,7 @@ module _ (scene : Scene) (grammar : IsGrammar scene.grammar) (player : Player) (
       holds : PlayHolds scene next
       holds =
           record {
-            sane = record { true_to = record { state = true_to.state; replies = true_to.replies }; sound = fits.sound; alone = rw fits.queries h.sane.alone };
+            sane = record { true_to = record { state = true_to.state; replies = true_to.replies }; sound = fits.sound; alone = rw fits.queries h.sane.alone; none_asked = rw fits.queries h.sane.none_asked };
             owned = All-push (λ (pair : Step × Reply). is_own pair.0 ≡ true) player.steps (k.step, fits.reply) h.owned (ready-own scene.grammar player.state.policy k.step k.goes.ready.0);
             ways =
                 way-set (WayHolds scene player.steps player.state.policy) (WayHolds scene (player.steps ++ more) done.state.policy) 1 scene.trace player.ways n t.number t.tree new h.ways t.there t.numbered

@@ -206,6 +206,7 @@ pub record Sane (scene : Scene) (player : Player) : Type 0 where
   pub true_to : IsTrueTo scene.grammar (opening_of scene) player
   pub sound : Sound player.state.policy
   pub alone : player.state.queries.attached ≡ false
+  pub none_asked : player.state.queries.all ≡ []
 
 pub record Looks (scene : Scene) (player : Player) (t : ℕ) (tree : Tree) (at : Situations) (pid : ℕ) (request : Request) (items : List Item) (takes : List Take) : Type 0 where
   pub begun : Begun
