@@ -1,16 +1,15 @@
 -- Each verdict on a request of a process whose domain is there: it is given, and the steps that it asks for fit.
-use Rattle.std.proofs.Common.{◌≡◌, ℕ, zero, suc, ◌+◌, ◌*◌, ◌^◌, List, [], ◌∷◌, ◌++◌, Bool, true, false, true≢false, refl, sym, ap, ◌∙◌, subst, arith, inl, inr, ◌⊎◌, append-nil}
+use Rattle.std.proofs.Common.{◌≡◌, ℕ, ◌+◌, ◌*◌, ◌^◌, List, [], ◌∷◌, ◌++◌, Bool, true, false, refl, ap, ◌∙◌, subst, arith}
 use Rattle.std.specs.Prelude.{Option, Some, None, ◌&&◌, ◌||◌, ◌==◌, cond, if◌then◌else◌, option_map, unwrap_or, not, IsSome, is_some, count_ones, IfSome}
 use Rattle.std.specs.List.{AllByRecursion, find, list_all}
 use Rattle.std.specs.Bool.{beq}
-use Rattle.std.specs.Option.{option_and_then, option_map_or}
+use Rattle.std.specs.Option.{option_map_or}
 use Rattle.std.specs.Int.Count.{ones, ones_in, ones_cat}
 use Rattle.std.proofs.lemmas.Nat.{pow_pos}
-use Rattle.std.proofs.lemmas.Bool.{and_parts, and_from, eq-eqb}
+use Rattle.std.proofs.lemmas.Bool.{and_parts}
 use Rattle.tm_rules.specs.Words.{Text, Word, Pattern, DomainName}
 use Rattle.tm_types.specs.declared.unions.NamePlace.{NamePlace}
 use Rattle.tm_types.specs.declared.entry.Args.{Args}
-use Rattle.tm_types.specs.declared.entry.Attr.{Attr}
 use Rattle.tm_types.specs.declared.entry.Entry.{Entry}
 use Rattle.tm_types.specs.declared.policy.Function.{Function}
 use Rattle.tm_types.specs.declared.policy.Mode.{Mode}
@@ -30,7 +29,7 @@ use Rattle.tm_rules.specs.Equality.{texts_equal}
 use Rattle.tm_rules.specs.Condition.{is_execute, is_manual}
 use Rattle.tm_rules.specs.Mode.{function_of, mode_of}
 use Rattle.tm_rules.specs.Pattern.{matches, is_empty}
-use Rattle.tm_rules.specs.Policy.{domain_at, profile_of, live_domain, namespace_of, namespace_named, namespace_word, empty_namespace, permission}
+use Rattle.tm_rules.specs.Policy.{live_domain, namespace_of, namespace_named, namespace_word, empty_namespace, permission}
 use Rattle.tm_rules.specs.Search.{Granting, aggregated, path_of, first}
 use Rattle.tm_rules.specs.Transition.{Decision, is_domain_name, can_enter, decision, candidate, target_name, is_strict}
 use Rattle.tm_rules.specs.Requests.{is_request, begins_with_byte, are_literal, has_its_attributes, has_exec, has_no_exec, is_symlink, may_have}
@@ -40,7 +39,7 @@ use Rattle.tm_core.specs.Changes.{is_task}
 use Rattle.tm_core.specs.Steps.{fits_entry}
 use Rattle.tm_core.specs.Legal.{steps_of_line, steps_of_move}
 use Rattle.tm_core.specs.Play.{IsGrammar}
-use Rattle.tm_core.proofs.Kept.{DomainIn, Sound, Ready, live_in, some_of}
+use Rattle.tm_core.proofs.Kept.{DomainIn, Sound, Ready, live_in}
 
 -- Lists
 
@@ -123,7 +122,7 @@ line-fits g p x request grammar sound is task =
     let name : Word = aggregated ns (path_of request) in
     let shape = learned_shape request name task in
     let writes : g.can_write (learned_line request name) ≡ true =
-        grammar.learned request name is (λ execute. aggregated-path ns (path_of request) (aggregators-of p (namespace_word x.name) sound) (asks_path g.is_path request is execute)) in
+    grammar.learned request name is (λ execute. aggregated-path ns (path_of request) (aggregators-of p (namespace_word x.name) sound) (asks_path g.is_path request is execute)) in
     rw (writes, shape.0, shape.1) refl
 
 -- Verdicts

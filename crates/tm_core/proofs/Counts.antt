@@ -1,11 +1,8 @@
 -- Each own step is owned once, over all takes that have ended or begun; and what is left to do gets less.
-use Rattle.std.proofs.Common.{◌≡◌, ◌≢◌, ◌≤◌, ◌<◌, ℕ, zero, suc, ◌+◌, ◌*◌, List, [], ◌∷◌, ◌++◌, length, map, Bool, true, false, true≢false, refl, sym, ap, ◌∙◌, subst, arith, inl, inr, ◌⊎◌, append_assoc, append-nil}
-use Rattle.std.specs.Prelude.{Option, Some, None, slice_get, slice_set, if◌then◌else◌, ◌==◌, IfSome, flat_map}
-use Rattle.std.specs.List.{AllByRecursion}
+use Rattle.std.proofs.Common.{◌≡◌, ◌≢◌, ◌≤◌, ◌<◌, ℕ, zero, suc, ◌+◌, List, [], ◌∷◌, ◌++◌, length, Bool, true, false, refl, sym, ap, ◌∙◌, subst, arith, inl, inr, ◌⊎◌}
+use Rattle.std.specs.Prelude.{Option, Some, None, slice_get, slice_set, if◌then◌else◌, ◌==◌, flat_map}
 use Rattle.std.proofs.lemmas.Bool.{eqb-true, eqb-false, cases_lt}
 use Rattle.std.proofs.lemmas.Grind.{flat_map-append}
-use Rattle.std.proofs.lemmas.List.{length-append}
-use Rattle.tm_types.specs.declared.request.Item.{Item}
 use Rattle.tm_types.specs.declared.request.Tree.{Tree}
 use Rattle.tm_types.specs.declared.step.Step.{Step}
 use Rattle.tm_types.specs.declared.step.Reply.{Reply}
@@ -13,9 +10,9 @@ use Rattle.tm_types.specs.declared.step.Look.{Look}
 use Rattle.tm_types.specs.declared.step.Take.{Take}
 use Rattle.tm_rules.specs.Words.{Trace}
 use Rattle.tm_core.specs.Grammar.{Grammar}
-use Rattle.tm_core.specs.Run.{History, Situations, step_at, do_pids, with_situation, with_ids, forked}
+use Rattle.tm_core.specs.Run.{History, step_at}
 use Rattle.tm_core.specs.Legal.{own_numbers, times, times_owned, is_own}
-use Rattle.tm_core.specs.Play.{Begun, Stage, Way, taken, going_on, passed, way_left, ways_left}
+use Rattle.tm_core.specs.Play.{Begun, Stage, Way, taken, going_on}
 use Rattle.tm_core.proofs.Laws.{times-append}
 use Rattle.tm_core.proofs.Histories.{step_at-later, step_at-last, step_at-past, length-push}
 use Rattle.tm_core.proofs.Takes.{with_step}
@@ -99,9 +96,15 @@ pub step-own : (n number : ℕ) (b : Begun) (led : Option ℕ) (rest : List Step
 step-own n number b led rest =
     let look : Look = record b.look { own = b.look.own ++ number ∷ [] } in
     let f : Look → List ℕ = λ l. l.own in
-    rw (flat_map-append f b.looked (look ∷ []), flat_map-append f b.looked (b.look ∷ []),
-        times-append n (flat_map f b.looked) ((b.look.own ++ number ∷ []) ++ []), times-append n (flat_map f b.looked) (b.look.own ++ []),
-        times-append n (b.look.own ++ number ∷ []) [], times-append n b.look.own [], times-append n b.look.own (number ∷ [])) (omega arith)
+    rw (
+      flat_map-append f b.looked (look ∷ []),
+      flat_map-append f b.looked (b.look ∷ []),
+      times-append n (flat_map f b.looked) ((b.look.own ++ number ∷ []) ++ []),
+      times-append n (flat_map f b.looked) (b.look.own ++ []),
+      times-append n (b.look.own ++ number ∷ []) [],
+      times-append n b.look.own [],
+      times-append n b.look.own (number ∷ []),
+    ) (omega arith)
 
 -- each number is owned as often as its step asks, also after one own step more
 pub counted-push : (history : History) (step : Step) (r : Reply) (n c : ℕ) → is_own step ≡ true → c ≡ times_owned (step_at history n) → c + times n (suc (length history) ∷ []) ≡ times_owned (step_at (history ++ (step, r) ∷ []) n)

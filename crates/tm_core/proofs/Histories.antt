@@ -1,12 +1,11 @@
 -- A history that goes on keeps the steps and the replies that it has.
-use Rattle.std.proofs.Common.{◌≡◌, ◌≤◌, ◌<◌, max, ℕ, zero, suc, ◌+◌, List, [], ◌∷◌, ◌++◌, length, take, map, Bool, true, false, true≢false, refl, sym, ap, ◌∙◌, subst, arith}
-use Rattle.std.specs.Prelude.{Option, Some, None, option_map, slice_get, if◌then◌else◌, ◌==◌, fold, flat_map, ⊤, IfSome}
+use Rattle.std.proofs.Common.{◌≡◌, ◌≤◌, ◌<◌, max, ℕ, zero, suc, List, [], ◌∷◌, ◌++◌, length, take, map, refl, sym, ap, arith}
+use Rattle.std.specs.Prelude.{Option, Some, None, slice_get}
 use Rattle.std.specs.List.{AllByRecursion}
-use Rattle.std.proofs.lemmas.List.{length-map, length-append, map-append}
+use Rattle.std.proofs.lemmas.List.{length-map, length-append}
 use Rattle.std.proofs.lemmas.Option.{slice_get_past}
 use Rattle.tm_types.specs.declared.step.Step.{Step}
 use Rattle.tm_types.specs.declared.step.Reply.{Reply}
-use Rattle.tm_types.specs.declared.step.MakeReply.{MakeReply}
 use Rattle.tm_types.specs.declared.step.Look.{Look}
 use Rattle.tm_types.specs.declared.step.Heard.{Heard}
 use Rattle.tm_types.specs.declared.policy.Mode.{Mode}
@@ -15,7 +14,7 @@ use Rattle.tm_types.specs.declared.verdict.Move.{Move}
 use Rattle.tm_core.specs.Queries.{numbered}
 use Rattle.tm_core.specs.Steps.{after}
 use Rattle.tm_core.specs.Run.{History, steps_of, step_at, reply_at, raised}
-use Rattle.tm_core.specs.Legal.{Scene, state_at, opening_of, RisesFrom, last_number, made_number, domain_after, look_grants}
+use Rattle.tm_core.specs.Legal.{Scene, state_at, opening_of, RisesFrom, last_number, domain_after}
 
 -- Lists
 

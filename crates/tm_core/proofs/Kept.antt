@@ -1,8 +1,8 @@
 -- What stays of a policy while its domains learn, fail and are made: namespaces, and each domain's name and profile.
-use Rattle.std.proofs.Common.{◌≡◌, ℕ, zero, suc, ◌+◌, List, [], ◌∷◌, ◌++◌, length, Bool, true, false, true≢false, refl, sym, ap, ◌∙◌, subst, arith, inl, inr}
-use Rattle.std.specs.Prelude.{Option, Some, None, ◌&&◌, ◌||◌, ◌==◌, cond, if◌then◌else◌, slice_get, option_map, unwrap_or, not, IsSome, is_some, count_ones}
+use Rattle.std.proofs.Common.{◌≡◌, ℕ, zero, suc, ◌+◌, List, [], ◌∷◌, ◌++◌, length, Bool, true, false, refl, sym, ap, ◌∙◌, subst, arith}
+use Rattle.std.specs.Prelude.{Option, Some, None, ◌&&◌, ◌==◌, cond, slice_get, not, IsSome}
 use Rattle.std.specs.List.{AllByRecursion, position_from}
-use Rattle.std.specs.Option.{option_and_then, option_map_or}
+use Rattle.std.specs.Option.{option_map_or}
 use Rattle.std.proofs.lemmas.Bool.{eqb-true, and_parts}
 use Rattle.tm_rules.specs.Words.{Text, Word, Pattern, DomainName}
 use Rattle.tm_types.specs.declared.entry.Entry.{Entry}
@@ -20,8 +20,8 @@ use Rattle.tm_rules.specs.Policy.{changed_at, with_domain, domain_at, profile_of
 use Rattle.tm_rules.specs.Requests.{begins_with_byte}
 use Rattle.tm_rules.specs.Transition.{is_domain_name}
 use Rattle.tm_core.specs.Edit.{new_domain}
-use Rattle.tm_core.specs.Changes.{learned_domain, learn_reply, learn, made_new, make, fail, in_domain}
-use Rattle.tm_core.specs.Steps.{State, Applied, apply, on_policy, fits_entry, fits_name}
+use Rattle.tm_core.specs.Changes.{learned_domain, learn_reply, learn, made_new, make, fail}
+use Rattle.tm_core.specs.Steps.{State, Applied, apply, on_policy, fits_entry}
 use Rattle.tm_core.specs.Legal.{made_number}
 
 -- Texts and lists
@@ -132,9 +132,9 @@ changed-sound : (p : Policy) (d : ℕ) (old new : Domain) → domain_at p d ≡ 
 changed-sound p d old new was same sound =
     record {
       profiles = λ e y at live.
-        let found = got-changed p.domains d e old new y was same at in
-        let alike : profile_of (with_domain p d new) y ≡ profile_of p found.0 = same_profile p (with_domain p d new) found.0 y refl (ap namespace_word found.2.name) found.2.profile in
-        rw alike (sound.profiles e found.0 found.1 (sym found.2.live ∙ live));
+          let found = got-changed p.domains d e old new y was same at in
+          let alike : profile_of (with_domain p d new) y ≡ profile_of p found.0 = same_profile p (with_domain p d new) found.0 y refl (ap namespace_word found.2.name) found.2.profile in
+          rw alike (sound.profiles e found.0 found.1 (sym found.2.live ∙ live));
       aggregators = sound.aggregators;
     }
 
@@ -180,8 +180,7 @@ Ready g p step = ⊥
 pub Ready-later : (g : Grammar) (p q : Policy) (step : Step) → Keeps p q → Ready g p step → Ready g q step
 Ready-later g p q (Step.Learn d entry) keeps h = (h.0, DomainIn-later p q d keeps h.1)
 Ready-later g p q (Step.Make d name) keeps h =
-    let (y, at, same, profile) = keeps.domains d h.0.domain h.0.there in
-    (
+    let (y, at, same, profile) = keeps.domains d h.0.domain h.0.there in (
       record { domain = y; there = at; profile = h.0.profile; profiled = same_profile p q h.0.domain y keeps.namespaces (ap namespace_word same) profile ∙ h.0.profiled },
       rw same h.1,
     )

@@ -1,6 +1,6 @@
 -- What ended takes come to: the clauses of legality that speak of single takes.
-use Rattle.std.proofs.Common.{◌≡◌, ◌≤◌, ◌<◌, ℕ, zero, suc, ◌+◌, List, [], ◌∷◌, ◌++◌, length, map, take, drop, Bool, true, false, true≢false, refl, sym, ap, ◌∙◌, subst, arith, append_assoc, append-nil}
-use Rattle.std.specs.Prelude.{Option, Some, None, if◌then◌else◌, ◌==◌, IfSome, flat_map, ⊤}
+use Rattle.std.proofs.Common.{◌≡◌, ◌<◌, ℕ, suc, List, [], ◌∷◌, ◌++◌, length, map, take, drop, true, false, true≢false, refl, sym, ap, ◌∙◌, subst, arith, append-nil}
+use Rattle.std.specs.Prelude.{Option, Some, None, IfSome, flat_map}
 use Rattle.std.specs.List.{AllByRecursion}
 use Rattle.std.proofs.lemmas.List.{length-map, map-append}
 use Rattle.std.proofs.lemmas.Grind.{flat_map-append}
@@ -18,11 +18,11 @@ use Rattle.tm_types.specs.declared.verdict.Move.{Move}
 use Rattle.tm_types.specs.declared.verdict.Verdict.{Verdict}
 use Rattle.tm_rules.specs.Words.{Trace}
 use Rattle.tm_core.specs.Run.{History, Situations, with_situation, with_ids, forked, at_start, Case, tree_cases, cases_from, do_pids, all_do_pids, step_at, places_from}
-use Rattle.tm_core.specs.Legal.{Scene, Subject, subject_of, LooksRise, LookHolds, OwnSteps, EndsWith, LookLearns, LooksFollow, AsksWith, AfterAnswer, MakesAfterYes, last_look, look_grants, steps_asked, steps_of_line, retry_written, own_numbers, times, is_own, is_of_supervisor}
+use Rattle.tm_core.specs.Legal.{Scene, subject_of, LooksRise, LookHolds, OwnSteps, EndsWith, LookLearns, LooksFollow, AsksWith, AfterAnswer, last_look, look_grants, steps_asked, retry_written, own_numbers, times, is_own, is_of_supervisor}
 use Rattle.tm_core.specs.Play.{Begun, Way}
 use Rattle.tm_core.proofs.Laws.{times-append}
 use Rattle.tm_core.proofs.Asked.{NotAsk, All-append, same_line_steps}
-use Rattle.tm_core.proofs.Looked.{Looked, owed_by}
+use Rattle.tm_core.proofs.Looked.{owed_by}
 use Rattle.tm_core.proofs.Walks.{CaseDone, WayHolds, BegunHolds}
 use Rattle.tm_core.proofs.Takes.{grants-is}
 use Rattle.tm_core.proofs.Counts.{EachWay, way_own, count_own}
@@ -136,7 +136,7 @@ done-cases scene history p t tree way rest h done =
     let pids = done-pids scene history p t tree way h done in
     let long : length (do_pids tree.records) ≡ length way.takes = sym (ap length pids) ∙ length-map way.takes (λ (k : Take). k.pid) in
     let are : tree_cases t (at_start scene.policy tree) tree.records way.takes ≡ h.done =
-        ap (tree_cases t (at_start scene.policy tree) tree.records) (sym (append-nil way.takes)) ∙ h.cases [] ∙ rw (tree_cases-none t h.walked h.left) (append-nil h.done) in
+    ap (tree_cases t (at_start scene.policy tree) tree.records) (sym (append-nil way.takes)) ∙ h.cases [] ∙ rw (tree_cases-none t h.walked h.left) (append-nil h.done) in
     rw (long, take-front way.takes rest, are) h.ended
 
 -- the clauses that speak of all takes of all trees

@@ -1,37 +1,27 @@
 -- Plays without editors and without a supervisor: each is legal, each schedule has one, and each event leaves less to do.
-use Rattle.std.proofs.Common.{◌≡◌, ◌≤◌, ◌<◌, ℕ, zero, suc, ◌+◌, List, [], ◌∷◌, ◌++◌, length, map, Bool, true, false, true≢false, refl, sym, ap, ◌∙◌, subst, arith, inl, inr, ◌⊎◌, le_refl}
-use Rattle.std.specs.Prelude.{Option, Some, None, if◌then◌else◌, ◌==◌, IfSome, flat_map, is_some, slice_get, unwrap_or, IsSome, IsTrue}
+use Rattle.std.proofs.Common.{◌≡◌, ◌≤◌, ◌<◌, ℕ, zero, suc, List, [], ◌∷◌, ◌++◌, length, map, false, refl, sym, ◌∙◌, subst, arith, inl, inr, ◌⊎◌, le_refl}
+use Rattle.std.specs.Prelude.{Option, Some, None, IfSome, is_some, slice_get, IsSome, IsTrue}
 use Rattle.std.specs.List.{AllByRecursion, list_all}
-use Rattle.std.specs.Option.{option_and_then, option_map_or}
-use Rattle.std.proofs.lemmas.List.{length-map, map-append}
-use Rattle.std.proofs.lemmas.Option.{slice_get_within, slice_get_past}
+use Rattle.std.proofs.lemmas.List.{map-append}
+use Rattle.std.proofs.lemmas.Option.{slice_get_within}
 use Rattle.std.proofs.lemmas.Bool.{cases_lt}
-use Rattle.tm_rules.specs.Words.{Text, Trace}
-use Rattle.tm_types.specs.declared.policy.Policy.{Policy}
-use Rattle.tm_types.specs.declared.request.Item.{Item}
+use Rattle.tm_rules.specs.Words.{Trace}
 use Rattle.tm_types.specs.declared.request.Tree.{Tree}
-use Rattle.tm_types.specs.declared.step.FileKind.{FileKind}
 use Rattle.tm_types.specs.declared.step.Book.{Book}
-use Rattle.tm_types.specs.declared.step.Step.{Step}
-use Rattle.tm_types.specs.declared.step.Reply.{Reply}
-use Rattle.tm_types.specs.declared.step.Look.{Look}
 use Rattle.tm_types.specs.declared.step.Take.{Take}
 use Rattle.tm_types.specs.declared.step.Turn.{Turn}
-use Rattle.tm_types.specs.declared.step.Run.{Run}
 use Rattle.tm_types.specs.declared.step.Editor.{Editor}
 use Rattle.tm_rules.specs.Policy.{live_domain}
 use Rattle.tm_rules.specs.Requests.{item_is_request}
-use Rattle.tm_core.specs.Grammar.{Grammar}
 use Rattle.tm_core.specs.Queries.{numbered, first_query}
-use Rattle.tm_core.specs.Run.{History, cases_from, step_at, do_pids, at_start, Case}
-use Rattle.tm_core.specs.Legal.{Scene, Legal, EachCase, opening_of, times_owned, lines_of_editor, LooksRise, LookHolds, OwnSteps, EndsWith, LookLearns, LooksFollow, subject_of, last_look, SupervisorActs}
-use Rattle.tm_core.specs.Play.{Player, Way, Begun, start_of, run_of, tree_event, editor_event, player_event, event, turn, turns, numbers_to, everybody, rounds, NobodyCanMove, Plays, IsGrammar, CanPlay, IsAlone, EveryLonePlayIsLegal, EveryLonePlayEnds, EveryLoneStopIsFinished, EveryLoneEventIsWork, IsFinished, work_left}
+use Rattle.tm_core.specs.Run.{cases_from, step_at, do_pids, at_start, Case}
+use Rattle.tm_core.specs.Legal.{Scene, Legal, times_owned, LooksRise, LookHolds, OwnSteps, EndsWith, LookLearns, LooksFollow, subject_of, last_look, SupervisorActs}
+use Rattle.tm_core.specs.Play.{Player, Way, start_of, run_of, tree_event, editor_event, player_event, event, turn, turns, numbers_to, everybody, rounds, NobodyCanMove, CanPlay, IsAlone, IsFinished, work_left}
 use Rattle.tm_core.proofs.Plays.{start-good}
-use Rattle.tm_core.proofs.Kept.{DomainIn, Sound, Keeps, live_in, some_of}
-use Rattle.tm_core.proofs.Walks.{Agrees, WayHolds, CaseDone, All-map}
-use Rattle.tm_core.proofs.Takes.{Sane}
-use Rattle.tm_core.proofs.Counts.{EachWay, TreeOf, way-at, count_own, way_own}
-use Rattle.tm_core.proofs.Players.{PlayHolds, Moved, Still, TreeMoves, tree-moves}
+use Rattle.tm_core.proofs.Kept.{Sound, live_in, some_of}
+use Rattle.tm_core.proofs.Walks.{WayHolds, CaseDone, All-map}
+use Rattle.tm_core.proofs.Counts.{EachWay, way-at, count_own}
+use Rattle.tm_core.proofs.Players.{PlayHolds, Moved, TreeMoves, tree-moves}
 use Rattle.tm_core.proofs.Legality.{IsDone, takes_of, rises, shows, owns, ends, looks-some, learns, follows, all-cases, all-pids, all-takes, all-own, no-places}
 
 -- The start
@@ -84,7 +74,7 @@ start-holds scene alone can =
 -- Events and turns
 
 -- an event keeps it and leaves less to do, or there is none
-abbrev EventMoves : Scene → Player → Option Player → Type 0
+abbrev pub EventMoves : Scene → Player → Option Player → Type 0
 EventMoves scene player o = Moved scene player o ⊎ (o ≡ None)
 
 module _ (scene : Scene) (alone : IsAlone scene) (can : CanPlay scene) where
@@ -148,7 +138,7 @@ module _ (scene : Scene) (alone : IsAlone scene) (can : CanPlay scene) where
       go (inr none) (inr less) = inr (rw none less)
 
   -- after some rounds nobody can move
-  stops : (n : ℕ) (player : Player) → PlayHolds scene player → work_left player ≤ n → (k : ℕ) × NobodyCanMove scene (rounds scene player k)
+  pub stops : (n : ℕ) (player : Player) → PlayHolds scene player → work_left player ≤ n → (k : ℕ) × NobodyCanMove scene (rounds scene player k)
   unfolding rounds
   stops zero player h le = go (progress player (everybody scene) h)
     where

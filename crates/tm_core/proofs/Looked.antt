@@ -1,12 +1,11 @@
 -- One look and its own steps, as far as they are made, by the history.
-use Rattle.std.proofs.Common.{◌≡◌, ◌≤◌, ◌<◌, max, ℕ, zero, suc, ◌+◌, List, [], ◌∷◌, ◌++◌, length, map, Bool, true, false, true≢false, refl, sym, ap, ◌∙◌, subst, arith, inl, inr, ◌⊎◌, append_assoc, append-nil, le_refl}
-use Rattle.std.specs.Prelude.{Option, Some, None, option_map, slice_get, if◌then◌else◌, ◌==◌, unwrap_or, IfSome}
+use Rattle.std.proofs.Common.{◌≡◌, ◌≤◌, ℕ, suc, List, [], ◌∷◌, ◌++◌, length, map, true, false, true≢false, refl, sym, ◌∙◌, arith, inl, inr, ◌⊎◌, append_assoc, le_refl}
+use Rattle.std.specs.Prelude.{Option, Some, None, if◌then◌else◌, unwrap_or}
 use Rattle.std.specs.List.{AllByRecursion}
 use Rattle.std.proofs.lemmas.List.{length-append, map-append}
 use Rattle.tm_rules.specs.Words.{Text}
 use Rattle.tm_types.specs.declared.step.Step.{Step}
 use Rattle.tm_types.specs.declared.step.Reply.{Reply}
-use Rattle.tm_types.specs.declared.step.LearnReply.{LearnReply}
 use Rattle.tm_types.specs.declared.step.MakeReply.{MakeReply}
 use Rattle.tm_types.specs.declared.step.Look.{Look}
 use Rattle.tm_types.specs.declared.step.Heard.{Heard}
@@ -18,11 +17,11 @@ use Rattle.tm_types.specs.declared.verdict.Verdict.{Verdict}
 use Rattle.tm_core.specs.Verdict.{is_granting}
 use Rattle.tm_core.specs.Run.{History, step_at, reply_at}
 use Rattle.tm_core.specs.Audit.{audit_text}
-use Rattle.tm_core.specs.Legal.{Scene, Subject, state_at, verdict_at, IsShown, RisesFrom, steps_of_line, steps_of_move, steps_asked, look_grants, grants_with, last_number, made_number, domain_after}
+use Rattle.tm_core.specs.Legal.{Scene, Subject, state_at, verdict_at, IsShown, RisesFrom, steps_of_line, steps_of_move, look_grants, last_number, made_number, domain_after}
 use Rattle.tm_core.proofs.Laws.{state_at-later}
-use Rattle.tm_core.proofs.Kept.{DomainIn, DomainIn-later, Keeps, RepliesTo}
+use Rattle.tm_core.proofs.Kept.{DomainIn, DomainIn-later, Keeps}
 use Rattle.tm_core.proofs.Asked.{NotAsk, NoMake, EndsMake, is_make}
-use Rattle.tm_core.proofs.Histories.{step_at-later, reply_at-later, step_at-last, reply_at-last, length-push, All-le, All-push, RisesFrom-push, last_number-push, last_number-le, map_step_at-later}
+use Rattle.tm_core.proofs.Histories.{reply_at-later, step_at-last, reply_at-last, length-push, All-le, All-push, RisesFrom-push, last_number-push, last_number-le, map_step_at-later}
 
 -- the steps that a verdict asks for where nobody is asked
 abbrev pub owed_by : Scene → ℕ → Verdict → List Step

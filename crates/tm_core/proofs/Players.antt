@@ -1,36 +1,25 @@
 -- Each event of a tree keeps what a player keeps, and leaves less to do; a tree without an event is done.
-use Rattle.std.proofs.Common.{◌≡◌, ◌≢◌, ◌≤◌, ◌<◌, ℕ, zero, suc, ◌+◌, ◌*◌, List, [], ◌∷◌, ◌++◌, length, map, Bool, true, false, true≢false, refl, sym, ap, ◌∙◌, subst, arith, inl, inr, ◌⊎◌, append_assoc, append-nil}
-use Rattle.std.specs.Prelude.{Option, Some, None, slice_get, slice_set, if◌then◌else◌, ◌==◌, IfSome, flat_map, option_map}
+use Rattle.std.proofs.Common.{◌≡◌, ◌≤◌, ◌<◌, ℕ, zero, suc, ◌+◌, ◌*◌, List, [], ◌∷◌, ◌++◌, length, true, false, refl, sym, ◌∙◌, arith, inl, inr, ◌⊎◌}
+use Rattle.std.specs.Prelude.{Option, Some, None, slice_get, slice_set}
 use Rattle.std.specs.List.{AllByRecursion}
-use Rattle.std.specs.Option.{option_and_then, option_map_or}
-use Rattle.std.proofs.lemmas.List.{length-append}
-use Rattle.tm_rules.specs.Words.{Text, DomainName}
-use Rattle.tm_types.specs.declared.unions.NamePlace.{NamePlace}
-use Rattle.tm_types.specs.declared.entry.Entry.{Entry}
-use Rattle.tm_types.specs.declared.policy.Mode.{Mode}
+use Rattle.std.specs.Option.{option_map_or}
 use Rattle.tm_types.specs.declared.policy.Policy.{Policy}
-use Rattle.tm_types.specs.declared.request.Request.{Request}
 use Rattle.tm_types.specs.declared.request.Item.{Item}
 use Rattle.tm_types.specs.declared.request.Tree.{Tree}
 use Rattle.tm_types.specs.declared.step.Step.{Step}
 use Rattle.tm_types.specs.declared.step.Reply.{Reply}
-use Rattle.tm_types.specs.declared.verdict.Reason.{Reason}
-use Rattle.tm_types.specs.declared.verdict.Move.{Move}
-use Rattle.tm_types.specs.declared.verdict.Verdict.{Verdict}
 use Rattle.tm_core.specs.Grammar.{Grammar}
-use Rattle.tm_core.specs.Verdict.{is_granting}
 use Rattle.tm_core.specs.Steps.{Applied, apply}
 use Rattle.tm_core.specs.Run.{History, Situations, step_at, do_pids, with_situation, with_ids, forked}
-use Rattle.tm_core.specs.Legal.{Scene, opening_of, own_numbers, times, times_owned, is_own, steps_of_line, steps_of_move}
-use Rattle.tm_core.specs.Play.{Player, Settled, Begun, Stage, Way, IsGrammar, settle, on_way, after_step, going_on, passed, first_look, end_tree, stage_event, take_event, tree_event, way_left, ways_left, work_left, lines_left, begun_left}
+use Rattle.tm_core.specs.Legal.{Scene, opening_of, own_numbers, times, times_owned, is_own}
+use Rattle.tm_core.specs.Play.{Player, Begun, Stage, Way, IsGrammar, settle, on_way, going_on, passed, first_look, end_tree, stage_event, take_event, tree_event, way_left, ways_left, work_left}
 use Rattle.tm_core.proofs.Plays.{IsTrueTo, settle-true}
 use Rattle.tm_core.proofs.Laws.{times-append}
-use Rattle.tm_core.proofs.Kept.{Sound, Ready, Fits, Keeps, ready-fits}
+use Rattle.tm_core.proofs.Kept.{Ready, Fits, ready-fits}
 use Rattle.tm_core.proofs.Histories.{All-push}
-use Rattle.tm_core.proofs.Looked.{owed_by}
-use Rattle.tm_core.proofs.Walks.{OnTheWay, TakeHolds, WayHolds, WayHolds-later, AllAgree-later, CaseDone, CaseDone-later, All-map, Standing, passed-holds}
-use Rattle.tm_core.proofs.Takes.{Running, Sane, Looks, look-holds, take-goes, with_step, Stepped, next-holds}
-use Rattle.tm_core.proofs.Counts.{EachWay, EachWay-map, TreeOf, way-at, way-set, begun_own, way_own, count_own, count_own-set, going-own, step-own, counted-push}
+use Rattle.tm_core.proofs.Walks.{TakeHolds, WayHolds, WayHolds-later, Standing, passed-holds}
+use Rattle.tm_core.proofs.Takes.{Running, Sane, look-holds, take-goes, with_step, Stepped, next-holds}
+use Rattle.tm_core.proofs.Counts.{EachWay, TreeOf, way-at, way-set, begun_own, way_own, count_own, count_own-set, going-own, step-own, counted-push}
 
 -- What is left to do
 
@@ -121,10 +110,10 @@ replaced scene player n way new h at t holds same =
       owned = h.owned;
       ways = way-set (WayHolds scene player.steps player.state.policy) (WayHolds scene player.steps player.state.policy) 1 scene.trace player.ways n t.number t.tree new h.ways t.there t.numbered holds (λ k other w held. held);
       counted = λ k.
-        let set : count_own k (slice_set player.ways n new) + times k (way_own way) ≡ count_own k player.ways + times k (way_own new) = count_own-set k player.ways n way new at in
-        let alike : times k (way_own new) ≡ times k (way_own way) = same k in
-        let equal : count_own k (slice_set player.ways n new) ≡ count_own k player.ways = omega arith in
-        equal ∙ h.counted k;
+          let set : count_own k (slice_set player.ways n new) + times k (way_own way) ≡ count_own k player.ways + times k (way_own new) = count_own-set k player.ways n way new at in
+          let alike : times k (way_own new) ≡ times k (way_own way) = same k in
+          let equal : count_own k (slice_set player.ways n new) ≡ count_own k player.ways = omega arith in
+          equal ∙ h.counted k;
       scripts = h.scripts;
     }
 

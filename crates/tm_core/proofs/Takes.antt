@@ -1,10 +1,9 @@
 -- A take begins with a look, goes on with each of its own steps, and ends.
-use Rattle.std.proofs.Common.{◌≡◌, ◌≤◌, ◌<◌, max, ℕ, zero, suc, ◌+◌, List, [], ◌∷◌, ◌++◌, length, map, Bool, true, false, true≢false, refl, sym, ap, ◌∙◌, subst, arith, inl, inr, ◌⊎◌, append_assoc, append-nil, le_refl}
-use Rattle.std.specs.Prelude.{Option, Some, None, option_map, slice_get, if◌then◌else◌, ◌==◌, unwrap_or, IfSome, flat_map, ◌&&◌}
+use Rattle.std.proofs.Common.{◌≡◌, ◌≤◌, ℕ, suc, List, [], ◌∷◌, ◌++◌, length, map, Bool, true, false, refl, sym, ◌∙◌, subst, arith, inl, append_assoc, le_refl}
+use Rattle.std.specs.Prelude.{Option, Some, None, if◌then◌else◌, unwrap_or, flat_map}
 use Rattle.std.specs.List.{AllByRecursion, list_all}
-use Rattle.std.specs.Option.{option_and_then, option_map_or}
 use Rattle.std.proofs.lemmas.List.{length-append, map-append}
-use Rattle.std.proofs.lemmas.Bool.{eqb-true, and_parts}
+use Rattle.std.proofs.lemmas.Bool.{and_parts}
 use Rattle.tm_rules.specs.Words.{Text, DomainName}
 use Rattle.tm_types.specs.declared.unions.NamePlace.{NamePlace}
 use Rattle.tm_types.specs.declared.entry.Entry.{Entry}
@@ -23,18 +22,17 @@ use Rattle.tm_types.specs.declared.verdict.Move.{Move}
 use Rattle.tm_types.specs.declared.verdict.Verdict.{Verdict}
 use Rattle.tm_rules.specs.Requests.{is_request, item_is_request}
 use Rattle.tm_core.specs.Grammar.{Grammar}
-use Rattle.tm_core.specs.Verdict.{verdict, is_granting}
-use Rattle.tm_core.specs.Steps.{State}
+use Rattle.tm_core.specs.Verdict.{is_granting}
 use Rattle.tm_core.specs.Audit.{audit_text}
-use Rattle.tm_core.specs.Run.{History, Situation, Situations, with_situation, after_take, at_start, Case, tree_cases, do_pids, seen, raised, heard_version}
-use Rattle.tm_core.specs.Legal.{Scene, Subject, subject_of, state_at, verdict_at, look_grants, grants_with, domain_after, steps_of_line, steps_of_move, made_number, opening_of}
-use Rattle.tm_core.specs.Play.{Begun, Stage, Way, Player, IsGrammar, taken, ended_way, going_on, look_at, entered, with_own, after_step}
+use Rattle.tm_core.specs.Run.{History, Situation, Situations, with_situation, after_take, at_start, Case, tree_cases, do_pids, seen, heard_version}
+use Rattle.tm_core.specs.Legal.{Scene, Subject, state_at, look_grants, grants_with, domain_after, steps_of_line, steps_of_move, made_number, opening_of}
+use Rattle.tm_core.specs.Play.{Begun, Stage, Way, Player, IsGrammar, taken, ended_way, going_on, look_at, entered, after_step}
 use Rattle.tm_core.proofs.Plays.{IsTrueTo}
 use Rattle.tm_core.proofs.Kept.{DomainIn, Keeps, Sound, Ready, Ready-later, RepliesTo}
-use Rattle.tm_core.proofs.Asked.{NotAsk, NoMake, EndsMake, NoMake-append, EndsMake-append, MoveFits, Lawful, judged, owed-ready, line-ready, All-append}
+use Rattle.tm_core.proofs.Asked.{NotAsk, NoMake, NoMake-append, EndsMake-append, MoveFits, judged, owed-ready, line-ready, All-append}
 use Rattle.tm_core.proofs.Histories.{raised-le, All-push, state_at-newest}
-use Rattle.tm_core.proofs.Looked.{Looked, Looked-step, owed_by, Leads, Leads-later, Leads-other, Leads-make, leads_into}
-use Rattle.tm_core.proofs.Walks.{Agrees, AllAgree, AllAgree-with, CaseDone, OnTheWay, subject_now, TakeHolds, WayHolds, All-map, Standing}
+use Rattle.tm_core.proofs.Looked.{Looked, Looked-step, owed_by, Leads, Leads-other, Leads-make, leads_into}
+use Rattle.tm_core.proofs.Walks.{AllAgree, AllAgree-with, CaseDone, OnTheWay, subject_now, WayHolds, All-map, Standing}
 
 -- a tree whose next line's take runs
 pub record Running (scene : Scene) (history : History) (p : Policy) (t : ℕ) (tree : Tree) (at : Situations) (items : List Item) (takes : List Take) (b : Begun) : Type 0 where
@@ -83,7 +81,7 @@ module _ (scene : Scene) (history : History) (p : Policy) (t : ℕ) (tree : Tree
       let process : (h.walked h.pid).process ≡ b.now.process = rw h.now a.process in
       let same : b.now.process.pid ≡ h.pid = rw h.now a.pid_is in
       let sees : AllByRecursion (λ n. n ≤ length history) (flat_map seen k.looks) =
-          rw goes.first (All-append (λ n. n ≤ length history) (seen b.look) [] (seen-le scene history (subject_now b) b.look b.verdict [] b.audit goes.looked) tt) in
+      rw goes.first (All-append (λ n. n ≤ length history) (seen b.look) [] (seen-le scene history (subject_now b) b.look b.verdict [] b.audit goes.looked) tt) in
       record {
         walked = with_situation h.walked h.pid (after_take (h.walked h.pid) k);
         done = h.done ++ c ∷ [];
@@ -266,8 +264,8 @@ look-holds scene player t tree at pid request items takes grammar sane h =
         };
         ready = owed-ready scene.grammar p d a.there 0 v lawful;
         leads = λ grants.
-          let granting : is_granting v.reason ≡ true = sym (grants-is v.reason None lawful.not_ask) ∙ grants in
-          rw granting (first-leads scene.grammar player.steps p d a.there (steps_of_line scene.grammar d 0 v) v.mode v.reason v.name v.step v.target v.line (line-ready scene.grammar p d a.there 0 v.mode v.reason v.name v.step v.target v.line lawful.not_ask lawful.line).1 lawful.move);
+            let granting : is_granting v.reason ≡ true = sym (grants-is v.reason None lawful.not_ask) ∙ grants in
+            rw granting (first-leads scene.grammar player.steps p d a.there (steps_of_line scene.grammar d 0 v) v.mode v.reason v.name v.step v.target v.line (line-ready scene.grammar p d a.there 0 v.mode v.reason v.name v.step v.target v.line lawful.not_ask lawful.line).1 lawful.move);
       };
       first = refl;
       own_none = refl;

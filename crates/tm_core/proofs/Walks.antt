@@ -1,23 +1,19 @@
 -- A tree on its way: the walk over its lines as far as it has come, and the takes that have ended.
-use Rattle.std.proofs.Common.{◌≡◌, ◌≤◌, ◌<◌, max, ℕ, zero, suc, ◌+◌, List, [], ◌∷◌, ◌++◌, length, map, Bool, true, false, true≢false, refl, sym, ap, ◌∙◌, subst, arith, inl, inr, ◌⊎◌, append_assoc, append-nil, le_refl}
-use Rattle.std.specs.Prelude.{Option, Some, None, option_map, slice_get, if◌then◌else◌, ◌==◌, unwrap_or, IfSome, flat_map, ◌&&◌}
+use Rattle.std.proofs.Common.{◌≡◌, ◌≤◌, ℕ, List, [], ◌∷◌, ◌++◌, length, map, Bool, true, false, refl, sym, ◌∙◌, subst, arith}
+use Rattle.std.specs.Prelude.{Option, Some, None, if◌then◌else◌, ◌==◌}
 use Rattle.std.specs.List.{AllByRecursion, list_all}
-use Rattle.std.proofs.lemmas.List.{length-append, map-append}
-use Rattle.std.proofs.lemmas.Bool.{eqb-true, and_parts}
-use Rattle.tm_rules.specs.Words.{Text}
+use Rattle.std.proofs.lemmas.List.{length-append}
+use Rattle.std.proofs.lemmas.Bool.{eqb-true}
 use Rattle.tm_types.specs.declared.request.Ids.{Ids}
-use Rattle.tm_types.specs.declared.request.Proc.{Proc}
-use Rattle.tm_types.specs.declared.request.Request.{Request}
 use Rattle.tm_types.specs.declared.request.Item.{Item}
 use Rattle.tm_types.specs.declared.request.Tree.{Tree}
 use Rattle.tm_types.specs.declared.policy.Policy.{Policy}
 use Rattle.tm_types.specs.declared.step.Step.{Step}
-use Rattle.tm_types.specs.declared.step.Reply.{Reply}
 use Rattle.tm_types.specs.declared.step.Look.{Look}
 use Rattle.tm_types.specs.declared.step.Take.{Take}
 use Rattle.tm_types.specs.declared.verdict.Verdict.{Verdict}
-use Rattle.tm_rules.specs.Requests.{is_request, item_is_request}
-use Rattle.tm_core.specs.Run.{History, Situation, Situations, with_situation, with_ids, forked, after_take, at_start, Case, tree_cases, do_pids, seen, raised}
+use Rattle.tm_rules.specs.Requests.{item_is_request}
+use Rattle.tm_core.specs.Run.{History, Situation, Situations, with_situation, with_ids, forked, at_start, Case, tree_cases, do_pids}
 use Rattle.tm_core.specs.Legal.{Scene, Subject, subject_of, look_grants, domain_after}
 use Rattle.tm_core.specs.Play.{Begun, Stage, Way, passed}
 use Rattle.tm_core.proofs.Kept.{DomainIn, DomainIn-later, Keeps, Ready, Ready-later}
