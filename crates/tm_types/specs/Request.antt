@@ -31,6 +31,6 @@ argument_words (Args.Env n) = literal_word n ∷ []
 argument_words (Args.Manual domain) = []
 
 -- the bytes of a literal: those of its first component, and each other one behind its slash
-abbrev pub component_bytes : List Component → List ℕ
-component_bytes [] = []
-component_bytes (c ∷ cs) = flat_map element_bytes c.first ++ flat_map (λ (d : Component). 47 ∷ flat_map element_bytes d.first) cs
+abbrev pub joined_bytes : List Component → List ℕ
+joined_bytes [] = []
+joined_bytes (c ∷ cs) = flat_map element_bytes c.first ++ flat_map (λ (d : Component). 47 ∷ flat_map element_bytes d.first) cs
