@@ -4,7 +4,7 @@ ghost use Rattle.tomoyo_run.specs.Stores.{Leaves, StoreStops};
 ghost use Rattle.tomoyo_run.specs.Ends.{outside, CarriedOut};
 
 use crate::status::{OutName, Status};
-use tm_io::{FileList, Shelf, Sink, Stored};
+use tm_io::{FileList, FileName, Shelf, Sink, Stored};
 use tm_word::Text;
 
 /// What a command stores, in order, and what it then puts.
@@ -15,12 +15,12 @@ pub struct Outcome {
 }
 
 // Stores files in order, up to the first store that is not done.
-fn store_all<S: Shelf>(shelf: &mut S, stores: &FileList) -> Result<(), Status>
+fn store_all<S: Shelf>(shelf: &mut S, stores: &[(FileName, Text)]) -> Result<(), Status>
     ensures done { OnOk result (Leaves stores.now (S.file shelf.old) (S.file shelf.new)) }
     ensures stops { IfErr result (StoreStops stores.now (S.file shelf.old) (S.file shelf.new) (Rose (S.faults shelf.old) (S.faults shelf.new))) }
     ensures counts { S.faults shelf.old ≤ S.faults shelf.new }
 {
-    for (name, bytes) in stores.as_slice() {
+    for (name, bytes) in stores {
         match shelf.store(*name, bytes.bytes()) {
             Stored::Done => {}
             Stored::Failed => return Err(Status::WriteFault(OutName::File(*name))),
@@ -36,7 +36,7 @@ pub fn carry_out<S: Shelf, K: Sink>(outcome: &Outcome, shelf: &mut S, out: &mut 
         (outside (S.file shelf.old) (S.faults shelf.old) (K.written out.old) (K.faults out.old))
         (outside (S.file shelf.new) (S.faults shelf.new) (K.written out.new) (K.faults out.new)) result }
 {
-    match store_all(shelf, &outcome.stores) {
+    match store_all(shelf, outcome.stores.as_slice()) {
         Ok(()) => match out.put(outcome.line.bytes()) {
             Stored::Done => Status::Done,
             Stored::Failed => Status::WriteFault(OutName::StandardOutput),

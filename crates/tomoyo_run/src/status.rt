@@ -3,7 +3,9 @@ ghost use Rattle.tomoyo_run.specs.Status.{exit_code};
 
 use std::fmt;
 use tm_io::FileName;
-use tm_types::{EditReply, FileKind, LineKind, ScriptKind, TraceKind};
+use tm_types::entry::LineKind;
+use tm_types::request::{ScriptKind, TraceKind};
+use tm_types::step::{EditReply, FileKind};
 
 /// What there can be too many of.
 #[derive(Clone, Copy, Debug, PartialEq, Eq)]

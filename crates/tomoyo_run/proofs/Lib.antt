@@ -1,0 +1,4 @@
+pub mod Steps
+pub mod Carried
+pub mod Told
+pub mod Others
