@@ -1,5 +1,5 @@
 -- Files that aren't stored.
-use Rattle.std.proofs.Common.{◌≡◌, ◌∙◌, ℕ, ◌∷◌, [], ◌++◌, List, Bool, true, false, Option, Some, ap, sym, refl, take, if◌then◌else◌, slice_get}
+use Rattle.std.proofs.Common.{zero, suc, ◌≡◌, ◌∙◌, ℕ, ◌∷◌, [], ◌++◌, List, Bool, true, false, Option, Some, ap, sym, refl, take, if◌then◌else◌, slice_get}
 use Rattle.tm_io.specs.declared.names.FileName.{FileName}
 use Rattle.tm_io.specs.Names.{same_name}
 use Rattle.tm_io.specs.Files.{FileState, Files, changed, SameFiles}
@@ -29,15 +29,16 @@ stored-other (s ∷ stores) name state e =
     rw (changed-other s.0 s.1 name state (not-first (same_name s.0 name) (is_named (names_of stores) name) e)) (stored-other stores name state (not-later (same_name s.0 name) (is_named (names_of stores) name) e))
 
 pub stored-other-first : (stores : Texts) (made : ℕ) (name : FileName) (state : FileState) → is_named (names_of stores) name ≡ false → stored (take made stores) name state ≡ state
-stored-other-first [] made name state e = refl
-stored-other-first (s ∷ stores) 0 name state e = refl
+stored-other-first [] zero name state e = refl
+stored-other-first [] (suc made) name state e = refl
+stored-other-first (s ∷ stores) zero name state e = refl
 stored-other-first (s ∷ stores) (suc made) name state e =
-    rw (changed-other s.0 s.1 name state (not-first (same_name s.0 name) (is_named (names_of stores) name) e)) (stored-other-first stores made name state (not-later (same_name s.0 name) (is_named (names_of stores) name) e))
+    ap (stored (take made stores) name) (changed-other s.0 s.1 name state (not-first (same_name s.0 name) (is_named (names_of stores) name) e)) ∙ stored-other-first stores made name state (not-later (same_name s.0 name) (is_named (names_of stores) name) e)
 
 -- a store of the list has a name of the list
 pub named-at : (stores : Texts) (made : ℕ) (name : FileName) (bytes : List ℕ) → same_name name name ≡ true → slice_get stores made ≡ Some (name, bytes) → is_named (names_of stores) name ≡ true
 named-at [] made name bytes self e = cc
-named-at (s ∷ stores) 0 name bytes self e =
+named-at (s ∷ stores) zero name bytes self e =
     let is : s ≡ (name, bytes) = cc in
     rw (is, self) refl
 named-at (s ∷ stores) (suc made) name bytes self e = at (same_name s.0 name) (named-at stores made name bytes self e)
@@ -49,7 +50,7 @@ named-at (s ∷ stores) (suc made) name bytes self e = at (same_name s.0 name) (
 -- another name than that of a store of the list
 pub other-than : (stores : Texts) (made : ℕ) (named : FileName) (bytes : List ℕ) (name : FileName) → slice_get stores made ≡ Some (named, bytes) → is_named (names_of stores) name ≡ false → same_name named name ≡ false
 other-than [] made named bytes name at e = cc
-other-than (s ∷ stores) 0 named bytes name at e =
+other-than (s ∷ stores) zero named bytes name at e =
     let is : s ≡ (named, bytes) = cc in
     let first = not-first (same_name s.0 name) (is_named (names_of stores) name) e in
     ap (λ (x : FileName × List ℕ). same_name x.0 name) (sym is) ∙ first

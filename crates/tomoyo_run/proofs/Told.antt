@@ -1,5 +1,5 @@
 -- What was read of told files is what they hold.
-use Rattle.std.proofs.Common.{◌≡◌, ◌∙◌, ◌⊎◌, inl, inr, ℕ, ◌<◌, ◌≤◌, ◌∷◌, [], List, Bool, true, false, IsTrue, Option, Some, None, ap, sym, refl, subst, take, length, if◌then◌else◌, slice_get, arith, rules}
+use Rattle.std.proofs.Common.{zero, suc, ◌≡◌, ◌∙◌, ◌⊎◌, inl, inr, ℕ, ◌<◌, ◌≤◌, ◌∷◌, [], List, Bool, true, false, IsTrue, Option, Some, None, ap, sym, refl, subst, take, length, if◌then◌else◌, slice_get, arith, rules}
 use Rattle.std.proofs.Math.Dec.{ltb}
 use Rattle.std.proofs.lemmas.Bool.{lt-ltb, le-ltb}
 use Rattle.tm_io.specs.declared.names.FileName.{FileName}
@@ -59,7 +59,7 @@ cause-unread want (FileState.Holds bytes) rose name line is h =
 -- the first fetch that ends the call is the first file that does so by its state
 pub stop-unread : (files : Files) (wants : List Want) (place : ℕ) (want : Want) (texts : Texts) (rose : Type 0) (name : FileName) (line : ℕ) → TellsAll files → slice_get wants place ≡ Some want → AllGiven files (take place wants) texts → FetchCause want (files want.name) rose (Status.NotBuilt name line) → first_unread wants files ≡ Some (Status.NotBuilt name line)
 stop-unread files [] place want texts rose name line tells stands all cause = cc
-stop-unread files (w ∷ wants) 0 want texts rose name line tells stands all cause =
+stop-unread files (w ∷ wants) zero want texts rose name line tells stands all cause =
     let is : w ≡ want = cc in
     let here : FetchCause w (files w.name) rose (Status.NotBuilt name line) = subst (λ (x : Want). FetchCause x (files x.name) rose (Status.NotBuilt name line)) (sym is) cause in
     rw (cause-unread w (files w.name) rose name line (tells w.name) here) refl
