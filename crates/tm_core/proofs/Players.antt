@@ -8,7 +8,7 @@ use Rattle.tm_types.specs.declared.request.Item.{Item}
 use Rattle.tm_types.specs.declared.request.Tree.{Tree}
 use Rattle.tm_types.specs.declared.step.Step.{Step}
 use Rattle.tm_types.specs.declared.step.Reply.{Reply}
-use Rattle.tm_core.specs.Grammar.{Grammar}
+use Rattle.tm_rules.specs.Grammar.{Grammar}
 use Rattle.tm_core.specs.Steps.{Applied, apply}
 use Rattle.tm_core.specs.Run.{History, Situations, step_at, do_pids, with_situation, with_ids, forked}
 use Rattle.tm_core.specs.Legal.{Scene, opening_of, own_numbers, times, times_owned, is_own}

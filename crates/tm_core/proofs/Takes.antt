@@ -4,7 +4,8 @@ use Rattle.std.specs.Prelude.{Option, Some, None, if◌then◌else◌, unwrap_or
 use Rattle.std.specs.List.{AllByRecursion, list_all}
 use Rattle.std.proofs.lemmas.List.{length-append, map-append}
 use Rattle.std.proofs.lemmas.Bool.{and_parts}
-use Rattle.tm_rules.specs.Words.{Text, DomainName}
+use Rattle.tm_word.specs.Words.{Text}
+use Rattle.tm_rules.specs.Words.{DomainName}
 use Rattle.tm_types.specs.declared.unions.NamePlace.{NamePlace}
 use Rattle.tm_types.specs.declared.entry.Entry.{Entry}
 use Rattle.tm_types.specs.declared.policy.Mode.{Mode}
@@ -21,7 +22,7 @@ use Rattle.tm_types.specs.declared.verdict.Reason.{Reason}
 use Rattle.tm_types.specs.declared.verdict.Move.{Move}
 use Rattle.tm_types.specs.declared.verdict.Verdict.{Verdict}
 use Rattle.tm_rules.specs.Requests.{is_request, item_is_request}
-use Rattle.tm_core.specs.Grammar.{Grammar}
+use Rattle.tm_rules.specs.Grammar.{Grammar}
 use Rattle.tm_core.specs.Verdict.{is_granting}
 use Rattle.tm_core.specs.Audit.{audit_text}
 use Rattle.tm_core.specs.Run.{History, Situation, Situations, with_situation, after_take, at_start, Case, tree_cases, do_pids, seen, heard_version}
