@@ -1,5 +1,5 @@
 -- Groups that are read one after another.
-use Rattle.std.proofs.Common.{◌≡◌, ℕ, ◌+◌, ◌<◌, ◌==◌, Bool, true, false, ◌≤◌, ◌^◌, List, [], ◌∷◌, length, Option, Some, None, option_map, nat_le, nat_lt, cond, rules, refl, sym, ap, ◌∙◌, arith}
+use Rattle.std.proofs.Common.{◌≡◌, ℕ, ◌<◌, ◌==◌, Bool, true, false, ◌≤◌, ◌^◌, List, [], ◌∷◌, length, Option, Some, None, option_map, nat_le, nat_lt, cond, rules, refl, ap, ◌∙◌, arith}
 use Rattle.std.proofs.lemmas.Bool.{lt-leb, lt-ltb}
 use Rattle.std.proofs.lemmas.Bool.Decides.{nat_tests}
 use Rattle.std.specs.List.{slice_split}
@@ -7,7 +7,7 @@ use Rattle.std.specs.Str.Parse.{digits_value}
 use Rattle.std.proofs.Math.Nat.{pow-le-pow_right}
 use Rattle.tm_addr.specs.declared.reading.Groups.{Groups}
 use Rattle.tm_addr.specs.Reading.{◌>>=◌, with_group, with_quad, with_last, last_of, groups_after, few, group_of, v4_of}
-use Rattle.tm_addr.proofs.Cuts.{Pieces, pieces_of}
+use Rattle.tm_addr.proofs.Cuts.{pieces_of}
 
 -- a piece with others after it
 pub goes_on : (dotted : Bool) (before : Groups) (piece rest : List ℕ) → groups_after dotted before (piece ∷ slice_split (λ b. b == 58) rest) ≡ (group_of piece >>= λ group. groups_after dotted (with_group before group) (slice_split (λ b. b == 58) rest))

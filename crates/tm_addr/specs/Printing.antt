@@ -1,5 +1,5 @@
 -- the one printed text of an address and of a range of addresses
-use Rattle.std.specs.Prelude.{ℕ, ◌+◌, ◌/◌, ◌%◌, ◌^◌, ◌==◌, nat_lt, nat_le, Bool, false, ◌&&◌, if◌then◌else◌, List, [], ◌∷◌, ◌++◌, take, drop}
+use Rattle.std.specs.Prelude.{ℕ, ◌+◌, ◌/◌, ◌%◌, ◌<◌, ◌^◌, ◌==◌, nat_lt, nat_le, Bool, false, if◌then◌else◌, List, [], ◌∷◌, ◌++◌, take, drop}
 use Rattle.std.specs.Fmt.{digits, decimal}
 use Rattle.tm_number.specs.declared.Addr.{Addr}
 use Rattle.tm_number.specs.declared.AddrRange.{AddrRange}
@@ -7,7 +7,7 @@ use Rattle.tm_addr.specs.declared.printing.Run.{Run}
 
 -- four decimals joined by dots
 unfoldable pub v4_spelling : ℕ → List ℕ
-v4_spelling a = decimal (a / 16777216) ++ 46 ∷ decimal (a / 65536 % 256) ++ 46 ∷ decimal (a / 256 % 256) ++ 46 ∷ decimal (a % 256)
+v4_spelling a = decimal (a / 16777216) ++ 46 ∷ (decimal (a / 65536 % 256) ++ 46 ∷ (decimal (a / 256 % 256) ++ 46 ∷ decimal (a % 256)))
 
 -- the group at a place, from 0 for the lowest
 abbrev pub group_at : ℕ → ℕ → ℕ
@@ -51,6 +51,12 @@ shortened all zeros_run =
 unfoldable pub v6_spelling : ℕ → List ℕ
 v6_spelling a = shortened (groups_in a) (longest (run 0 0) 0 (groups_in a))
 
+-- the value fits its family
+abbrev pub IsAddr : Addr → Type 0
+IsAddr (Addr.V4 a) = a < 2 ^ 32
+IsAddr (Addr.V6 a) = a < 2 ^ 128
+
+-- the printed text of an address
 abbrev pub addr_spelling : Addr → List ℕ
 addr_spelling (Addr.V4 a) = v4_spelling a
 addr_spelling (Addr.V6 a) = v6_spelling a

@@ -1,12 +1,15 @@
 //! Reading addresses.
-ghost use Rattle.std.specs.Prelude.{◌≡◌, ◌+◌, ◌-◌, ◌*◌, ◌<◌, ◌≤◌, ◌^◌, ◌==◌, ℕ, List, [], ◌∷◌, length, take, drop, Bool, Some, None, MatchOption, IfSome, IsTrue};
+ghost use Rattle.std.specs.Prelude.{◌≡◌, ◌+◌, ◌-◌, ◌*◌, ◌<◌, ◌≤◌, ◌^◌, ◌==◌, ℕ, List, [], ◌∷◌, length, take, drop, Bool, true, Some, None, Ok, MatchOption, IfSome, IsTrue};
 ghost use Rattle.std.specs.List.{list_any, position, slice_split};
 ghost use Rattle.tm_addr.specs.Reading.{octet_by, octet_of, quad_of, v4_of, group_of, no_groups, with_group, with_quad, last_of, groups_after, few, side_of, is_gap, gap_at, whole, around, v6_of, addr_of, single, same_family, ends_of, range_of};
 ghost use Rattle.tm_number.specs.Addresses.{addr_le};
+ghost use Rattle.tm_addr.specs.Printing.{IsAddr, addr_spelling, addr_range_spelling};
+ghost use Rattle.tm_number.specs.declared.Addr.{Addr};
+ghost use Rattle.tm_number.specs.declared.AddrRange.{AddrRange};
 
 use tm_number::{Addr, AddrRange, Base, is_numeral, read_number, value_of_digits};
 
-/// Why a text is no address or no range of addresses.
+/// Why a text is no address or no range of addresses. A single address meets the first alone.
 #[derive(Clone, Copy, PartialEq, Eq, Debug)]
 pub enum AddrFault {
     /// The text, or one end of it, is outside the grammar.
@@ -35,22 +38,18 @@ fn octet(piece: &[u8]) -> Option<u8>
     }
 }
 
+/// The octet of a number, if it is a plain one below 256.
 fn octet_by(base: Base, value: u64) -> Option<u8>
     ensures { result ≡ octet_by base value }
 {
     match base {
-        Base::Decimal => {
-            if value < 256 {
-                Some(value as u8)
-            } else {
-                None
-            }
-        }
+        Base::Decimal => { if value < 256 { Some(value as u8) } else { None } }
         Base::Octal => None,
         Base::Hex => None,
     }
 }
 
+/// The address of four octets.
 #[tactic(auto, unfolding(crate::specs::Reading::quad_of))]
 fn quad(first: &[u8], second: &[u8], third: &[u8], fourth: &[u8]) -> Option<u32>
     ensures { result ≡ quad_of first.now second.now third.now fourth.now }
@@ -131,6 +130,7 @@ fn with_quad(before: Groups, a: u32) -> Option<Groups>
     with_group(with_group(before, (a / 65536) as u16)?, (a % 65536) as u16)
 }
 
+/// The last piece: a group, or an IPv4 address where one may stand.
 #[tactic(auto, unfolding(crate::specs::Reading::last_of))]
 fn last(dotted: bool, before: Groups, piece: &[u8]) -> Option<Groups>
     requires { before.value < 65536 ^ before.count }
@@ -205,6 +205,7 @@ fn gap_in(text: &[u8]) -> Option<usize>
     None
 }
 
+/// The address of eight groups.
 fn whole(found: Groups) -> Option<u128>
     ensures { result ≡ whole found }
 {
@@ -253,6 +254,7 @@ fn v6(text: &[u8]) -> Option<u128>
     }
 }
 
+/// Whether a colon tells an IPv6 address.
 fn has_colon(text: &[u8]) -> bool
     ensures { result ≡ list_any (λ b. b == 58) text.now }
 {
@@ -282,13 +284,18 @@ fn addr(text: &[u8]) -> Result<Addr, AddrFault>
     }
 }
 
-/// Reads an address.
+/// Reads an address, and takes no memory. IPv4 is four plain numbers from 0 to 255 joined by dots. IPv6 is eight groups of one to
+/// four hexadecimal digits joined by colons, or fewer with one `::` that stands for one zero group or more; the last two groups
+/// may be written as an IPv4 address.
+///
+/// Errors: `NotAnAddress` exactly outside this grammar.
 pub fn read_addr(text: &[u8]) -> Result<Addr, AddrFault>
     ensures { result ≡ addr_of text.now }
 {
     addr(text)
 }
 
+/// Whether both are IPv4 or both IPv6.
 fn same_family(low: Addr, high: Addr) -> bool
     ensures { result ≡ same_family low high }
 {
@@ -313,10 +320,7 @@ fn is_at_most(first: Addr, second: Addr) -> bool
 }
 
 /// The range with these ends, or its fault.
-fn ends(
-    low: Result<Addr, AddrFault>,
-    high: Result<Addr, AddrFault>,
-) -> Result<AddrRange, AddrFault>
+fn ends(low: Result<Addr, AddrFault>, high: Result<Addr, AddrFault>) -> Result<AddrRange, AddrFault>
     ensures { result ≡ ends_of low high }
 {
     match (low, high) {
@@ -344,7 +348,10 @@ fn single(found: Result<Addr, AddrFault>) -> Result<AddrRange, AddrFault>
     }
 }
 
-/// Reads a range of addresses.
+/// Reads a range of addresses: one address, or `low-high`. Takes no memory.
+///
+/// Errors: `NotAnAddress` exactly where an end is no address, else `Mixed` exactly where the ends are of two families, else
+/// `Backwards` exactly where the low end is above the high one.
 #[tactic(auto, unfolding(crate::specs::Reading::range_of))]
 pub fn read_addr_range(text: &[u8]) -> Result<AddrRange, AddrFault>
     ensures { result ≡ range_of text.now }
@@ -354,3 +361,9 @@ pub fn read_addr_range(text: &[u8]) -> Result<AddrRange, AddrFault>
         None => single(addr(text)),
     }
 }
+
+/// A law, nothing to run: what is written is read again as the value written.
+pub fn round_trip()
+    ensures addr { (a : Addr) → IsAddr a → addr_of (addr_spelling a) ≡ Ok a }
+    ensures range { (r : AddrRange) → IsAddr r.low → IsAddr r.high → addr_le r.low r.high ≡ true → range_of (addr_range_spelling r) ≡ Ok r }
+{}

@@ -14,6 +14,7 @@ loop-place-preserved c =
     let is : c.longer-best.result ≡ longer best (run place c.zeros.result) = c.longer-best.ensures in
     let made : c.longer-best.result ≡ longer best (run place (zeros (drop place all))) = is ∙ ap (λ n. longer best (run place n)) z in
     let short : c.zeros.result ≤ length (drop place all) = subst (λ xs. c.zeros.result ≤ length xs) (take_rest all place) c.zeros.ensures.within in
-    let here : place + c.zeros.result ≤ length all = omega (arith, short, length-drop place all) in
-    (ap (λ (r : Run). longest r (place + 1) (drop (place + 1) all)) made ∙ sym (longest_past best all place c.loop-place-test.true) ∙ c.loop-place.invariant.0,
-      subst (λ (r : Run). r.place + r.length ≤ length all) (sym is) (longer_within best (run place c.zeros.result) (length all) c.loop-place.invariant.1 here))
+    let here : place + c.zeros.result ≤ length all = omega (arith, short, length-drop place all) in (
+      ap (λ (r : Run). longest r (place + 1) (drop (place + 1) all)) made ∙ sym (longest_past best all place c.loop-place-test.true) ∙ c.loop-place.invariant.0,
+      subst (λ (r : Run). r.place + r.length ≤ length all) (sym is) (longer_within best (run place c.zeros.result) (length all) c.loop-place.invariant.1 here),
+    )

@@ -16,8 +16,8 @@ pub returns-in-None-with_group-clause-exact : goal.returns-in-None-with_group-cl
 returns-in-None-with_group-clause-exact t c =
     let more = with_group c.args.before c.in-Some-group.group in
     sym
-      (one_more c.args.dotted c.args.before c.in-Some.piece.now c.in-Some.rest.now _ c.in-Some-group.group c.in-Some.ensures.0 (sym c.in-Some-group.ensures)
-        ∙ too_many c.args.dotted more (slice_split (λ b. b == 58) c.in-Some.rest.now) (few_none more c.in-None-with_group.ensures.exact))
+    (one_more c.args.dotted c.args.before c.in-Some.piece.now c.in-Some.rest.now _ c.in-Some-group.group c.in-Some.ensures.0 (sym c.in-Some-group.ensures)
+    ∙ too_many c.args.dotted more (slice_split (λ b. b == 58) c.in-Some.rest.now) (few_none more c.in-None-with_group.ensures.exact))
 
 pub returns-in-Some-with_group-clause-exact : goal.returns-in-Some-with_group-clause-exact
 returns-in-Some-with_group-clause-exact t c =

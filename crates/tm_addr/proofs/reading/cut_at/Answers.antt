@@ -1,5 +1,5 @@
-use Rattle.std.proofs.Common.{◌≡◌, ◌+◌, ◌<◌, ◌==◌, ◌∷◌, Some, length, take, drop, sym, subst, ◌∙◌, arith, length-drop}
-use Rattle.std.specs.List.{position, slice_split}
+use Rattle.std.proofs.Common.{◌≡◌, ◌+◌, ◌<◌, ◌==◌, ◌∷◌, length, take, drop, sym, subst, ◌∙◌, arith, length-drop}
+use Rattle.std.specs.List.{slice_split}
 use Rattle.std.proofs.lemmas.List.{take_rest}
 use Rattle.tm_addr.proofs.Cuts.{cut_some, cut_none}
 use Rattle.tm_addr.proofs.reading.cut_at.Goals as goal

@@ -1,5 +1,4 @@
 use Rattle.std.proofs.Common.{arith}
-use Rattle.std.specs.Str.Parse.{digits_value}
 use Rattle.tm_addr.proofs.Groups.{small_group, value_is, value_there}
 use Rattle.tm_addr.proofs.reading.group.Goals as goal
 
