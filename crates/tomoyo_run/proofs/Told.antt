@@ -47,13 +47,13 @@ cause-unread : (want : Want) (state : FileState) (rose : Type 0) (name : FileNam
 cause-unread want FileState.Untold rose name line is h = absurd is
 cause-unread want FileState.Missing rose name line is h =
     elim h.2 [
-    | inl lacks ↦ rw (lacks.0, h.0, h.1) refl
-    | inr exceeds ↦ absurd exceeds
+      | inl lacks ↦ rw (lacks.0, h.0, h.1) refl
+      | inr exceeds ↦ absurd exceeds
     ]
 cause-unread want (FileState.Holds bytes) rose name line is h =
     elim h.2 [
-    | inl lacks ↦ absurd lacks.1
-    | inr exceeds ↦ rw (lt-ltb 16777216 (length bytes) exceeds, h.0, h.1) refl
+      | inl lacks ↦ absurd lacks.1
+      | inr exceeds ↦ rw (lt-ltb 16777216 (length bytes) exceeds, h.0, h.1) refl
     ]
 
 -- the first fetch that ends the call is the first file that does so by its state
