@@ -1,12 +1,11 @@
 -- What was read of told files is what they hold.
-use Rattle.std.proofs.Common.{zero, suc, ◌≡◌, ◌∙◌, ◌⊎◌, inl, inr, ℕ, ◌<◌, ◌≤◌, ◌∷◌, [], List, Bool, true, false, IsTrue, Option, Some, None, ap, sym, refl, subst, take, length, if◌then◌else◌, slice_get, arith, rules}
-use Rattle.std.proofs.Math.Dec.{ltb}
+use Rattle.std.proofs.Common.{zero, suc, ◌≡◌, ◌∙◌, inl, inr, ℕ, ◌∷◌, [], List, Some, None, ap, sym, refl, subst, take, length, slice_get}
 use Rattle.std.proofs.lemmas.Bool.{lt-ltb, le-ltb}
 use Rattle.tm_io.specs.declared.names.FileName.{FileName}
-use Rattle.tm_io.specs.Files.{FileState, Files, MayGive, MayLack, MayExceed}
+use Rattle.tm_io.specs.Files.{FileState, Files}
 use Rattle.tomoyo_run.specs.declared.status.Status.{Status}
 use Rattle.tomoyo_run.specs.declared.fetches.Want.{Want}
-use Rattle.tomoyo_run.specs.Fetches.{Texts, Given, AllGiven, FetchCause, FetchStops, IsTold, TellsAll, told, told_texts, or_else, unread, first_unread}
+use Rattle.tomoyo_run.specs.Fetches.{Texts, Given, AllGiven, FetchCause, IsTold, TellsAll, told, told_texts, unread, first_unread}
 
 -- the text of one told file
 text-told : (want : Want) (state : FileState) (text : List ℕ) → IsTold state → Given want state text → text ≡ told state
