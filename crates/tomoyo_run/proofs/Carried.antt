@@ -1,13 +1,13 @@
 -- What is carried out after calls that changed nothing.
-use Rattle.std.proofs.Common.{◌≡◌, ◌∙◌, ℕ, ◌≤◌, List, ap, take, ◌++◌, ◌∷◌, []}
+use Rattle.std.proofs.Common.{◌≡◌, ◌∙◌, ◌≤◌, ap, take, ◌++◌, ◌∷◌, []}
 use Rattle.tm_io.specs.Files.{Files, SameFiles}
 use Rattle.tm_io.specs.Bytes.{then_bytes}
 use Rattle.tomoyo_run.specs.declared.status.Status.{Status}
 use Rattle.tomoyo_run.specs.declared.status.OutName.{OutName}
 use Rattle.tomoyo_run.specs.declared.carry.Outcome.{Outcome}
 use Rattle.tomoyo_run.specs.Fetches.{Texts}
-use Rattle.tomoyo_run.specs.Stores.{stored, Leaves, IsCut}
-use Rattle.tomoyo_run.specs.Ends.{Outside, CarriedOut, IsUntold}
+use Rattle.tomoyo_run.specs.Stores.{stored, Leaves}
+use Rattle.tomoyo_run.specs.Ends.{Outside, CarriedOut}
 use Rattle.tomoyo_run.proofs.Steps.{rose-earlier}
 
 -- a call that changed nothing came between

@@ -1,21 +1,16 @@
 -- On told files the status is the answer, but for faults and want of memory.
-use Rattle.std.proofs.Common.{◌≡◌, ◌∙◌, ◌⊎◌, inl, inr, ℕ, ◌∷◌, [], ◌++◌, List, Bool, true, false, Option, Some, None, ap, sym, refl, subst}
-use Rattle.tm_io.specs.declared.names.FileName.{FileName}
+use Rattle.std.proofs.Common.{◌≡◌, ◌∙◌, ◌⊎◌, inl, inr, Some, None, ap, sym, refl}
 use Rattle.tm_io.specs.Causes.{Rose}
-use Rattle.tm_io.specs.Names.{same_name}
-use Rattle.tm_io.specs.Files.{FileState, Files, changed}
-use Rattle.tm_io.specs.Bytes.{then_bytes}
+use Rattle.tm_io.specs.Files.{Files}
 use Rattle.tomoyo_run.specs.declared.status.Status.{Status}
 use Rattle.tomoyo_run.specs.declared.status.OutName.{OutName}
 use Rattle.tomoyo_run.specs.declared.carry.Outcome.{Outcome}
-use Rattle.tomoyo_run.specs.declared.play.Played.{Played}
 use Rattle.tomoyo_run.specs.declared.words.Command.{Command}
-use Rattle.tomoyo_run.specs.Fetches.{Texts, AllGiven, FetchCause, FetchStops, IsTold, TellsAll, told_texts, or_else, first_unread}
-use Rattle.tomoyo_run.specs.Stores.{Leaves, names_of, is_named}
-use Rattle.tomoyo_run.specs.Ends.{Outside, Untouched, Ends, CarriedOut}
-use Rattle.tomoyo_run.specs.Play.{refusal_of, not_built_at, Refuses, Plays}
-use Rattle.tomoyo_run.specs.Call.{wants_of, stored_by, outcome_of, Allows, CommandCause, or_done, answer_of, Answers, KeepsOthers, IsPlayed, HasPlayed}
-use Rattle.tomoyo_run.proofs.Refusals.{IsRefusal, refusal-kind}
+use Rattle.tomoyo_run.specs.Fetches.{Texts, AllGiven, FetchStops, TellsAll, told_texts}
+use Rattle.tomoyo_run.specs.Ends.{Outside, Ends, CarriedOut}
+use Rattle.tomoyo_run.specs.Play.{refusal_of, Refuses}
+use Rattle.tomoyo_run.specs.Call.{wants_of, Allows, CommandCause, answer_of, Answers}
+use Rattle.tomoyo_run.proofs.Refusals.{refusal-kind}
 use Rattle.tomoyo_run.proofs.Told.{texts-told, all-read, stop-unread}
 
 -- a fetch that ends the call

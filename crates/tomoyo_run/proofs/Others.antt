@@ -1,8 +1,8 @@
 -- Files that aren't stored.
-use Rattle.std.proofs.Common.{zero, suc, ◌≡◌, ◌∙◌, ℕ, ◌∷◌, [], ◌++◌, List, Bool, true, false, Option, Some, ap, sym, refl, take, if◌then◌else◌, slice_get}
+use Rattle.std.proofs.Common.{zero, suc, ◌≡◌, ◌∙◌, ℕ, ◌∷◌, [], ◌++◌, List, Bool, true, false, Some, ap, sym, refl, take, if◌then◌else◌, slice_get}
 use Rattle.tm_io.specs.declared.names.FileName.{FileName}
 use Rattle.tm_io.specs.Names.{same_name}
-use Rattle.tm_io.specs.Files.{FileState, Files, changed, SameFiles}
+use Rattle.tm_io.specs.Files.{FileState, Files, changed}
 use Rattle.tomoyo_run.specs.Fetches.{Texts}
 use Rattle.tomoyo_run.specs.Stores.{stored, Leaves, IsCut, names_of, is_named}
 use Rattle.tomoyo_run.proofs.Steps.{stored-more}

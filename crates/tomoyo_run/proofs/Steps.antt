@@ -1,5 +1,5 @@
 -- One fetch more, and one store more.
-use Rattle.std.proofs.Common.{◌≡◌, ◌∙◌, ℕ, ◌≤◌, List, [], ◌∷◌, ◌++◌, refl, ap, sym, subst, arith, ◌<◌, ◌+◌, length, get_or, map, take, drop, Some, slice_get}
+use Rattle.std.proofs.Common.{◌≡◌, ◌∙◌, ℕ, ◌≤◌, List, [], ◌∷◌, ◌++◌, refl, ap, sym, subst, arith, ◌<◌, ◌+◌, length, get_or, take, Some}
 use Rattle.std.proofs.lemmas.List.{take_more}
 use Rattle.std.proofs.lemmas.Option.{slice_get-get_or}
 use Rattle.tm_io.specs.declared.names.FileName.{FileName}

@@ -1,12 +1,11 @@
 -- What was read of told files is what they hold.
-use Rattle.std.proofs.Common.{zero, suc, ◌≡◌, ◌∙◌, ◌⊎◌, inl, inr, ℕ, ◌<◌, ◌≤◌, ◌∷◌, [], List, Bool, true, false, IsTrue, Option, Some, None, ap, sym, refl, subst, take, length, if◌then◌else◌, slice_get, arith, rules}
-use Rattle.std.proofs.Math.Dec.{ltb}
+use Rattle.std.proofs.Common.{zero, suc, ◌≡◌, ◌∙◌, inl, inr, ℕ, ◌∷◌, [], List, Some, None, ap, sym, refl, subst, take, length, slice_get}
 use Rattle.std.proofs.lemmas.Bool.{lt-ltb, le-ltb}
 use Rattle.tm_io.specs.declared.names.FileName.{FileName}
-use Rattle.tm_io.specs.Files.{FileState, Files, MayGive, MayLack, MayExceed}
+use Rattle.tm_io.specs.Files.{FileState, Files}
 use Rattle.tomoyo_run.specs.declared.status.Status.{Status}
 use Rattle.tomoyo_run.specs.declared.fetches.Want.{Want}
-use Rattle.tomoyo_run.specs.Fetches.{Texts, Given, AllGiven, FetchCause, FetchStops, IsTold, TellsAll, told, told_texts, or_else, unread, first_unread}
+use Rattle.tomoyo_run.specs.Fetches.{Texts, Given, AllGiven, FetchCause, IsTold, TellsAll, told, told_texts, unread, first_unread}
 
 -- the text of one told file
 text-told : (want : Want) (state : FileState) (text : List ℕ) → IsTold state → Given want state text → text ≡ told state
@@ -47,13 +46,13 @@ cause-unread : (want : Want) (state : FileState) (rose : Type 0) (name : FileNam
 cause-unread want FileState.Untold rose name line is h = absurd is
 cause-unread want FileState.Missing rose name line is h =
     elim h.2 [
-    | inl lacks ↦ rw (lacks.0, h.0, h.1) refl
-    | inr exceeds ↦ absurd exceeds
+      | inl lacks ↦ rw (lacks.0, h.0, h.1) refl
+      | inr exceeds ↦ absurd exceeds
     ]
 cause-unread want (FileState.Holds bytes) rose name line is h =
     elim h.2 [
-    | inl lacks ↦ absurd lacks.1
-    | inr exceeds ↦ rw (lt-ltb 16777216 (length bytes) exceeds, h.0, h.1) refl
+      | inl lacks ↦ absurd lacks.1
+      | inr exceeds ↦ rw (lt-ltb 16777216 (length bytes) exceeds, h.0, h.1) refl
     ]
 
 -- the first fetch that ends the call is the first file that does so by its state

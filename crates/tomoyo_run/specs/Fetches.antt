@@ -1,5 +1,5 @@
 -- What the fetches of a command give, and where they stop.
-use Rattle.std.specs.Prelude.{◌≡◌, ℕ, ◌⊎◌, Bool, false, IsTrue, List, [], ◌∷◌, map, take, ⊤, Option, Some, None, slice_get, length, nat_lt, if◌then◌else◌}
+use Rattle.std.specs.Prelude.{◌≡◌, ℕ, ◌⊎◌, false, IsTrue, List, [], ◌∷◌, map, take, ⊤, Option, Some, None, slice_get, length, nat_lt, if◌then◌else◌}
 use Rattle.tm_io.specs.declared.names.FileName.{FileName}
 use Rattle.tm_io.specs.Names.{same_name}
 use Rattle.tm_io.specs.Files.{FileState, Files, MayGive, MayLack, MayExceed}

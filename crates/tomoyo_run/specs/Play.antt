@@ -1,5 +1,5 @@
 -- What a play of the files gives, and what it refuses.
-use Rattle.std.specs.Prelude.{◌≡◌, ℕ, List, Option, Some, None, codes, ⊤}
+use Rattle.std.specs.Prelude.{◌≡◌, ℕ, Option, Some, None, codes, ⊤}
 use Rattle.tm_io.specs.declared.names.FileName.{FileName}
 use Rattle.tomoyo_run.specs.declared.status.Status.{Status}
 use Rattle.tomoyo_run.specs.declared.play.Played.{Played}

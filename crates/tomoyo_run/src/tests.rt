@@ -17,14 +17,18 @@ const TRACE: &[u8] = b"";
 
 const RUN: &[u8] = b"run 1\n";
 
-const SUMMARY: &[u8] = b"requests 0 granted 0 denied 0 learned 0 steps 0 domains 1 clean yes plain yes\n";
+const SUMMARY: &[u8] =
+    b"requests 0 granted 0 denied 0 learned 0 steps 0 domains 1 clean yes plain yes\n";
 
 // The three needed files, then this one.
 fn files(alloc: Global, name: FileName, bytes: &[u8]) -> Result<FileList, NoMemory> {
     Ok(FileList::from_vec(vec![in alloc;
         (name, Text::from_bytes(alloc, bytes)?),
         (FileName::Profile, Text::from_bytes(alloc, PROFILE)?),
-        (FileName::DomainPolicy, Text::from_bytes(alloc, DOMAIN_POLICY)?),
+        (
+            FileName::DomainPolicy,
+            Text::from_bytes(alloc, DOMAIN_POLICY)?
+        ),
         (FileName::Trace, Text::from_bytes(alloc, TRACE)?),
     ]?))
 }
@@ -116,12 +120,32 @@ fn a_failing_sink_leaves_the_run_stored(rt: HostRuntime) -> Result<(), Fail> {
 fn lines_that_are_not_built_are_named(rt: HostRuntime) -> Result<(), Fail> {
     let alloc = rt.alloc();
     let rows: [(FileName, &[u8], Status); 6] = [
-        (FileName::ExceptionPolicy, b"\n \t\n\x7f x", Status::NotBuilt(FileName::ExceptionPolicy, 3)),
-        (FileName::Manager, b"/usr/sbin/admin", Status::NotBuilt(FileName::Manager, 1)),
-        (FileName::Edits, b"\n\n\nx\n", Status::NotBuilt(FileName::Edits, 4)),
+        (
+            FileName::ExceptionPolicy,
+            b"\n \t\n\x7f x",
+            Status::NotBuilt(FileName::ExceptionPolicy, 3),
+        ),
+        (
+            FileName::Manager,
+            b"/usr/sbin/admin",
+            Status::NotBuilt(FileName::Manager, 1),
+        ),
+        (
+            FileName::Edits,
+            b"\n\n\nx\n",
+            Status::NotBuilt(FileName::Edits, 4),
+        ),
         (FileName::Answers, b" \n\n", Status::Done),
-        (FileName::Answers, b"\n\ndetach 0\n", Status::NotBuilt(FileName::Answers, 3)),
-        (FileName::Schedule, b"tree 1\n", Status::NotBuilt(FileName::Schedule, 1)),
+        (
+            FileName::Answers,
+            b"\n\ndetach 0\n",
+            Status::NotBuilt(FileName::Answers, 3),
+        ),
+        (
+            FileName::Schedule,
+            b"tree 1\n",
+            Status::NotBuilt(FileName::Schedule, 1),
+        ),
     ];
     for (name, bytes, wanted) in rows {
         let mut shelf = MemoryShelf::new(alloc, files(alloc, name, bytes)?, Vec::new(alloc));
@@ -153,19 +177,51 @@ fn statuses_have_their_line_and_number(rt: HostRuntime) -> Result<(), Fail> {
     let rows = [
         (Status::Done, 0, "done"),
         (Status::BadWords(2), 1, "bad words at 2"),
-        (Status::ReadFault(FileName::Profile), 2, "can't read profile"),
+        (
+            Status::ReadFault(FileName::Profile),
+            2,
+            "can't read profile",
+        ),
         (Status::Absent(FileName::Trace), 3, "trace is missing"),
         (Status::TooLong(FileName::Edits), 4, "edits is too long"),
-        (Status::BadPolicy(FileKind::Domain, 3, EditReply::BadLine(LineKind::Arity)), 5, "domain_policy line 3: bad:arity"),
-        (Status::BadPolicy(FileKind::Exception, 1, EditReply::NoSuchLine), 5, "exception_policy line 1: no_line"),
+        (
+            Status::BadPolicy(FileKind::Domain, 3, EditReply::BadLine(LineKind::Arity)),
+            5,
+            "domain_policy line 3: bad:arity",
+        ),
+        (
+            Status::BadPolicy(FileKind::Exception, 1, EditReply::NoSuchLine),
+            5,
+            "exception_policy line 1: no_line",
+        ),
         (Status::UndefinedProfile(0), 6, "domain 0 has no profile"),
-        (Status::BadTrace(4, TraceKind::NoProcess), 7, "trace line 4: NoProcess"),
-        (Status::BadScript(FileName::Answers, 5, ScriptKind::Twice), 8, "answers line 5: Twice"),
+        (
+            Status::BadTrace(4, TraceKind::NoProcess),
+            7,
+            "trace line 4: NoProcess",
+        ),
+        (
+            Status::BadScript(FileName::Answers, 5, ScriptKind::Twice),
+            8,
+            "answers line 5: Twice",
+        ),
         (Status::TooMany(What::Turns), 9, "too many turns"),
-        (Status::WriteFault(OutName::File(FileName::ProfileNew)), 10, "can't write profile.new"),
-        (Status::WriteFault(OutName::StandardOutput), 10, "can't write standard output"),
+        (
+            Status::WriteFault(OutName::File(FileName::ProfileNew)),
+            10,
+            "can't write profile.new",
+        ),
+        (
+            Status::WriteFault(OutName::StandardOutput),
+            10,
+            "can't write standard output",
+        ),
         (Status::OutOfMemory, 11, "out of memory"),
-        (Status::NotBuilt(FileName::DomainPolicy, 3), 12, "domain_policy line 3: not built"),
+        (
+            Status::NotBuilt(FileName::DomainPolicy, 3),
+            12,
+            "domain_policy line 3: not built",
+        ),
     ];
     for (status, code, line) in rows {
         assert_eq!(rt; status.code(), code);

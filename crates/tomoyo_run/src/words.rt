@@ -11,7 +11,11 @@ pub enum Command {
 fn named_by(word: &str) -> Result<Command, u64>
     ensures { result ≡ command_of word.now }
 {
-    if word == "step" { Ok(Command::Step) } else { Err(0) }
+    if word == "step" {
+        Ok(Command::Step)
+    } else {
+        Err(0)
+    }
 }
 
 /// The command, or the first place at which no form of a command goes on.

@@ -1,4 +1,4 @@
-use Rattle.std.proofs.Common.{◌≡◌, length, subst, sym}
+use Rattle.std.proofs.Common.{length, subst, sym}
 use Rattle.std.proofs.Math.Seq.{take-length}
 use Rattle.tomoyo_run.specs.Fetches.{Texts}
 use Rattle.tomoyo_run.specs.Stores.{Leaves}

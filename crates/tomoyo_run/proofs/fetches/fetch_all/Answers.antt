@@ -1,4 +1,4 @@
-use Rattle.std.proofs.Common.{◌≡◌, ◌<◌, ◌∙◌, length, arith}
+use Rattle.std.proofs.Common.{◌<◌, ◌∙◌, length, arith}
 use Rattle.tomoyo_run.proofs.Steps.{stops-at, given-at}
 use Rattle.tomoyo_run.proofs.fetches.fetch_all.Goals as goal
 

@@ -1,6 +1,6 @@
-use Rattle.std.proofs.Common.{◌≡◌, refl, arith, ◌≤◌}
-use Rattle.tomoyo_run.specs.Ends.{outside, Ends, Untouched, CarriedOut}
-use Rattle.tomoyo_run.proofs.Carried.{carried-after, Quiet}
+use Rattle.std.proofs.Common.{refl, arith, ◌≤◌}
+use Rattle.tomoyo_run.specs.Ends.{outside, Ends}
+use Rattle.tomoyo_run.proofs.Carried.{carried-after}
 use Rattle.tomoyo_run.proofs.top.perform.Goals as goal
 
 pub returns-in-Err-make : goal.returns-in-Err-make

@@ -1,4 +1,4 @@
-use Rattle.std.proofs.Common.{◌≡◌, sym}
+use Rattle.std.proofs.Common.{sym}
 use Rattle.tomoyo_run.specs.Ends.{outside}
 use Rattle.tomoyo_run.specs.Call.{answer_of}
 use Rattle.tomoyo_run.proofs.Causes.{cause-of}
