@@ -4,5 +4,6 @@
 #![tactic(auto)]
 
 mod rep;
+mod searching;
 
 pub use rep::Rep;
