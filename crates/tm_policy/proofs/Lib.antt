@@ -1,1 +1,2 @@
 pub mod Executes
+pub mod Lists

@@ -1,12 +1,13 @@
 //! The search for the first entry that grants a request, by scanning the lists.
-ghost use Rattle.std.specs.Prelude.{◌≡◌, ◌&&◌, ◌++◌, [], true, Some, IsTrue, IsSome, option_map};
+ghost use Rattle.std.specs.Prelude.{◌≡◌, ◌&&◌, ◌++◌, ℕ, List, [], true, Some, IsSome, option_map, unwrap_or};
 ghost use Rattle.std.specs.Option.{option_copied, option_or};
-ghost use Rattle.std.specs.List.{find};
+ghost use Rattle.std.specs.List.{AllByRecursion, find};
+ghost use Rattle.tm_types.specs.declared.entry.Entry.{Entry};
 ghost use Rattle.tm_types.specs.declared.policy.Namespace.{Namespace};
 ghost use Rattle.tm_rules.specs.Equality.{texts_equal};
 ghost use Rattle.tm_rules.specs.Few.{IsShort, IsFewHere, IsFew};
 ghost use Rattle.tm_rules.specs.Condition.{is_execute, holds};
-ghost use Rattle.tm_rules.specs.Policy.{has_permission, namespace_word, empty_namespace};
+ghost use Rattle.tm_rules.specs.Policy.{at_key, has_permission, namespace_word, empty_namespace};
 ghost use Rattle.tm_rules.specs.Search.{args_grant, grants, aggregated, path_of, placed, first, found, found_of};
 ghost use Rattle.tm_policy.specs.Searching.{asked_as, place_in, found_in, acl_entries};
 
@@ -144,6 +145,56 @@ fn first_in(
                 place: place_in(group, place as u32),
                 name,
             });
+        }
+    }
+    None
+}
+
+// What is found first in the list of an ACL group, which may be without lines.
+#[tactic(auto, using(crate::proofs::Lists::short_group))]
+fn first_in_group(
+    groups: &Groups,
+    process: &Proc,
+    request: &Request,
+    path: Option<&Word>,
+    lists: &Map<u8, Seq<Entry>>,
+    group: u8,
+) -> Option<Found>
+    requires few { IsShort groups.now.paths }
+    requires short { AllByRecursion (λ (pair : ℕ × List Entry). IsShort pair.1) lists.now }
+    requires execute { IsSome (option_copied path) → is_execute request.now ≡ true }
+    ensures { result ≡ found_in groups.now process.now (asked_as request.now (option_copied path.entry)) (placed (EntryPlace.Acl group) 0 (unwrap_or (at_key lists.now group) [])) }
+{
+    match lists.get(&group) {
+        Some(entries) => first_in(
+            groups,
+            process,
+            request,
+            path,
+            Some(group),
+            entries.as_slice(),
+        ),
+        None => None,
+    }
+}
+
+// What is found first in the lists of a domain's ACL groups, by rising number.
+fn first_in_groups(
+    groups: &Groups,
+    process: &Proc,
+    request: &Request,
+    path: Option<&Word>,
+    lists: &Map<u8, Seq<Entry>>,
+    members: &[(u8, ())],
+) -> Option<Found>
+    requires few { IsShort groups.now.paths }
+    requires short { AllByRecursion (λ (pair : ℕ × List Entry). IsShort pair.1) lists.now }
+    requires execute { IsSome (option_copied path) → is_execute request.now ≡ true }
+    ensures { result ≡ found_in groups.now process.now (asked_as request.now (option_copied path.entry)) (acl_entries lists.now members.now) }
+{
+    for (group, _) in members {
+        if let Some(found) = first_in_group(groups, process, request, path, lists, *group) {
+            return Some(found);
         }
     }
     None

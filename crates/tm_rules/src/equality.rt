@@ -9,10 +9,17 @@ use tm_word::Text;
 
 /// Whether two texts are equal, byte by byte.
 #[tactic(auto, using(crate::proofs::EqualityLaws::texts_are_same))]
+pub fn bytes_equal(left: &[u8], right: &[u8]) -> bool
+    ensures { result ≡ texts_equal left.now right.now }
+{
+    left == right
+}
+
+/// Whether two texts are equal, byte by byte.
 pub fn texts_equal(left: &Text, right: &Text) -> bool
     ensures { result ≡ texts_equal left.now right.now }
 {
-    left.same(right)
+    bytes_equal(left.bytes(), right.bytes())
 }
 
 fn args_equal(left: &Args, right: &Args) -> bool
