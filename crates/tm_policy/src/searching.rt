@@ -7,22 +7,22 @@ ghost use Rattle.tm_types.specs.declared.policy.Namespace.{Namespace};
 ghost use Rattle.tm_rules.specs.Equality.{texts_equal};
 ghost use Rattle.tm_rules.specs.Few.{IsShort, IsFewHere, IsFew};
 ghost use Rattle.tm_rules.specs.Condition.{is_execute, holds};
-ghost use Rattle.tm_rules.specs.Policy.{at_key, has_permission, namespace_word, empty_namespace};
+ghost use Rattle.tm_rules.specs.Policy.{at_key, has_permission, namespace_word, namespace_of, empty_namespace};
 ghost use Rattle.tm_rules.specs.Search.{args_grant, grants, aggregated, path_of, placed, first, found, found_of};
 ghost use Rattle.tm_policy.specs.Searching.{asked_as, place_in, found_in, acl_entries};
 
 use tm_cond::holds;
+use tm_except::aggregated;
 use tm_file::{file_args_match, path_args_match};
 use tm_list::{Map, Seq};
 use tm_net::net_args_match;
-use tm_pattern::matches;
-use tm_rules::{is_execute, texts_equal};
+use tm_rules::{bytes_equal, is_execute};
 use tm_types::entry::{Args, Entry};
 use tm_types::policy::{Domain, Namespace, Policy};
 use tm_types::request::{Proc, Request};
-use tm_types::unions::{Groups, NamePlace};
+use tm_types::unions::{DomainName, Groups, NamePlace};
 use tm_types::verdict::{EntryPlace, Found};
-use tm_word::{Pattern, Word};
+use tm_word::Word;
 
 // Whether the permission at a place, from 0, of its row is among these.
 fn has_permission(bits: u16, place: u8) -> bool
@@ -179,6 +179,7 @@ fn first_in_group(
 }
 
 // What is found first in the lists of a domain's ACL groups, by rising number.
+#[tactic(auto, using(crate::proofs::Lists::found_groups))]
 fn first_in_groups(
     groups: &Groups,
     process: &Proc,
@@ -198,4 +199,161 @@ fn first_in_groups(
         }
     }
     None
+}
+
+// What is found first in a domain's own list and then in those of its ACL groups.
+#[tactic(auto, using(crate::proofs::Lists::found_both))]
+fn first_in_domain(
+    groups: &Groups,
+    process: &Proc,
+    request: &Request,
+    path: Option<&Word>,
+    lists: &Map<u8, Seq<Entry>>,
+    domain: &Domain,
+) -> Option<Found>
+    requires few { IsShort groups.now.paths }
+    requires own { IsShort domain.now.entries }
+    requires short { AllByRecursion (λ (pair : ℕ × List Entry). IsShort pair.1) lists.now }
+    requires execute { IsSome (option_copied path) → is_execute request.now ≡ true }
+    ensures { result ≡ found_in groups.now process.now (asked_as request.now (option_copied path.entry)) (placed EntryPlace.Own 0 domain.now.entries ++ acl_entries lists.now domain.now.groups) }
+{
+    let own = first_in(
+        groups,
+        process,
+        request,
+        path,
+        None,
+        domain.entries.as_slice(),
+    );
+    let of_groups = first_in_groups(
+        groups,
+        process,
+        request,
+        path,
+        lists,
+        domain.groups.as_slice(),
+    );
+    own.or(of_groups)
+}
+
+// The search in a domain of a namespace.
+fn search_in(
+    namespace: &Namespace,
+    domain: &Domain,
+    process: &Proc,
+    request: &Request,
+) -> Option<Found>
+    requires few { IsFewHere namespace.now }
+    requires own { IsShort domain.now.entries }
+    ensures { result ≡ option_map found_of (first namespace.now domain.now process.now request.now) }
+{
+    let groups = &namespace.groups;
+    let lists = &namespace.acl_groups;
+    if is_execute(request) {
+        match request.name(0) {
+            Some(path) => first_in_domain(
+                groups,
+                process,
+                request,
+                Some(aggregated(namespace, path)),
+                lists,
+                domain,
+            ),
+            None => unreachable!(),
+        }
+    } else {
+        first_in_domain(groups, process, request, None, lists, domain)
+    }
+}
+
+// The search in a domain whose namespace has no line.
+fn search_alone(
+    groups: &Groups,
+    domain: &Domain,
+    process: &Proc,
+    request: &Request,
+) -> Option<Found>
+    requires groups { groups.now ≡ record { paths = []; numbers = []; addrs = [] } }
+    requires own { IsShort domain.now.entries }
+    ensures { (name : List ℕ) → result ≡ option_map found_of (first (empty_namespace name) domain.now process.now request.now) }
+{
+    if is_execute(request) {
+        first_in(
+            groups,
+            process,
+            request,
+            request.name(0),
+            None,
+            domain.entries.as_slice(),
+        )
+    } else {
+        first_in(
+            groups,
+            process,
+            request,
+            None,
+            None,
+            domain.entries.as_slice(),
+        )
+    }
+}
+
+// The namespace of that name, where it has a line.
+fn find_namespace<'a>(namespaces: &'a [Namespace], name: &[u8]) -> Option<&'a Namespace>
+    ensures { option_copied result ≡ find (λ (ns : Namespace). texts_equal ns.name name.now) namespaces.now }
+{
+    for namespace in namespaces {
+        if bytes_equal(namespace.name.bytes(), name) {
+            return Some(namespace);
+        }
+    }
+    None
+}
+
+// The first word of a domain name.
+fn namespace_word(name: &DomainName) -> &[u8]
+    ensures { result.now ≡ namespace_word name.now }
+{
+    let bytes = name.bytes();
+    match bytes.iter().position(|byte| *byte == b' ') {
+        Some(end) => &bytes[..end],
+        None => bytes,
+    }
+}
+
+/// The first entry that grants the request of a process in the domain of this number: the domain's own entries in order, then those
+/// of its ACL groups by rising number. The path of an execute is looked up by its aggregated name. None exactly where no entry
+/// grants the request, or the domain isn't there. Takes no memory.
+pub fn search(policy: &Policy, domain: u32, process: &Proc, request: &Request) -> Option<Found>
+    requires { IsFew policy.now }
+    ensures { result ≡ found policy.now domain process.now request.now }
+{
+    match policy.domains.get(domain as usize) {
+        Some(domain) => search_domain(policy, domain, process, request),
+        None => None,
+    }
+}
+
+// The search in a domain of a policy.
+fn search_domain(
+    policy: &Policy,
+    domain: &Domain,
+    process: &Proc,
+    request: &Request,
+) -> Option<Found>
+    requires few { IsFew policy.now }
+    requires own { IsShort domain.now.entries }
+    ensures { result ≡ option_map found_of (first (namespace_of policy.now domain.now) domain.now process.now request.now) }
+{
+    match find_namespace(policy.namespaces.as_slice(), namespace_word(&domain.name)) {
+        Some(namespace) => search_in(namespace, domain, process, request),
+        None => {
+            let groups = Groups {
+                paths: policy.namespaces.fresh(),
+                numbers: policy.namespaces.fresh(),
+                addrs: policy.namespaces.fresh(),
+            };
+            search_alone(&groups, domain, process, request)
+        }
+    }
 }
