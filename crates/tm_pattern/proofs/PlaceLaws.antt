@@ -10,7 +10,7 @@ use Rattle.tm_word.specs.declared.Element.{Element}
 use Rattle.tm_word.specs.declared.Repeat.{Repeat}
 use Rattle.tm_word.specs.declared.Component.{Component}
 use Rattle.tm_word.specs.Words.{Part, Pattern, Word}
-use Rattle.tm_word.specs.Matching.{components, is_empty, after_one, after_some, after_any, left_by, left_by_component, part_matches, component_matches, components_match}
+use Rattle.tm_word.specs.Matching.{components, is_empty, after_some, left_by, left_by_component, part_matches, component_matches, components_match}
 use Rattle.tm_pattern.specs.Places.{repeat_of, is_in_class, left_after, is_reached, may_take, places_after, some_place, components_left}
 
 -- an element takes as a component does: so many of its class
@@ -98,23 +98,23 @@ module _ {A : Type 0} (P : List A → Bool) (test : A → Bool) where
 
   -- the places after one more element are those from which what it leaves passes
   places-step : (repeat : Repeat) (taken : Bool) (places : List Bool) (xs : List A) → length xs < length places →
-    some_place P (places_after repeat test taken places xs) xs ≡ ((taken && goes_on repeat xs) || some_place (λ ys. list_any P (left_after repeat test ys)) places xs)
+      some_place P (places_after repeat test taken places xs) xs ≡ ((taken && goes_on repeat xs) || some_place (λ ys. list_any P (left_after repeat test ys)) places xs)
   places-step repeat taken [] xs h = absurd (omega arith)
   places-step Repeat.Once taken (before ∷ places) [] h = last_once taken before (P [])
   places-step Repeat.OneOrMore taken (before ∷ places) [] h = last_some taken before (P [])
   places-step Repeat.ZeroOrMore taken (before ∷ places) [] h = last_any taken before (P [])
   places-step Repeat.Once taken (before ∷ places) (x ∷ xs) h =
       rw (places-step Repeat.Once (before && test x) places xs (omega arith), any-if (test x) xs [])
-        (once_cases taken before (test x) (P (x ∷ xs)) (P xs) (some_place (λ ys. list_any P (left_after Repeat.Once test ys)) places xs))
+      (once_cases taken before (test x) (P (x ∷ xs)) (P xs) (some_place (λ ys. list_any P (left_after Repeat.Once test ys)) places xs))
   places-step Repeat.OneOrMore taken (before ∷ places) (x ∷ xs) h =
       rw (places-step Repeat.OneOrMore ((taken || before) && test x) places xs (omega arith), any-if (test x) xs (after_some test xs), and_assoc (taken || before) (test x) (P xs || list_any P (after_some test xs)))
-        (some_cases taken before (P (x ∷ xs)) (test x && (P xs || list_any P (after_some test xs))) (some_place (λ ys. list_any P (left_after Repeat.OneOrMore test ys)) places xs))
+      (some_cases taken before (P (x ∷ xs)) (test x && (P xs || list_any P (after_some test xs))) (some_place (λ ys. list_any P (left_after Repeat.OneOrMore test ys)) places xs))
   places-step Repeat.ZeroOrMore taken (before ∷ places) (x ∷ xs) h =
       rw (places-step Repeat.ZeroOrMore ((taken || before) && test x) places xs (omega arith), any-if (test x) xs (after_some test xs), and_assoc (taken || before) (test x) (P xs || list_any P (after_some test xs)))
-        (any_cases taken before (P (x ∷ xs)) (test x && (P xs || list_any P (after_some test xs))) (some_place (λ ys. list_any P (left_after Repeat.ZeroOrMore test ys)) places xs))
+      (any_cases taken before (P (x ∷ xs)) (test x && (P xs || list_any P (after_some test xs))) (some_place (λ ys. list_any P (left_after Repeat.ZeroOrMore test ys)) places xs))
 
   pub places_next : (repeat : Repeat) (places : List Bool) (xs : List A) → length xs < length places →
-    some_place P (places_after repeat test false places xs) xs ≡ some_place (λ ys. list_any P (left_after repeat test ys)) places xs
+      some_place P (places_after repeat test false places xs) xs ≡ some_place (λ ys. list_any P (left_after repeat test ys)) places xs
   places_next repeat places xs h = places-step repeat false places xs h
 
 module _ {A : Type 0} (P : List A → Bool) where
@@ -162,7 +162,7 @@ part_step e es cs = ap (list_any (part_matches es)) (left-of e cs)
 module _ {A : Type 0} (repeat : Repeat) (test : A → Bool) (taken : Bool) (places : List Bool) (i : ℕ) (whole : List Bool) (in_places : i < length places) where
   -- one more is taken, or not
   pub place-more : (x : A) (xs rest : List A) → xs ≡ x ∷ rest → take i places ++ places_after repeat test taken (drop i places) xs ≡ whole →
-    take (i + 1) (set places i (is_reached repeat taken (get_or places i false))) ++ places_after repeat test (may_take repeat taken (get_or places i false) && test x) (drop (i + 1) (set places i (is_reached repeat taken (get_or places i false)))) rest ≡ whole
+      take (i + 1) (set places i (is_reached repeat taken (get_or places i false))) ++ places_after repeat test (may_take repeat taken (get_or places i false) && test x) (drop (i + 1) (set places i (is_reached repeat taken (get_or places i false)))) rest ≡ whole
   place-more x xs rest e h =
       let before = get_or places i false in
       let v = is_reached repeat taken before in
@@ -187,13 +187,13 @@ component_step c cs names = ap (list_any (components_match cs)) (left-of_compone
 
 -- one more element, and one more component
 pub part-advance : (e : Element) (es : Part) (places : List Bool) (cs : List ℕ) → length cs < length places →
-  some_place (part_matches es) (places_after (repeat_of e) (is_in_class e) false places cs) cs ≡ some_place (part_matches (e ∷ es)) places cs
+    some_place (part_matches es) (places_after (repeat_of e) (is_in_class e) false places cs) cs ≡ some_place (part_matches (e ∷ es)) places cs
 part-advance e es places cs h =
     places_next (part_matches es) (is_in_class e) (repeat_of e) places cs h
     ∙ some_place-same (λ ys. list_any (part_matches es) (left_after (repeat_of e) (is_in_class e) ys)) (part_matches (e ∷ es)) (λ ys. sym (part_step e es ys)) places cs
 
 pub component-advance : (c : Component) (cs : Pattern) (places : List Bool) (names : List Word) → length names < length places →
-  some_place (components_match cs) (places_after c.repeat (component_matches c) false places names) names ≡ some_place (components_match (c ∷ cs)) places names
+    some_place (components_match cs) (places_after c.repeat (component_matches c) false places names) names ≡ some_place (components_match (c ∷ cs)) places names
 component-advance c cs places names h =
     places_next (components_match cs) (component_matches c) c.repeat places names h
     ∙ some_place-same (λ ys. list_any (components_match cs) (left_after c.repeat (component_matches c) ys)) (components_match (c ∷ cs)) (λ ys. sym (component_step c cs ys)) places names
@@ -209,15 +209,15 @@ component-last places names h = some_place-same (components_match []) is_empty (
 
 -- a loop over the elements, and one over the components
 pub part-more : (part : Part) (i : ℕ) (d : Element) (places new : List Bool) (cs : List ℕ) (whole : Bool) → i < length part → length cs < length places →
-  new ≡ places_after (repeat_of (get_or part i d)) (is_in_class (get_or part i d)) false places cs →
-  some_place (part_matches (drop i part)) places cs ≡ whole → some_place (part_matches (drop (i + 1) part)) new cs ≡ whole
+    new ≡ places_after (repeat_of (get_or part i d)) (is_in_class (get_or part i d)) false places cs →
+    some_place (part_matches (drop i part)) places cs ≡ whole → some_place (part_matches (drop (i + 1) part)) new cs ≡ whole
 part-more part i d places new cs whole lt fits e h =
     let next : drop i part ≡ get_or part i d ∷ drop (i + 1) part = rw add-one (drop-cons part i d lt) in
     rw e (part-advance (get_or part i d) (drop (i + 1) part) places cs fits ∙ (rw next at h))
 
 pub component-more : (pattern : Pattern) (i : ℕ) (c : Component) (places new : List Bool) (names : List Word) (whole : Bool) → i < length pattern → length names < length places → c ≡ get_or pattern i c →
-  new ≡ places_after c.repeat (component_matches c) false places names →
-  some_place (components_match (drop i pattern)) places names ≡ whole → some_place (components_match (drop (i + 1) pattern)) new names ≡ whole
+    new ≡ places_after c.repeat (component_matches c) false places names →
+    some_place (components_match (drop i pattern)) places names ≡ whole → some_place (components_match (drop (i + 1) pattern)) new names ≡ whole
 component-more pattern i c places new names whole lt fits same e h =
     let next : drop i pattern ≡ c ∷ drop (i + 1) pattern = drop-cons pattern i c lt ∙ ap (λ d. d ∷ drop (suc i) pattern) (sym same) ∙ ap (λ k. c ∷ drop k pattern) (sym (add-one i)) in
     rw e (component-advance c (drop (i + 1) pattern) places names fits ∙ (rw next at h))

@@ -9,7 +9,7 @@ use Rattle.tm_word.specs.declared.Element.{Element}
 use Rattle.tm_word.specs.Words.{Word, Pattern}
 use Rattle.tm_word.specs.Spelling.{spelling_of, spell}
 use Rattle.tm_word.specs.Matching.{left_by, part_matches, component_matches, components_match, components, ends_in_slash, ends_blank, is_folder, matches}
-use Rattle.tm_word.specs.Printing.{spelled_element, spelled_part, spelled_component, spelled_pattern, is_byte, is_plain, is_literal, literal_component, literal, element_bytes, component_bytes, literal_word}
+use Rattle.tm_word.specs.Printing.{spelled_part, spelled_component, spelled_pattern, is_byte, is_plain, is_literal, literal_component, literal, element_bytes, component_bytes, literal_word}
 
 or-true : (b : Bool) → (b || false) ≡ true → b ≡ true
 or-true true h = refl
@@ -106,7 +106,7 @@ pub literal-own : (name : Word) → matches (literal name) name ≡ true
 unfolding matches literal
 literal-own name =
     both-true (components_match (map literal_component (components name)) (components name)) (not (ends_in_slash name) || is_folder (map literal_component (components name)))
-      (components-from (components name)) (unless (ends_in_slash name) (is_folder (map literal_component (components name))) (folder name))
+    (components-from (components name)) (unless (ends_in_slash name) (is_folder (map literal_component (components name))) (folder name))
 
 -- How it is written
 

@@ -1,4 +1,4 @@
-use Rattle.std.proofs.Common.{◌≡◌, ◌∙◌}
+use Rattle.std.proofs.Common.{◌∙◌}
 use Rattle.tm_word.specs.Matching.{part_matches}
 use Rattle.tm_pattern.proofs.PlaceLaws.{first-place}
 use Rattle.tm_pattern.proofs.part.matches_by_places.Goals as goal

@@ -1,4 +1,4 @@
-use Rattle.std.proofs.Common.{◌≡◌, [], length, drop, sym, ◌∙◌, arith}
+use Rattle.std.proofs.Common.{◌≡◌, [], drop, sym, ◌∙◌, arith}
 use Rattle.std.proofs.lemmas.List.{drop_all}
 use Rattle.tm_pattern.proofs.PlaceLaws.{part-more, part-last}
 use Rattle.tm_pattern.proofs.part.matches_from.Goals as goal
