@@ -5,7 +5,7 @@
 
 ghost use Rattle.std.specs.Prelude.{◌≡◌, ◌+◌, ◌-◌, ◌<◌, ◌≤◌, ◌==◌, ℕ, List, [], ◌∷◌, ◌++◌, length, Bool, true, not, ◌&&◌, ◌||◌, ◌↔◌, codes, false, Some, None, Ok, Err, MatchOption, IfOk, IsTrue};
 ghost use Rattle.std.specs.List.{position, slice_split, suffix_len, list_any};
-ghost use Rattle.tm_rules.specs.Words.{Text};
+ghost use Rattle.tm_word.specs.Words.{Text};
 ghost use Rattle.tm_rules.specs.Equality.{texts_equal};
 ghost use Rattle.tm_rules.specs.Policy.{namespace_word, last_word};
 ghost use Rattle.tm_rules.specs.Transition.{child_name, initial_name, root_name, is_namespace_word, is_domain_name};
