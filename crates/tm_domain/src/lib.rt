@@ -358,7 +358,7 @@ mod tests {
             "<kernel>",
             "<kernel> /sbin/init",
             "</usr/sbin/sshd>",
-            "</\\*> /a\\{b\\}/",
+            "</\\*> /\\{b\\}/",
             "</a>b> /x",
             "</>",
             "<kernel> / /",
