@@ -1,17 +1,16 @@
 -- Domain names and their words.
-use Rattle.std.proofs.Common.{◌≡◌, ℕ, suc, ◌+◌, ◌-◌, ◌<◌, ◌≤◌, ◌==◌, Bool, true, false, not, cond, nat_le, ◌&&◌, ◌||◌, List, [], ◌∷◌, ◌++◌, length, get_or, take, drop, Option, Some, None, Result, Ok, Err, refl, sym, ap, subst, ◌∙◌, arith, eq-eqb, drop-cons, length-append}
+use Rattle.std.proofs.Common.{◌≡◌, ℕ, suc, ◌+◌, ◌-◌, ◌<◌, ◌≤◌, ◌==◌, Bool, true, false, not, cond, nat_le, ◌&&◌, ◌||◌, List, [], ◌∷◌, ◌++◌, length, get_or, take, drop, Option, Some, None, Ok, Err, refl, sym, ap, subst, ◌∙◌, arith, eq-eqb, drop-cons, length-append}
 use Rattle.std.specs.Prelude.{codes}
 use Rattle.std.proofs.Math.Seq.{drop-length}
 use Rattle.std.proofs.lemmas.List.{take-append-drop}
 use Rattle.std.proofs.lemmas.List.Sums.{suffix_len_is}
-use Rattle.std.specs.List.{slice_split, list_all, list_any, position_from, suffix_len}
-use Rattle.std.proofs.lemmas.Bool.{eqb-true, ne_eqb}
+use Rattle.std.specs.List.{slice_split, list_all, list_any, suffix_len}
+use Rattle.std.proofs.lemmas.Bool.{eqb-true}
 use Rattle.tm_word.specs.Words.{Text}
 use Rattle.tm_rules.specs.Equality.{texts_equal}
 use Rattle.tm_rules.specs.Transition.{is_namespace_word, is_domain_name, root_name}
-use Rattle.tm_domain.specs.declared.DomainFault.{DomainFault}
-use Rattle.tm_domain.specs.declared.DomainFault.TheVariants.{NoNamespace, BadPath, TooLong, NoMemory}
-use Rattle.tm_domain.specs.Names.{is_path, bad_path, short_name, paths_or_fault, domain_at, domain_of, is_read}
+use Rattle.tm_domain.specs.declared.DomainFault.TheVariants.{NoNamespace, TooLong}
+use Rattle.tm_domain.specs.Names.{is_path, bad_path, paths_or_fault, domain_at, domain_of, is_read}
 
 -- ---- equal texts
 

@@ -47,6 +47,7 @@ impl<T: Drop> From<AllocFailed<T>> for DomainFault {
     }
 }
 
+/// Whether a text begins with `/`.
 fn begins_with_slash(text: &[u8]) -> bool
     ensures { result ≡ begins_with_slash text.now }
 {
@@ -242,6 +243,7 @@ pub fn namespace(name: &DomainName) -> &[u8]
     }
 }
 
+/// A name, a space and a path.
 fn joined(alloc: Global, front: &[u8], path: &[u8]) -> Result<Seq<u8>, NoMemory>
     ensures { IfOk result (λ made. made ≡ child_name front.now path.now) }
 {
@@ -251,6 +253,7 @@ fn joined(alloc: Global, front: &[u8], path: &[u8]) -> Result<Seq<u8>, NoMemory>
     Ok(Seq::from_vec(made))
 }
 
+/// A path in angle brackets.
 fn bracketed(alloc: Global, path: &[u8]) -> Result<Seq<u8>, NoMemory>
     ensures { IfOk result (λ made. made ≡ root_name path.now) }
 {
