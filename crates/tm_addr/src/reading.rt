@@ -3,7 +3,7 @@ ghost use Rattle.std.specs.Prelude.{◌≡◌, ◌+◌, ◌-◌, ◌*◌, ◌<�
 ghost use Rattle.std.specs.List.{list_any, position, slice_split};
 ghost use Rattle.tm_addr.specs.Reading.{octet_by, octet_of, quad_of, v4_of, group_of, no_groups, with_group, with_quad, last_of, groups_after, few, side_of, is_gap, gap_at, whole, around, v6_of, addr_of, single, same_family, ends_of, range_of};
 ghost use Rattle.tm_number.specs.Addresses.{addr_le};
-ghost use Rattle.tm_addr.specs.Printing.{IsAddr, addr_spelling, addr_range_spelling};
+ghost use Rattle.tm_addr.specs.Printing.{IsAddr, addr_spelling, addr_range_spelling, zeros, run, longest};
 ghost use Rattle.tm_number.specs.declared.Addr.{Addr};
 ghost use Rattle.tm_number.specs.declared.AddrRange.{AddrRange};
 
@@ -365,5 +365,8 @@ pub fn read_addr_range(text: &[u8]) -> Result<AddrRange, AddrFault>
 /// A law, nothing to run: what is written is read again as the value written.
 pub fn round_trip()
     ensures addr { (a : Addr) → IsAddr a → addr_of (addr_spelling a) ≡ Ok a }
+    // The run of zero groups that `::` stands for is the longest, and the first of equal ones.
+    ensures longest { (gs : List ℕ) (k : ℕ) → zeros (drop k gs) ≤ (longest (run 0 0) 0 gs).length }
+    ensures first { (gs : List ℕ) (k : ℕ) → k < (longest (run 0 0) 0 gs).place → zeros (drop k gs) < (longest (run 0 0) 0 gs).length }
     ensures range { (r : AddrRange) → IsAddr r.low → IsAddr r.high → addr_le r.low r.high ≡ true → range_of (addr_range_spelling r) ≡ Ok r }
 {}

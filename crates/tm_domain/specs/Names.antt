@@ -1,12 +1,13 @@
 -- texts of domain names: what reading gives, and the names that are made from names
-use Rattle.std.specs.Prelude.{◌≡◌, ℕ, ◌+◌, ◌==◌, nat_le, Bool, true, false, ◌&&◌, not, if◌then◌else◌, List, [], ◌∷◌, length, Option, Some, None, unwrap_or, Result, Ok, Err}
+use Rattle.std.specs.Prelude.{◌≡◌, ℕ, ◌==◌, nat_le, Bool, true, false, ◌&&◌, not, if◌then◌else◌, List, [], ◌∷◌, length, Option, Some, None, unwrap_or, Result, Ok, Err}
 use Rattle.std.specs.List.{position_from, slice_split}
 use Rattle.tm_word.specs.declared.Component.{Component}
 use Rattle.tm_pattern.specs.declared.reading.PatternFault.{PatternFault}
 use Rattle.tm_pattern.specs.Reading.{pattern_of}
 use Rattle.tm_types.specs.declared.entry.Prefer.{Prefer}
-use Rattle.tm_rules.specs.Words.{Text, DomainName}
-use Rattle.tm_rules.specs.Transition.{Decision, By_preference, target_name, has_parent, parent_name, is_namespace_word}
+use Rattle.tm_word.specs.Words.{Text}
+use Rattle.tm_rules.specs.Words.{DomainName}
+use Rattle.tm_rules.specs.Transition.{By_preference, target_name, has_parent, parent_name, is_namespace_word}
 use Rattle.tm_domain.specs.declared.DomainFault.{DomainFault}
 use Rattle.tm_domain.specs.declared.DomainFault.TheVariants.{NoNamespace, BadPath, TooLong, NoMemory}
 

@@ -5,7 +5,7 @@
 
 ghost use Rattle.std.specs.Prelude.{◌≡◌, ◌+◌, ◌-◌, ◌<◌, ◌≤◌, ◌==◌, ℕ, List, [], ◌∷◌, ◌++◌, length, Bool, true, not, ◌&&◌, ◌||◌, ◌↔◌, codes, false, Some, None, Ok, Err, MatchOption, IfOk, IsTrue};
 ghost use Rattle.std.specs.List.{position, slice_split, suffix_len, list_any};
-ghost use Rattle.tm_rules.specs.Words.{Text};
+ghost use Rattle.tm_word.specs.Words.{Text};
 ghost use Rattle.tm_rules.specs.Equality.{texts_equal};
 ghost use Rattle.tm_rules.specs.Policy.{namespace_word, last_word};
 ghost use Rattle.tm_rules.specs.Transition.{child_name, initial_name, root_name, is_namespace_word, is_domain_name};
@@ -16,7 +16,7 @@ use std::alloc::{AllocError, AllocFailed, Global};
 use tm_list::{Copied, NoMemory, Seq};
 use tm_pattern::{PatternFault, read_pattern};
 use tm_types::entry::Prefer;
-use tm_types::policy::DomainName;
+use tm_types::unions::DomainName;
 
 /// Why a text is no domain name. The faults of the words come in their order, and the length last.
 #[derive(Clone, Copy, PartialEq, Eq, Debug)]
@@ -47,6 +47,7 @@ impl<T: Drop> From<AllocFailed<T>> for DomainFault {
     }
 }
 
+/// Whether a text begins with `/`.
 fn begins_with_slash(text: &[u8]) -> bool
     ensures { result ≡ begins_with_slash text.now }
 {
@@ -94,16 +95,26 @@ fn is_namespace_word(alloc: Global, word: &[u8]) -> Result<bool, NoMemory>
             if is_path(alloc, inner)? {
                 Ok(true)
             } else {
-                Ok(is_kernel(inner))
+                Ok(is_text(inner, b"kernel"))
             }
         }
     }
 }
 
-fn is_kernel(word: &[u8]) -> bool
-    ensures { result ≡ texts_equal word.now (codes "kernel") }
+/// Whether two texts are equal.
+fn is_text(word: &[u8], text: &[u8]) -> bool
+    ensures { result ≡ texts_equal word.now text.now }
 {
-    matches!(word, [b'k', b'e', b'r', b'n', b'e', b'l'])
+    match word {
+        [] => match text {
+            [] => true,
+            [_, ..] => false,
+        },
+        [a, word @ ..] => match text {
+            [] => false,
+            [b, text @ ..] => *a == *b && is_text(word, text),
+        },
+    }
 }
 
 /// Where the first space stands.
@@ -232,6 +243,7 @@ pub fn namespace(name: &DomainName) -> &[u8]
     }
 }
 
+/// A name, a space and a path.
 fn joined(alloc: Global, front: &[u8], path: &[u8]) -> Result<Seq<u8>, NoMemory>
     ensures { IfOk result (λ made. made ≡ child_name front.now path.now) }
 {
@@ -241,6 +253,7 @@ fn joined(alloc: Global, front: &[u8], path: &[u8]) -> Result<Seq<u8>, NoMemory>
     Ok(Seq::from_vec(made))
 }
 
+/// A path in angle brackets.
 fn bracketed(alloc: Global, path: &[u8]) -> Result<Seq<u8>, NoMemory>
     ensures { IfOk result (λ made. made ≡ root_name path.now) }
 {
@@ -322,3 +335,137 @@ pub fn grammar()
     ensures same { (text name : List ℕ) → domain_of text ≡ Ok name → name ≡ text }
     ensures right { (text : List ℕ) → is_domain_name is_path text ≡ is_read (domain_of text) }
 {}
+
+#[cfg(test)]
+mod tests {
+    use super::*;
+    use tm_list::Same;
+
+    /// A namespace word and one path, so many bytes long in all.
+    fn long_name(alloc: Global, length: usize) -> Result<DomainName, NoMemory> {
+        let mut text = Vec::from_slice(alloc, b"<kernel> /")?;
+        for _ in 10..length {
+            text.push(b'a')?;
+        }
+        Ok(Seq::from_vec(text))
+    }
+
+    fn name(alloc: Global, text: &str) -> Result<DomainName, NoMemory> {
+        Seq::from_bytes(alloc, text.as_bytes())
+    }
+
+    #[test]
+    fn names_read(rt: HostRuntime) -> Result<(), DomainFault> {
+        let alloc = rt.alloc();
+        for text in [
+            "<kernel>",
+            "<kernel> /sbin/init",
+            "</usr/sbin/sshd>",
+            "</\\*> /\\{b\\}/",
+            "</a>b> /x",
+            "</>",
+            "<kernel> / /",
+        ] {
+            let read = read_domain(alloc, text.as_bytes())?;
+            assert_eq!(rt; read.bytes(), text.as_bytes(), "at {text}");
+        }
+        for (text, fault) in [
+            ("", DomainFault::NoNamespace),
+            ("kernel", DomainFault::NoNamespace),
+            ("<>", DomainFault::NoNamespace),
+            ("<a>", DomainFault::NoNamespace),
+            ("<", DomainFault::NoNamespace),
+            ("/a", DomainFault::NoNamespace),
+            ("</\\q> x", DomainFault::NoNamespace),
+            ("<kernel> x", DomainFault::BadPath(1)),
+            ("<kernel>  /a", DomainFault::BadPath(1)),
+            ("<kernel> /a /\\q b", DomainFault::BadPath(2)),
+            ("<kernel> /a ", DomainFault::BadPath(2)),
+            ("<kernel> /a <kernel>", DomainFault::BadPath(2)),
+        ] {
+            match read_domain(alloc, text.as_bytes()) {
+                Ok(_) => assert!(rt; false, "read: {text}"),
+                Err(found) => assert_eq!(rt; found, fault, "at {text}"),
+            }
+        }
+        Ok(())
+    }
+
+    #[test]
+    fn longest_names(rt: HostRuntime) -> Result<(), DomainFault> {
+        let alloc = rt.alloc();
+        let parent = long_name(alloc, 4082)?;
+        let made = child(alloc, &parent, b"/b")?;
+        assert_eq!(rt; made.len(), 4085);
+        let read = read_domain(alloc, made.bytes())?;
+        assert!(rt; read.same(&made));
+        match child(alloc, &parent, b"/bc") {
+            Ok(_) => assert!(rt; false, "a name of 4,086 bytes is made"),
+            Err(fault) => assert_eq!(rt; fault, DomainFault::TooLong),
+        }
+        match child(alloc, &parent, b"bc") {
+            Ok(_) => assert!(rt; false, "a name with a word that is no path is made"),
+            Err(fault) => assert_eq!(rt; fault, DomainFault::BadPath(2)),
+        }
+        Ok(())
+    }
+
+    #[test]
+    fn words_of_names(rt: HostRuntime) -> Result<(), DomainFault> {
+        let alloc = rt.alloc();
+        for (text, first, last, above) in [
+            ("<kernel>", "<kernel>", "<kernel>", ""),
+            ("<kernel> /a", "<kernel>", "/a", "<kernel>"),
+            ("</s> /a /b/c", "</s>", "/b/c", "</s> /a"),
+        ] {
+            let domain = name(alloc, text)?;
+            assert_eq!(rt; namespace(&domain), first.as_bytes(), "at {text}");
+            assert_eq!(rt; last_word(&domain), last.as_bytes(), "at {text}");
+            match parent(alloc, &domain)? {
+                Some(found) => assert_eq!(rt; found.bytes(), above.as_bytes(), "at {text}"),
+                None => assert_eq!(rt; above, "", "at {text}"),
+            }
+        }
+        Ok(())
+    }
+
+    #[test]
+    fn names_made_from_names(rt: HostRuntime) -> Result<(), DomainFault> {
+        let alloc = rt.alloc();
+        let domain = name(alloc, "</s> /a")?;
+        assert_eq!(rt;
+            child(alloc, &domain, b"/b")?.bytes(),
+            b"</s> /a /b".as_slice()
+        );
+        assert_eq!(rt;
+            initial(alloc, &domain, b"/b")?.bytes(),
+            b"</s> /b".as_slice()
+        );
+        assert_eq!(rt; root(alloc, b"/b")?.bytes(), b"</b>".as_slice());
+        for (prefer, target) in [
+            (Prefer::Keep, "</s> /a"),
+            (Prefer::Child, "</s> /a /b"),
+            (Prefer::Initialize, "</s> /b"),
+            (Prefer::Reset, "</b>"),
+            (Prefer::Parent, "</s>"),
+            (Prefer::Path(name(alloc, "/p")?), "</s> /a /p"),
+            (Prefer::Domain(name(alloc, "<kernel> /k")?), "<kernel> /k"),
+        ] {
+            assert_eq!(rt;
+                preferred(alloc, &domain, b"/b", &prefer)?.bytes(),
+                target.as_bytes(),
+                "at {target}"
+            );
+        }
+        let alone = name(alloc, "<kernel>")?;
+        assert_eq!(rt;
+            preferred(alloc, &alone, b"/b", &Prefer::Parent)?.bytes(),
+            b"<kernel>".as_slice()
+        );
+        match preferred(alloc, &alone, b"*", &Prefer::Reset) {
+            Ok(_) => assert!(rt; false, "a namespace word of no path is made"),
+            Err(fault) => assert_eq!(rt; fault, DomainFault::NoNamespace),
+        }
+        Ok(())
+    }
+}
