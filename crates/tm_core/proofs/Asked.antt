@@ -7,7 +7,8 @@ use Rattle.std.specs.Option.{option_map_or}
 use Rattle.std.specs.Int.Count.{ones, ones_in, ones_cat}
 use Rattle.std.proofs.lemmas.Nat.{pow_pos}
 use Rattle.std.proofs.lemmas.Bool.{and_parts}
-use Rattle.tm_rules.specs.Words.{Text, Word, Pattern, DomainName}
+use Rattle.tm_word.specs.Words.{Text, Word, Pattern}
+use Rattle.tm_rules.specs.Words.{DomainName}
 use Rattle.tm_types.specs.declared.unions.NamePlace.{NamePlace}
 use Rattle.tm_types.specs.declared.entry.Args.{Args}
 use Rattle.tm_types.specs.declared.entry.Entry.{Entry}
@@ -24,18 +25,19 @@ use Rattle.tm_types.specs.declared.step.Step.{Step}
 use Rattle.tm_types.specs.declared.verdict.Reason.{Reason}
 use Rattle.tm_types.specs.declared.verdict.Move.{Move}
 use Rattle.tm_types.specs.declared.verdict.Verdict.{Verdict}
-use Rattle.tm_core.specs.Grammar.{Grammar}
+use Rattle.tm_rules.specs.Grammar.{Grammar}
 use Rattle.tm_rules.specs.Equality.{texts_equal}
 use Rattle.tm_rules.specs.Condition.{is_execute, is_manual}
-use Rattle.tm_rules.specs.Mode.{function_of, mode_of}
-use Rattle.tm_rules.specs.Pattern.{matches, is_empty}
+use Rattle.tm_types.specs.Functions.{function_of}
+use Rattle.tm_rules.specs.Mode.{mode_of}
+use Rattle.tm_word.specs.Matching.{matches, is_empty}
 use Rattle.tm_rules.specs.Policy.{live_domain, namespace_of, namespace_named, namespace_word, empty_namespace, permission}
 use Rattle.tm_rules.specs.Search.{Granting, aggregated, path_of, first}
 use Rattle.tm_rules.specs.Transition.{Decision, is_domain_name, can_enter, decision, candidate, target_name, is_strict}
 use Rattle.tm_rules.specs.Requests.{is_request, begins_with_byte, are_literal, has_its_attributes, has_exec, has_no_exec, is_symlink, may_have}
 use Rattle.tm_rules.specs.Learned.{learned_line, line_of}
 use Rattle.tm_core.specs.Verdict.{is_enforcing, denied, made, moving, by_entry, with_line, by_mode, move_to, is_ready, manual_verdict, execute_verdict, in_mode, verdict_in, verdict}
-use Rattle.tm_core.specs.Changes.{is_task}
+use Rattle.tm_rules.specs.Changes.{is_task}
 use Rattle.tm_core.specs.Steps.{fits_entry}
 use Rattle.tm_core.specs.Legal.{steps_of_line, steps_of_move}
 use Rattle.tm_core.specs.Play.{IsGrammar}

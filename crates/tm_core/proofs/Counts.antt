@@ -9,7 +9,7 @@ use Rattle.tm_types.specs.declared.step.Reply.{Reply}
 use Rattle.tm_types.specs.declared.step.Look.{Look}
 use Rattle.tm_types.specs.declared.step.Take.{Take}
 use Rattle.tm_rules.specs.Words.{Trace}
-use Rattle.tm_core.specs.Grammar.{Grammar}
+use Rattle.tm_rules.specs.Grammar.{Grammar}
 use Rattle.tm_core.specs.Run.{History, step_at}
 use Rattle.tm_core.specs.Legal.{own_numbers, times, times_owned, is_own}
 use Rattle.tm_core.specs.Play.{Begun, Stage, Way, taken, ended_way, going_on}

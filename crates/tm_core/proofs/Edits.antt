@@ -1,10 +1,11 @@
 -- Each line of a policy file lets a sound policy evolve: domains stay with their names, and profiles stay defined.
 use Rattle.std.proofs.Common.{◌≡◌, ℕ, List, [], ◌∷◌, ◌++◌, length, Bool, true, false, true≢false, refl, sym, subst}
-use Rattle.std.specs.Prelude.{Option, Some, None, Ok, Err, Result, ◌&&◌, ◌==◌, cond, if◌then◌else◌, option_map, unwrap_or, not, IsSome, is_some, nat_lt, filter}
+use Rattle.std.specs.Prelude.{Option, Some, None, Ok, Err, Result, ◌&&◌, ◌==◌, cond, if◌then◌else◌, unwrap_or, not, IsSome, is_some, nat_lt, filter}
 use Rattle.std.specs.List.{AllByRecursion, find, list_any}
 use Rattle.std.specs.Option.{option_and_then, option_map_or}
 use Rattle.std.proofs.lemmas.Bool.{eqb-true}
-use Rattle.tm_rules.specs.Words.{Text, Word, Pattern, DomainName, Cursor}
+use Rattle.tm_word.specs.Words.{Text, Word, Pattern}
+use Rattle.tm_rules.specs.Words.{DomainName, Cursor}
 use Rattle.tm_types.specs.declared.entry.LineKind.{LineKind}
 use Rattle.tm_types.specs.declared.policy.Namespace.{Namespace}
 use Rattle.tm_types.specs.declared.policy.Domain.{Domain}
@@ -12,42 +13,44 @@ use Rattle.tm_types.specs.declared.policy.Profile.{Profile}
 use Rattle.tm_types.specs.declared.policy.Policy.{Policy}
 use Rattle.tm_types.specs.declared.policy.ProfileEffect.{ProfileEffect}
 use Rattle.tm_types.specs.declared.policy.ExceptRule.{ExceptRule}
+use Rattle.tm_types.specs.declared.entry.Entry.{Entry}
 use Rattle.tm_types.specs.declared.policy.DomainRule.{DomainRule}
+use Rattle.tm_types.specs.declared.policy.GroupLine.{GroupLine}
 use Rattle.tm_types.specs.declared.policy.ManagerRule.{ManagerRule}
 use Rattle.tm_types.specs.declared.policy.PolicyLine.{PolicyLine}
 use Rattle.tm_types.specs.declared.step.FileKind.{FileKind}
 use Rattle.tm_types.specs.declared.step.EditReply.{EditReply}
-use Rattle.tm_core.specs.Grammar.{Grammar}
+use Rattle.tm_rules.specs.Grammar.{Grammar}
 use Rattle.tm_rules.specs.Equality.{texts_equal}
 use Rattle.tm_rules.specs.Policy.{domain_at, profile_of, profile_numbered, live_domain, namespace_named, namespace_word, empty_namespace, at_key, changed_at, adding, deleting, has_part}
 use Rattle.tm_rules.specs.Requests.{begins_with_byte}
-use Rattle.tm_core.specs.Edit.{Edited, edited, refused, joining, leaving, put_key, put_member, in_namespace, changing_namespace, new_profile, on_profile, set_slot, set_config, profile_line, same_aggregator, except_added, except_removed, except_there, except_line, new_domain, on_chosen, changed_domain, removing, making_domain, choosing, selecting, dead, deleting_domain, domain_line, manager_line, apply_read, apply_parsed, apply_line}
+use Rattle.tm_rules.specs.Edit.{Edited, edited, refused, joining, leaving, put_key, remove_key, in_namespace, changing_namespace, new_profile, on_profile, set_slot, set_config, profile_line, same_aggregator, acl_group, with_group, group_line, except_added, except_removed, except_there, except_line, new_domain, on_chosen, changed_domain, removing, making_domain, choosing, selecting, dead, deleting_domain, domain_line, manager_line, apply_read, apply_parsed, apply_line}
 use Rattle.tm_core.specs.Play.{IsGrammar}
 use Rattle.tm_core.proofs.Kept.{Sound, Keeps-refl, Evolves, same-evolves, changed-evolves, made-evolves, succeeds, live_is_there, same_profile}
 
 -- Maps and lists
 
-some-cond : {A B : Type 0} (f : A → B) (c : Bool) (x : A) (o : Option A) → IsSome (option_map f o) → IsSome (option_map f (cond c (Some x) o))
-some-cond f true x o has = refl
-some-cond f false x o has = has
-
 -- a key that is there stays there
 put_key-some : {A : Type 0} (k key : ℕ) (v : A) (pairs : List (ℕ × A)) → IsSome (at_key pairs k) → IsSome (at_key (put_key key v pairs) k)
 put_key-some k key v [] has = absurd cc
-put_key-some {A} k key v (pair ∷ pairs) has = go (pair.0 == key) refl (nat_lt key pair.0) (put_key-some k key v pairs)
+put_key-some {A} k key v (pair ∷ pairs) has = go (nat_lt pair.0 key) (pair.0 == key) refl (put_key-some k key v pairs)
   where
-    here : (c : Bool) → (pair.0 == k) ≡ c → pair.0 ≡ key → IsSome (option_map (λ (p : ℕ × A). p.1) (cond c (Some pair) (find (λ (p : ℕ × A). p.0 == k) pairs))) → IsSome (at_key ((key, v) ∷ pairs) k)
-    here true e same has = rw (← same) (rw e refl)
-    here false e same has = some-cond (λ (p : ℕ × A). p.1) (key == k) (key, v) (find (λ (p : ℕ × A). p.0 == k) pairs) has
+    front : (c : Bool) (o : Option A) → IsSome o → IsSome (if c then Some v else o)
+    front true o had = refl
+    front false o had = had
 
-    later : (c : Bool) → IsSome (option_map (λ (p : ℕ × A). p.1) (cond c (Some pair) (find (λ (p : ℕ × A). p.0 == k) pairs))) → (IsSome (at_key pairs k) → IsSome (at_key (put_key key v pairs) k)) → IsSome (option_map (λ (p : ℕ × A). p.1) (cond c (Some pair) (find (λ (p : ℕ × A). p.0 == k) (put_key key v pairs))))
+    later : (c : Bool) → IsSome (if c then Some pair.1 else at_key pairs k) → (IsSome (at_key pairs k) → IsSome (at_key (put_key key v pairs) k)) → IsSome (if c then Some pair.1 else at_key (put_key key v pairs) k)
     later true had ih = refl
     later false had ih = ih had
 
-    go : (b : Bool) → (pair.0 == key) ≡ b → (l : Bool) → (IsSome (at_key pairs k) → IsSome (at_key (put_key key v pairs) k)) → IsSome (at_key (if b then (key, v) ∷ pairs else (if l then (key, v) ∷ pair ∷ pairs else pair ∷ put_key key v pairs)) k)
-    go true e l ih = here (pair.0 == k) refl (eqb-true pair.0 key e) has
-    go false e true ih = some-cond (λ (p : ℕ × A). p.1) (key == k) (key, v) (find (λ (p : ℕ × A). p.0 == k) (pair ∷ pairs)) has
-    go false e false ih = later (pair.0 == k) has ih
+    here : (c : Bool) → (pair.0 == k) ≡ c → pair.0 ≡ key → IsSome (if c then Some pair.1 else at_key pairs k) → IsSome (at_key ((key, v) ∷ pairs) k)
+    here true e same had = rw (← same) (rw e refl)
+    here false e same had = front (key == k) (at_key pairs k) had
+
+    go : (l : Bool) (b : Bool) → (pair.0 == key) ≡ b → (IsSome (at_key pairs k) → IsSome (at_key (put_key key v pairs) k)) → IsSome (at_key (if l then pair ∷ put_key key v pairs else (if b then (key, v) ∷ pairs else (key, v) ∷ pair ∷ pairs)) k)
+    go true b e ih = later (pair.0 == k) has ih
+    go false true e ih = here (pair.0 == k) refl (eqb-true pair.0 key e) has
+    go false false e ih = front (key == k) (at_key (pair ∷ pairs) k) has
 
 -- what a list keeps as members join and leave
 All-joining : {A : Type 0} (P : A → Type 0) (same : A → A → Bool) (x : A) (xs : List A) → P x → AllByRecursion P xs → AllByRecursion P (joining same x xs)
@@ -182,6 +185,19 @@ unfolding except_line
 except-evolves p cursor false name rule path sound = namespace-evolves p name (except_added rule) (added-mild rule (path refl)) sound
 except-evolves p cursor true name rule path sound = by_test p (except_there rule (namespace_named p name)) _ _ (namespace-evolves p name (except_removed rule) (removed-mild rule) sound) (stays p sound)
 
+-- an ACL group's lines are no part of it
+with_group-mild : (n : ℕ) (entries : Namespace → List Entry) → Mild (λ ns. with_group n (entries ns) ns)
+with_group-mild n entries = record { name = λ ns. refl; profiles = λ ns k has. has; aggregators = λ ns all. all }
+
+group-evolves : (p : Policy) (cursor : Cursor) (line : GroupLine) → Sound p → Evolves_by p (group_line p cursor line)
+unfolding group_line
+group-evolves p cursor line sound =
+    by_test p line.delete _ _
+    (by_test p (has_part line.entry (acl_group (namespace_named p line.namespace) line.group)) _ _
+    (namespace-evolves p line.namespace (λ ns. with_group line.group (deleting line.entry (acl_group ns line.group)) ns) (with_group-mild line.group (λ ns. deleting line.entry (acl_group ns line.group))) sound)
+    (stays p sound))
+    (namespace-evolves p line.namespace (λ ns. with_group line.group (adding line.entry (acl_group ns line.group)) ns) (with_group-mild line.group (λ ns. adding line.entry (acl_group ns line.group))) sound)
+
 -- Domain lines
 
 -- a change of a domain that is there
@@ -253,8 +269,8 @@ module _ (p : Policy) (cursor : Cursor) (sound : Sound p) where
   domain-evolves (DomainRule.Select name) = selecting-evolves name
   domain-evolves (DomainRule.Delete name) = deleting-evolves name
   domain-evolves (DomainRule.UseProfile n) = chosen-evolves p cursor _ (profile-evolves n) sound
-  domain-evolves (DomainRule.UseGroup false n) = chosen-evolves p cursor _ (head-stays (λ x. record x { groups = put_member n x.groups }) (λ x. refl) (λ x. refl) (λ x. refl)) sound
-  domain-evolves (DomainRule.UseGroup true n) = chosen-evolves p cursor _ (removing-stays (λ x. list_any (λ m. m == n) x.groups) (λ x. record x { groups = leaving (λ a b. a == b) n x.groups }) (λ x. refl) (λ x. refl) (λ x. refl)) sound
+  domain-evolves (DomainRule.UseGroup false n) = chosen-evolves p cursor _ (head-stays (λ x. record x { groups = put_key n tt x.groups }) (λ x. refl) (λ x. refl) (λ x. refl)) sound
+  domain-evolves (DomainRule.UseGroup true n) = chosen-evolves p cursor _ (removing-stays (λ x. is_some (at_key x.groups n)) (λ x. record x { groups = remove_key n x.groups }) (λ x. refl) (λ x. refl) (λ x. refl)) sound
   domain-evolves (DomainRule.QuotaExceeded false) = chosen-evolves p cursor _ (head-stays (λ x. record x { quota_exceeded = true }) (λ x. refl) (λ x. refl) (λ x. refl)) sound
   domain-evolves (DomainRule.QuotaExceeded true) = chosen-evolves p cursor _ (removing-stays (λ x. x.quota_exceeded) (λ x. record x { quota_exceeded = false }) (λ x. refl) (λ x. refl) (λ x. refl)) sound
   domain-evolves (DomainRule.TransitionFailed false) = chosen-evolves p cursor _ (head-stays (λ x. record x { transition_failed = true }) (λ x. refl) (λ x. refl) (λ x. refl)) sound
@@ -288,5 +304,6 @@ line-evolves g p file cursor line grammar sound = go (g.read_line file line) ref
     go (Ok PolicyLine.Nothing) e = stays p sound
     go (Ok (PolicyLine.Profile effect)) e = namespace-evolves p effect.namespace (profile_line effect.effect) (profile_line-mild effect.effect) sound
     go (Ok (PolicyLine.Exception rule)) e = except-evolves p cursor rule.delete rule.namespace rule.rule (path_rule g grammar file line rule.namespace rule.delete rule.rule e) sound
+    go (Ok (PolicyLine.Group line)) e = group-evolves p cursor line sound
     go (Ok (PolicyLine.Domain rule)) e = domain-evolves p cursor sound rule
     go (Ok (PolicyLine.Manager delete rule)) e = manager-evolves p cursor sound delete rule

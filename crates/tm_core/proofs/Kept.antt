@@ -4,7 +4,8 @@ use Rattle.std.specs.Prelude.{Option, Some, None, ◌&&◌, ◌==◌, cond, slic
 use Rattle.std.specs.List.{AllByRecursion, position_from}
 use Rattle.std.specs.Option.{option_map_or}
 use Rattle.std.proofs.lemmas.Bool.{eqb-true, and_parts}
-use Rattle.tm_rules.specs.Words.{Text, Word, Pattern, DomainName}
+use Rattle.tm_word.specs.Words.{Text, Word, Pattern}
+use Rattle.tm_rules.specs.Words.{DomainName}
 use Rattle.tm_types.specs.declared.entry.Entry.{Entry}
 use Rattle.tm_types.specs.declared.policy.Namespace.{Namespace}
 use Rattle.tm_types.specs.declared.policy.Domain.{Domain}
@@ -14,13 +15,13 @@ use Rattle.tm_types.specs.declared.step.Step.{Step}
 use Rattle.tm_types.specs.declared.step.Reply.{Reply}
 use Rattle.tm_types.specs.declared.step.LearnReply.{LearnReply}
 use Rattle.tm_types.specs.declared.step.MakeReply.{MakeReply}
-use Rattle.tm_core.specs.Grammar.{Grammar}
+use Rattle.tm_rules.specs.Grammar.{Grammar}
 use Rattle.tm_rules.specs.Equality.{texts_equal}
 use Rattle.tm_rules.specs.Policy.{changed_at, domain_at, profile_of, live_domain, namespace_named, namespace_word}
 use Rattle.tm_rules.specs.Requests.{begins_with_byte}
 use Rattle.tm_rules.specs.Transition.{is_domain_name}
-use Rattle.tm_core.specs.Edit.{new_domain}
-use Rattle.tm_core.specs.Changes.{learned_domain, learn_reply, learn, made_new, make, fail}
+use Rattle.tm_rules.specs.Edit.{new_domain}
+use Rattle.tm_rules.specs.Changes.{learned_domain, learn_reply, learn, made_new, make, fail}
 use Rattle.tm_core.specs.Steps.{State, Applied, apply, on_policy, fits_entry}
 use Rattle.tm_core.specs.Legal.{made_number}
 

@@ -3,7 +3,8 @@ use Rattle.std.proofs.Common.{◌≡◌, ◌≤◌, ℕ, zero, suc, List, [], �
 use Rattle.std.specs.Prelude.{Option, Some, None, slice_get, slice_set, if◌then◌else◌, ◌==◌, ◌||◌, unwrap_or, not, nat_lt, nat_le}
 use Rattle.std.specs.Option.{option_map_or}
 use Rattle.std.proofs.lemmas.Bool.{eqb-true, le-leb, lt-ltb}
-use Rattle.tm_rules.specs.Words.{Text, Cursor}
+use Rattle.tm_word.specs.Words.{Text}
+use Rattle.tm_rules.specs.Words.{Cursor}
 use Rattle.tm_types.specs.declared.policy.Policy.{Policy}
 use Rattle.tm_types.specs.declared.step.FileKind.{FileKind}
 use Rattle.tm_types.specs.declared.step.Step.{Step}
@@ -13,10 +14,10 @@ use Rattle.tm_types.specs.declared.step.Editor.{Editor}
 use Rattle.tm_types.specs.declared.step.Held.{Held}
 use Rattle.tm_types.specs.declared.step.Answered.{Answered}
 use Rattle.tm_types.specs.declared.step.AnswerFault.{AnswerFault}
-use Rattle.tm_core.specs.Grammar.{Grammar}
+use Rattle.tm_rules.specs.Grammar.{Grammar}
 use Rattle.tm_rules.specs.Policy.{changed_at}
-use Rattle.tm_core.specs.Edit.{Edited, apply_line, put_member}
-use Rattle.tm_core.specs.Changes.{is_manager}
+use Rattle.tm_rules.specs.Edit.{Edited, apply_line, put_member}
+use Rattle.tm_rules.specs.Changes.{is_manager}
 use Rattle.tm_core.specs.Queries.{Standing, Queries, numbered, ask, answer, answer_coded, answer_fault, with_answer, attach, detach, closed}
 use Rattle.tm_core.specs.Steps.{State, Applied, apply, edit_step}
 use Rattle.tm_core.specs.Play.{IsGrammar}

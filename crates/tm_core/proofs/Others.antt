@@ -4,7 +4,7 @@ use Rattle.std.specs.Prelude.{Option, Some, None, slice_get, slice_set, if◌the
 use Rattle.std.specs.List.{AllByRecursion, list_any, list_all, find}
 use Rattle.std.specs.Option.{option_and_then, option_map_or}
 use Rattle.std.proofs.lemmas.Bool.{eqb-true, ltb-true, and_parts}
-use Rattle.tm_rules.specs.Words.{Text}
+use Rattle.tm_word.specs.Words.{Text}
 use Rattle.tm_types.specs.declared.step.FileKind.{FileKind}
 use Rattle.tm_types.specs.declared.step.Step.{Step}
 use Rattle.tm_types.specs.declared.step.Reply.{Reply}
@@ -13,7 +13,7 @@ use Rattle.tm_types.specs.declared.step.Answer.{Answer}
 use Rattle.tm_types.specs.declared.step.Answered.{Answered}
 use Rattle.tm_types.specs.declared.step.BookRule.{BookRule}
 use Rattle.tm_types.specs.declared.step.Book.{Book}
-use Rattle.tm_core.specs.Grammar.{Grammar}
+use Rattle.tm_rules.specs.Grammar.{Grammar}
 use Rattle.tm_rules.specs.Policy.{changed_at}
 use Rattle.tm_rules.specs.Book.{book_answer, rule_answer, rule_matches, code_of}
 use Rattle.tm_core.specs.Queries.{Standing, first_unanswered, answer_coded, closed}

@@ -2,7 +2,7 @@
 use Rattle.std.proofs.Common.{◌≡◌, ◌≤◌, ◌<◌, ℕ, zero, suc, ◌+◌, ◌*◌, List, [], ◌∷◌, ◌++◌, length, Bool, true, false, refl, ◌∙◌, arith, mul-suc}
 use Rattle.std.specs.Prelude.{Option, Some, None, slice_get, slice_set, if◌then◌else◌, ◌||◌, is_some}
 use Rattle.std.specs.List.{AllByRecursion, list_any}
-use Rattle.tm_rules.specs.Words.{Text}
+use Rattle.tm_word.specs.Words.{Text}
 use Rattle.tm_types.specs.declared.step.FileKind.{FileKind}
 use Rattle.tm_types.specs.declared.policy.Policy.{Policy}
 use Rattle.tm_types.specs.declared.request.Item.{Item}
@@ -10,7 +10,7 @@ use Rattle.tm_types.specs.declared.step.Step.{Step}
 use Rattle.tm_types.specs.declared.step.Reply.{Reply}
 use Rattle.tm_types.specs.declared.step.Answered.{Answered}
 use Rattle.tm_types.specs.declared.step.Book.{Book}
-use Rattle.tm_core.specs.Grammar.{Grammar}
+use Rattle.tm_rules.specs.Grammar.{Grammar}
 use Rattle.tm_core.specs.Queries.{Standing}
 use Rattle.tm_core.specs.Steps.{State, apply}
 use Rattle.tm_core.specs.Run.{History, Situations, step_at, do_pids, with_situation, with_ids, forked, places}

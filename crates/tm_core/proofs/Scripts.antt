@@ -4,12 +4,12 @@ use Rattle.std.specs.Prelude.{Some, None, slice_get, slice_set, if◌then◌else
 use Rattle.std.specs.List.{AllByRecursion}
 use Rattle.std.proofs.lemmas.List.Elements.{filter_map-append}
 use Rattle.std.proofs.lemmas.Bool.{eq-eqb, ne_eqb, cases_lt}
-use Rattle.tm_rules.specs.Words.{Text}
+use Rattle.tm_word.specs.Words.{Text}
 use Rattle.tm_types.specs.declared.step.FileKind.{FileKind}
 use Rattle.tm_types.specs.declared.step.Step.{Step}
 use Rattle.tm_types.specs.declared.step.Reply.{Reply}
 use Rattle.tm_types.specs.declared.step.Editor.{Editor}
-use Rattle.tm_core.specs.Edit.{put_member}
+use Rattle.tm_rules.specs.Edit.{put_member}
 use Rattle.tm_core.specs.Run.{History}
 use Rattle.tm_core.specs.Legal.{edit_line, lines_of_editor}
 use Rattle.tm_core.specs.Play.{lines_left}

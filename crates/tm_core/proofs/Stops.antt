@@ -6,7 +6,7 @@ use Rattle.std.specs.Option.{option_and_then}
 use Rattle.std.proofs.lemmas.List.{map-append}
 use Rattle.std.proofs.lemmas.Option.{slice_get_within}
 use Rattle.std.proofs.lemmas.Bool.{cases_lt, eq-eqb}
-use Rattle.tm_rules.specs.Words.{Text}
+use Rattle.tm_word.specs.Words.{Text}
 use Rattle.tm_types.specs.declared.step.FileKind.{FileKind}
 use Rattle.tm_types.specs.declared.step.Book.{Book}
 use Rattle.tm_types.specs.declared.step.Take.{Take}

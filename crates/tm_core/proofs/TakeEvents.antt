@@ -4,7 +4,7 @@ use Rattle.std.specs.Prelude.{Option, Some, None, slice_get, slice_set, if◌the
 use Rattle.std.specs.List.{AllByRecursion, list_all}
 use Rattle.std.specs.Option.{option_map_or}
 use Rattle.std.proofs.lemmas.Bool.{and_parts}
-use Rattle.tm_rules.specs.Words.{Text}
+use Rattle.tm_word.specs.Words.{Text}
 use Rattle.tm_types.specs.declared.policy.Policy.{Policy}
 use Rattle.tm_types.specs.declared.request.Item.{Item}
 use Rattle.tm_types.specs.declared.step.Step.{Step}
@@ -13,7 +13,7 @@ use Rattle.tm_types.specs.declared.step.Held.{Held}
 use Rattle.tm_types.specs.declared.step.Answered.{Answered}
 use Rattle.tm_types.specs.declared.step.Look.{Look}
 use Rattle.tm_rules.specs.Requests.{is_request, item_is_request}
-use Rattle.tm_core.specs.Grammar.{Grammar}
+use Rattle.tm_rules.specs.Grammar.{Grammar}
 use Rattle.tm_core.specs.Queries.{Standing, first_query, first_unanswered, numbered, answer_of}
 use Rattle.tm_core.specs.Steps.{State, Applied, apply}
 use Rattle.tm_core.specs.Run.{Situations, step_at, do_pids, seen, raised}

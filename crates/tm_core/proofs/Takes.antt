@@ -21,7 +21,7 @@ use Rattle.tm_types.specs.declared.verdict.Reason.{Reason}
 use Rattle.tm_types.specs.declared.verdict.Move.{Move}
 use Rattle.tm_types.specs.declared.verdict.Verdict.{Verdict}
 use Rattle.tm_rules.specs.Requests.{is_request, item_is_request}
-use Rattle.tm_core.specs.Grammar.{Grammar}
+use Rattle.tm_rules.specs.Grammar.{Grammar}
 use Rattle.tm_core.specs.Verdict.{is_granting}
 use Rattle.tm_core.specs.Steps.{State}
 use Rattle.tm_core.specs.Audit.{audit_text}

@@ -14,7 +14,7 @@ use Rattle.tm_types.specs.declared.step.Take.{Take}
 use Rattle.tm_types.specs.declared.verdict.Verdict.{Verdict}
 use Rattle.tm_rules.specs.Requests.{is_request, item_is_request}
 use Rattle.tm_core.specs.Queries.{first_query}
-use Rattle.tm_core.specs.Edit.{put_member}
+use Rattle.tm_rules.specs.Edit.{put_member}
 use Rattle.tm_core.specs.Steps.{State, Applied, apply}
 use Rattle.tm_core.specs.Run.{History, Situation, Situations, do_pids, seen, places, Case}
 use Rattle.tm_core.specs.Legal.{Scene, subject_of, own_numbers, times, is_end, is_attach}

@@ -1,0 +1,9 @@
+pub mod Bounds
+pub mod Cuts
+pub mod Groups
+pub mod Runs
+pub mod Free
+pub mod V4Laws
+pub mod GroupLaws
+pub mod V6Laws
+pub mod AddrLaws

@@ -1,0 +1,35 @@
+-- The parts of a condition, by its right side.
+use Rattle.std.specs.Prelude.{ℕ, Bool, false, not, ◌&&◌, ◌==◌, is_some}
+use Rattle.std.specs.Bool.{beq}
+use Rattle.std.specs.Option.{option_map_or}
+use Rattle.tm_types.specs.declared.entry.Attr.{Attr}
+use Rattle.tm_types.specs.declared.entry.FileKindWord.{FileKindWord}
+use Rattle.tm_types.specs.declared.unions.Groups.{Groups}
+use Rattle.tm_types.specs.declared.unions.NameUnion.{NameUnion}
+use Rattle.tm_types.specs.declared.unions.NumberUnion.{NumberUnion}
+use Rattle.tm_types.specs.declared.request.Proc.{Proc}
+use Rattle.tm_types.specs.declared.request.Request.{Request}
+use Rattle.tm_rules.specs.Equality.{kind_place}
+use Rattle.tm_rules.specs.Group.{name_in, number_in}
+use Rattle.tm_rules.specs.Condition.{is_execute, judged, number_of, word_of, stat_kind, first_of_all}
+
+-- the attribute is a number of the argument
+abbrev pub number_holds : Groups → Proc → Request → Attr → Bool → NumberUnion → Bool
+number_holds groups process request left equal union = judged equal (number_in groups union) (number_of left process request)
+
+-- the attribute is the other attribute's number
+abbrev pub attr_holds : Proc → Request → Attr → Bool → Attr → Bool
+attr_holds process request left equal right = option_map_or (λ value. judged equal (λ own. own == value) (number_of left process request)) (number_of right process request) false
+
+-- the type of the file at a place is this word
+abbrev pub kind_of_holds : Request → Bool → FileKindWord → Attr → Bool
+kind_of_holds request equal kind (Attr.Kind place) = judged equal (λ own. kind_place own == kind_place kind) (first_of_all (stat_kind place) request.attributes.stats)
+kind_of_holds request equal kind _ = false
+
+-- the attribute is a name of the argument
+abbrev pub name_holds : Groups → Request → Attr → Bool → NameUnion → Bool
+name_holds groups request left equal union = judged equal (λ word. is_some (name_in groups union word)) (word_of left request)
+
+-- the environment of an execute has no such name
+abbrev pub null_holds : Request → Attr → Bool → Bool
+null_holds request left equal = is_execute request && beq (not (is_some (word_of left request))) equal

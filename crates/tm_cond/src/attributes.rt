@@ -1,0 +1,163 @@
+//! The attributes of a process and its request.
+ghost use Rattle.std.specs.Prelude.{◌≡◌, ℕ, List, option_map};
+ghost use Rattle.std.specs.List.{find};
+ghost use Rattle.std.specs.Option.{option_copied};
+ghost use Rattle.tm_rules.specs.Equality.{texts_equal, stat_place, field_place, kind_place};
+ghost use Rattle.tm_rules.specs.Condition.{id_of, stat_value, stat_kind, first_of_all, number_of, word_of};
+
+use tm_rules::{is_execute, texts_equal};
+use tm_types::entry::{Attr, FileKindWord, IdField, StatField, StatPlace};
+use tm_types::request::{Proc, Request, Stat};
+use tm_word::Word;
+
+// The id of a process that a condition names.
+fn id_of(field: IdField, process: &Proc) -> u32
+    ensures { result ≡ id_of field process.now }
+{
+    match field {
+        IdField::Uid => process.ids.uid,
+        IdField::Euid => process.ids.euid,
+        IdField::Suid => process.ids.suid,
+        IdField::Fsuid => process.ids.fsuid,
+        IdField::Gid => process.ids.gid,
+        IdField::Egid => process.ids.egid,
+        IdField::Sgid => process.ids.sgid,
+        IdField::Fsgid => process.ids.fsgid,
+        IdField::Pid => process.pid,
+        IdField::Ppid => process.ppid,
+    }
+}
+
+fn stat_place(place: StatPlace) -> u8
+    ensures { result ≡ stat_place place }
+{
+    place as u8
+}
+
+fn field_place(field: StatField) -> u8
+    ensures { result ≡ field_place field }
+{
+    field as u8
+}
+
+pub fn kind_place(kind: FileKindWord) -> u8
+    ensures { result ≡ kind_place kind }
+{
+    kind as u8
+}
+
+// The number that a stat has for this attribute.
+fn stat_value(stat: Stat, place: StatPlace, field: StatField) -> Option<u64>
+    ensures { result ≡ stat_value place field stat }
+{
+    match stat {
+        Stat::Number(own, own_field, value) => {
+            if stat_place(own) == stat_place(place)
+                && field_place(own_field) == field_place(field)
+            {
+                Some(value)
+            } else {
+                None
+            }
+        }
+        Stat::Kind(_, _) => None,
+    }
+}
+
+// The file type that a stat has for this place.
+fn stat_kind(stat: Stat, place: StatPlace) -> Option<FileKindWord>
+    ensures { result ≡ stat_kind place stat }
+{
+    match stat {
+        Stat::Number(_, _, _) => None,
+        Stat::Kind(own, kind) => {
+            if stat_place(own) == stat_place(place) {
+                Some(kind)
+            } else {
+                None
+            }
+        }
+    }
+}
+
+// The first recorded number for an attribute.
+fn first_number(stats: &[Stat], place: StatPlace, field: StatField) -> Option<u64>
+    ensures { result ≡ first_of_all (stat_value place field) stats.now }
+{
+    for stat in stats {
+        if let Some(value) = stat_value(*stat, place, field) {
+            return Some(value);
+        }
+    }
+    None
+}
+
+/// The first recorded file type for a place.
+pub fn first_kind(stats: &[Stat], place: StatPlace) -> Option<FileKindWord>
+    ensures { result ≡ first_of_all (stat_kind place) stats.now }
+{
+    for stat in stats {
+        if let Some(kind) = stat_kind(*stat, place) {
+            return Some(kind);
+        }
+    }
+    None
+}
+
+// The value of the first environment name that is this one.
+fn value_of<'a>(environment: &'a [(Word, Word)], name: &Word) -> Option<&'a Word>
+    ensures { option_copied result ≡ option_map (λ (pair : List ℕ × List ℕ). pair.1) (find (λ (pair : List ℕ × List ℕ). texts_equal pair.0 name.now) environment.now) }
+{
+    for (own, value) in environment {
+        if texts_equal(own, name) {
+            return Some(value);
+        }
+    }
+    None
+}
+
+/// The value of a numeric attribute, where the request has it: the ids of the process always, the numbers of arguments and
+/// environment names for an execute, a file's numbers where they are recorded.
+#[tactic(auto, unfolding(tm_rules::specs::Condition::number_of))]
+pub fn number_of(attr: &Attr, process: &Proc, request: &Request) -> Option<u64>
+    ensures { result ≡ number_of attr.now process.now request.now }
+{
+    match attr {
+        Attr::Task(field) => Some(u64::from(id_of(*field, process))),
+        Attr::Argc => {
+            if is_execute(request) {
+                Some(request.attributes().argv.len() as u64)
+            } else {
+                None
+            }
+        }
+        Attr::Envc => {
+            if is_execute(request) {
+                Some(request.attributes().envp.len() as u64)
+            } else {
+                None
+            }
+        }
+        Attr::Stat(place, field) => first_number(
+            request.attributes().stats.as_slice(),
+            *place,
+            *field,
+        ),
+        Attr::Kind(_) | Attr::Argv(_) | Attr::Envp(_) | Attr::RealPath | Attr::Target => None,
+    }
+}
+
+/// The word of a named attribute, where the request has it.
+#[tactic(auto, unfolding(tm_rules::specs::Condition::word_of))]
+pub fn word_of<'a>(attr: &Attr, request: &'a Request) -> Option<&'a Word>
+    ensures { option_copied result ≡ word_of attr.now request.now }
+{
+    let attributes = request.attributes();
+    match attr {
+        Attr::Argv(place) => attributes.argv.get(*place as usize),
+        Attr::Envp(name) => value_of(attributes.envp.as_slice(), name),
+        Attr::RealPath => attributes.real_path.as_ref(),
+        Attr::Target => attributes.target.as_ref(),
+        Attr::Task(_) | Attr::Argc | Attr::Envc | Attr::Stat(_, _) | Attr::Kind(_) => None,
+    }
+}

@@ -1,0 +1,70 @@
+-- texts of domain names: what reading gives, and the names that are made from names
+use Rattle.std.specs.Prelude.{◌≡◌, ℕ, ◌==◌, nat_le, Bool, true, false, ◌&&◌, not, if◌then◌else◌, List, [], ◌∷◌, length, Option, Some, None, unwrap_or, Result, Ok, Err}
+use Rattle.std.specs.List.{position_from, slice_split}
+use Rattle.tm_word.specs.declared.Component.{Component}
+use Rattle.tm_pattern.specs.declared.reading.PatternFault.{PatternFault}
+use Rattle.tm_pattern.specs.Reading.{pattern_of}
+use Rattle.tm_types.specs.declared.entry.Prefer.{Prefer}
+use Rattle.tm_word.specs.Words.{Text}
+use Rattle.tm_rules.specs.Words.{DomainName}
+use Rattle.tm_rules.specs.Transition.{By_preference, target_name, has_parent, parent_name, is_namespace_word}
+use Rattle.tm_domain.specs.declared.DomainFault.{DomainFault}
+use Rattle.tm_domain.specs.declared.DomainFault.TheVariants.{NoNamespace, BadPath, TooLong, NoMemory}
+
+-- what a call returned is what reading gives, unless memory ran out
+abbrev pub Fails : {Y : Type 0} → DomainFault → Result Y DomainFault → Type 0
+Fails NoMemory read = Unit {0}
+Fails fault read = read ≡ Err fault
+
+abbrev pub Gives : {Y : Type 0} → Result Y DomainFault → Result Y DomainFault → Type 0
+Gives (Ok x) read = read ≡ Ok x
+Gives (Err fault) read = Fails fault read
+
+-- the same of a call that only judges the text
+abbrev pub Judges : Text → Result (Unit {0}) DomainFault → Result Text DomainFault → Type 0
+Judges text (Ok nothing) read = read ≡ Ok text
+Judges text (Err fault) read = Fails fault read
+
+abbrev pub is_read : Result Text DomainFault → Bool
+is_read (Ok name) = true
+is_read (Err fault) = false
+
+-- a path is a pattern that begins with `/`
+abbrev pub begins_with_slash : Text → Bool
+begins_with_slash [] = false
+begins_with_slash (b ∷ text) = b == 47
+
+abbrev pub is_pattern : Result (List Component) PatternFault → Bool
+is_pattern (Ok pattern_) = true
+is_pattern (Err fault) = false
+
+unfoldable pub is_path : Text → Bool
+is_path text = begins_with_slash text && is_pattern (pattern_of text)
+
+-- the place of the first word that is no path, counted from this number
+abbrev pub bad_path : ℕ → List Text → Option ℕ
+bad_path n words = position_from (λ word. not (is_path word)) n words
+
+-- a name is at most 4,085 bytes long
+abbrev pub short_name : DomainName → Result DomainName DomainFault
+short_name name = if nat_le (length name) 4085 then Ok name else Err TooLong
+
+abbrev pub paths_or_fault : Option ℕ → DomainName → Result DomainName DomainFault
+paths_or_fault (Some n) name = Err (BadPath n)
+paths_or_fault None name = short_name name
+
+-- a namespace word and paths, joined by single spaces; the first fault of the words, then that of the length
+abbrev pub domain_at : List Text → Text → Result DomainName DomainFault
+domain_at [] text = Err NoNamespace
+domain_at (first ∷ paths) text = if is_namespace_word is_path first then paths_or_fault (bad_path 1 paths) text else Err NoNamespace
+
+unfoldable pub domain_of : Text → Result DomainName DomainFault
+domain_of text = domain_at (slice_split (λ b. b == 32) text) text
+
+-- the name without its last word; a namespace word alone has no parent
+abbrev pub parent_of : DomainName → Option DomainName
+parent_of name = if has_parent name then Some (parent_name name) else None
+
+-- where a preference leads; keep leads to the domain itself
+unfoldable pub preferred_name : DomainName → Text → Prefer → DomainName
+preferred_name name candidate prefer = unwrap_or (target_name name candidate (By_preference prefer)) name

@@ -1,0 +1,127 @@
+-- A search through one list after another.
+use Rattle.std.proofs.Common.{◌≡◌, ℕ, zero, suc, ◌+◌, ◌<◌, ◌==◌, subst, length, drop, get_or, arith, Bool, true, false, List, [], ◌∷◌, ◌++◌, refl, sym, ap, ◌∙◌}
+use Rattle.std.specs.Prelude.{Option, Some, None, option_map, unwrap_or, slice_get, flat_map, if◌then◌else◌}
+use Rattle.std.specs.Option.{option_or}
+use Rattle.std.specs.List.{AllByRecursion, find}
+use Rattle.tm_list.specs.Map.{at_rank}
+use Rattle.tm_types.specs.declared.unions.Groups.{Groups}
+use Rattle.tm_types.specs.declared.entry.Args.{Args}
+use Rattle.tm_types.specs.declared.entry.Entry.{Entry}
+use Rattle.tm_types.specs.declared.verdict.EntryPlace.{EntryPlace}
+use Rattle.tm_types.specs.declared.verdict.Found.{Found}
+use Rattle.tm_types.specs.declared.request.Proc.{Proc}
+use Rattle.tm_types.specs.declared.request.Attributes.{Attributes}
+use Rattle.tm_types.specs.declared.request.Request.{Request}
+use Rattle.tm_types.specs.Request.{argument_words}
+use Rattle.tm_rules.specs.Condition.{first_of_all, is_execute}
+use Rattle.tm_rules.specs.Few.{IsShort}
+use Rattle.tm_rules.specs.Policy.{at_key}
+use Rattle.tm_rules.specs.Search.{Granting, granting, path_of, placed, found_of}
+use Rattle.tm_policy.specs.Searching.{found_in, acl_entries}
+
+or-or : {B : Type 0} (x y z : Option B) → option_or x (option_or y z) ≡ option_or (option_or x y) z
+or-or None y z = refl
+or-or (Some x) y z = refl
+
+-- the first of two lists, one after the other
+first-append : {A B : Type 0} (f : A → Option B) (xs ys : List A) → first_of_all f (xs ++ ys) ≡ option_or (first_of_all f xs) (first_of_all f ys)
+first-append f [] ys = refl
+first-append f (x ∷ xs) ys = ap (option_or (f x)) (first-append f xs ys) ∙ or-or (f x) (first_of_all f xs) (first_of_all f ys)
+
+map-or : {A B : Type 0} (f : A → B) (x y : Option A) → option_map f (option_or x y) ≡ option_or (option_map f x) (option_map f y)
+map-or f None y = refl
+map-or f (Some x) y = refl
+
+-- what is found in the first list, else in the second
+pub found-append : (groups : Groups) (process : Proc) (request : Request) (xs ys : List (EntryPlace × Entry)) → found_in groups process request (xs ++ ys) ≡ option_or (found_in groups process request xs) (found_in groups process request ys)
+found-append groups process request xs ys =
+    ap (option_map found_of) (first-append (granting groups process request) xs ys)
+    ∙ map-or found_of (first_of_all (granting groups process request) xs) (first_of_all (granting groups process request) ys)
+
+-- each group's list is short
+pub short_group : (lists : List (ℕ × List Entry)) (group : ℕ) → AllByRecursion (λ (pair : ℕ × List Entry). IsShort pair.1) lists → (entries : List Entry) → at_key lists group ≡ Some entries → IsShort entries
+short_group [] group short entries e = absurd cc
+short_group (pair ∷ pairs) group short entries e = go (short_group pairs group short.1 entries) (pair.0 == group) refl e
+  where
+    go : (at_key pairs group ≡ Some entries → IsShort entries) → (b : Bool) → (pair.0 == group) ≡ b → (if b then Some pair.1 else at_key pairs group) ≡ Some entries → IsShort entries
+    go ih true h e = subst IsShort (let same : pair.1 ≡ entries = cc in same) short.0
+    go ih false h e = ih e
+
+-- the element at a place has what each element has
+pub each_at : {A : Type 0} (P : A → Type 0) (xs : List A) (k : ℕ) (x : A) → AllByRecursion P xs → slice_get xs k ≡ Some x → P x
+each_at P [] k x each e = absurd cc
+each_at P (y ∷ ys) zero x each e = subst P (let same : y ≡ x = cc in same) each.0
+each_at P (y ∷ ys) (suc k) x each e = each_at P ys k x each.1 e
+
+-- what is looked for and found has what each element has
+pub each_found : {A : Type 0} (P : A → Type 0) (test : A → Bool) (xs : List A) (x : A) → AllByRecursion P xs → find test xs ≡ Some x → P x
+each_found P test [] x each e = absurd cc
+each_found P test (y ∷ ys) x each e = go (each_found P test ys x each.1) (test y) refl e
+  where
+    go : (find test ys ≡ Some x → P x) → (b : Bool) → test y ≡ b → (if b then Some y else find test ys) ≡ Some x → P x
+    go ih true h e = subst P (let same : y ≡ x = cc in same) each.0
+    go ih false h e = ih e
+
+-- without ACL groups there is no entry of them
+pub no_groups : (members : List (ℕ × Unit {0})) → acl_entries [] members ≡ []
+no_groups [] = refl
+no_groups (m ∷ ms) = no_groups ms
+
+abbrev request_of : Args → ℕ → Attributes → Request
+request_of args perm attributes = record { args = args; perm = perm; attributes = attributes }
+
+first-name : (args : Args) (perm : ℕ) (attributes : Attributes) → is_execute (request_of args perm attributes) ≡ true → slice_get (argument_words args) 0 ≡ Some (path_of (request_of args perm attributes))
+first-name (Args.Path n) perm attributes h = refl
+first-name (Args.Execute n prefer) perm attributes h = absurd cc
+first-name (Args.PathNumber n k) perm attributes h = absurd cc
+first-name (Args.Device n a b c) perm attributes h = absurd cc
+first-name (Args.Path2 n m) perm attributes h = absurd cc
+first-name (Args.Mount d p k f) perm attributes h = absurd cc
+first-name (Args.Inet k a p) perm attributes h = absurd cc
+first-name (Args.Unix k n) perm attributes h = absurd cc
+first-name (Args.Env n) perm attributes h = absurd cc
+first-name (Args.Manual d) perm attributes h = absurd cc
+
+-- the first name of an execute is its path
+pub execute_path : (request : Request) → is_execute request ≡ true → slice_get (argument_words request.args) 0 ≡ Some (path_of request)
+execute_path request h = first-name request.args request.perm request.attributes h
+
+-- the groups from one on: that one's list, and then the others'
+pub found_groups : (groups : Groups) (process : Proc) (request : Request) (lists : List (ℕ × List Entry)) (member : ℕ × Unit {0}) (members : List (ℕ × Unit {0}))
+    → found_in groups process request (acl_entries lists (member ∷ members))
+    ≡ option_or (found_in groups process request (placed (EntryPlace.Acl member.0) 0 (unwrap_or (at_key lists member.0) []))) (found_in groups process request (acl_entries lists members))
+found_groups groups process request lists member members =
+    found-append groups process request (placed (EntryPlace.Acl member.0) 0 (unwrap_or (at_key lists member.0) [])) (acl_entries lists members)
+
+-- the same at a place of the members
+pub groups_from : (groups : Groups) (process : Proc) (request : Request) (lists : List (ℕ × List Entry)) (members : List (ℕ × Unit {0})) (k : ℕ) (d : ℕ × Unit {0}) → k < length members
+    → found_in groups process request (acl_entries lists (drop k members))
+    ≡ option_or (found_in groups process request (placed (EntryPlace.Acl (get_or members k d).0) 0 (unwrap_or (at_key lists (get_or members k d).0) []))) (found_in groups process request (acl_entries lists (drop (suc k) members)))
+groups_from groups process request lists [] k d less = absurd (omega (arith, less))
+groups_from groups process request lists (m ∷ ms) zero d less = found_groups groups process request lists m ms
+groups_from groups process request lists (m ∷ ms) (suc k) d less = groups_from groups process request lists ms k d (omega (arith, less))
+
+found_first : (x y : Option Found) (v : Found) → x ≡ Some v → option_or x y ≡ Some v
+found_first x y v e = rw e refl
+
+found_next : (x y : Option Found) → x ≡ None → option_or x y ≡ y
+found_next x y e = rw e refl
+
+-- what is found in the group at this place is what is found
+pub found_here : (groups : Groups) (process : Proc) (request : Request) (lists : List (ℕ × List Entry)) (members : List (ℕ × Unit {0})) (k : ℕ) (d : ℕ × Unit {0}) (r : Option Found) (v : Found) → k < length members
+    → r ≡ found_in groups process request (placed (EntryPlace.Acl (get_or members k d).0) 0 (unwrap_or (at_key lists (get_or members k d).0) [])) → r ≡ Some v
+    → found_in groups process request (acl_entries lists (drop k members)) ≡ Some v
+found_here groups process request lists members k d r v less is e = groups_from groups process request lists members k d less ∙ found_first _ _ v (sym is ∙ e)
+
+-- where nothing is found in the group at this place, the others are searched
+pub found_later : (groups : Groups) (process : Proc) (request : Request) (lists : List (ℕ × List Entry)) (members : List (ℕ × Unit {0})) (k : ℕ) (d : ℕ × Unit {0}) (r : Option Found) → k < length members
+    → r ≡ found_in groups process request (placed (EntryPlace.Acl (get_or members k d).0) 0 (unwrap_or (at_key lists (get_or members k d).0) [])) → r ≡ None
+    → found_in groups process request (acl_entries lists (drop k members)) ≡ found_in groups process request (acl_entries lists (drop (k + 1) members))
+found_later groups process request lists members k d r less is e =
+    let next : suc k ≡ k + 1 = omega arith in
+    groups_from groups process request lists members k d less ∙ found_next _ _ (sym is ∙ e) ∙ ap (λ n. found_in groups process request (acl_entries lists (drop n members))) next
+
+-- what is found in the first list is found in both; where nothing is, what the second one has
+pub found_both : (groups : Groups) (process : Proc) (request : Request) (xs ys : List (EntryPlace × Entry)) (r s : Option Found)
+    → r ≡ found_in groups process request xs → s ≡ found_in groups process request ys → option_or r s ≡ found_in groups process request (xs ++ ys)
+found_both groups process request xs ys r s e h = rw (e, h) (sym (found-append groups process request xs ys))

@@ -1,0 +1,44 @@
+-- The lines that this program doesn't play yet.
+use Rattle.std.specs.Prelude.{ℕ, ◌+◌, ◌==◌, List, [], ◌∷◌, Option, Some, None, if◌then◌else◌}
+use Rattle.tm_io.specs.declared.names.FileName.{FileName}
+use Rattle.tm_word.specs.Spelling.{is_separator}
+use Rattle.tomoyo_run.specs.Fetches.{Texts, content}
+
+-- the line that has the first byte of a word, where the text begins in this line
+abbrev pub line_with_words : ℕ → List ℕ → Option ℕ
+line_with_words line [] = None
+line_with_words line (byte ∷ bytes) =
+    if byte == 10 then line_with_words (line + 1) bytes else (if is_separator byte then line_with_words line bytes else Some line)
+
+-- the first line that isn't empty, counted from 1
+abbrev pub first_line_with_words : List ℕ → Option ℕ
+first_line_with_words text = line_with_words 1 text
+
+-- the first line that no form fits, in `profile`
+abbrev pub profile_not_built : List ℕ → Option ℕ
+profile_not_built profile = first_line_with_words profile
+
+-- the same in `domain_policy`, whose profiles `profile` defines
+abbrev pub domain_policy_not_built : List ℕ → List ℕ → Option ℕ
+domain_policy_not_built profile domain_policy = first_line_with_words domain_policy
+
+-- the same in `trace`
+abbrev pub trace_not_built : List ℕ → Option ℕ
+trace_not_built trace = first_line_with_words trace
+
+-- a line of this file, or else what the later files have
+abbrev pub line_of : FileName → Option ℕ → Option (FileName × ℕ) → Option (FileName × ℕ)
+line_of name (Some line) later = Some (name, line)
+line_of name None later = later
+
+-- the first file with a line that isn't built, and its first such line; five files are to have no line at all
+unfoldable pub first_not_built : Texts → Option (FileName × ℕ)
+first_not_built texts =
+    line_of FileName.Profile (profile_not_built (content texts FileName.Profile))
+    (line_of FileName.ExceptionPolicy (first_line_with_words (content texts FileName.ExceptionPolicy))
+    (line_of FileName.DomainPolicy (domain_policy_not_built (content texts FileName.Profile) (content texts FileName.DomainPolicy))
+    (line_of FileName.Manager (first_line_with_words (content texts FileName.Manager))
+    (line_of FileName.Trace (trace_not_built (content texts FileName.Trace))
+    (line_of FileName.Edits (first_line_with_words (content texts FileName.Edits))
+    (line_of FileName.Answers (first_line_with_words (content texts FileName.Answers))
+    (line_of FileName.Schedule (first_line_with_words (content texts FileName.Schedule)) None)))))))
