@@ -1,13 +1,11 @@
 -- There is a scene that can be played, with a supervisor: the premises of the laws of plays can be met.
-use Rattle.std.proofs.Common.{◌≡◌, ℕ, zero, suc, List, [], ◌∷◌, Bool, true, false, refl}
-use Rattle.std.specs.Prelude.{Option, Some, None, Err, IsSome}
+use Rattle.std.proofs.Common.{◌≡◌, ℕ, zero, suc, [], ◌∷◌, true, refl}
+use Rattle.std.specs.Prelude.{Some, None, Err, IsSome}
 use Rattle.tm_types.specs.declared.entry.LineKind.{LineKind}
 use Rattle.tm_types.specs.declared.policy.Domain.{Domain}
 use Rattle.tm_types.specs.declared.policy.Policy.{Policy}
 use Rattle.tm_types.specs.declared.step.Answer.{Answer}
 use Rattle.tm_types.specs.declared.step.ListWords.{ListWords}
-use Rattle.tm_types.specs.declared.step.BookRule.{BookRule}
-use Rattle.tm_types.specs.declared.step.Book.{Book}
 use Rattle.tm_rules.specs.Grammar.{Grammar}
 use Rattle.tm_rules.specs.Policy.{domain_at, profile_of}
 use Rattle.tm_rules.specs.Requests.{is_request}
