@@ -1,2 +1,3 @@
 pub mod Executes
 pub mod Lists
+pub mod Finds
