@@ -3,7 +3,10 @@
 //! Promises that a search finds the first entry that grants, and that a change is the defined one or, for want of memory, none.
 #![tactic(auto)]
 
+mod plain;
 mod rep;
 mod searching;
 
+pub use plain::Plain;
 pub use rep::Rep;
+pub use searching::search;
