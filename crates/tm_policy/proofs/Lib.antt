@@ -1,2 +1,3 @@
+pub mod Edits
 pub mod Executes
 pub mod Lists
