@@ -1,3 +1,4 @@
+pub mod Edits
 pub mod Executes
 pub mod Lists
 pub mod Finds

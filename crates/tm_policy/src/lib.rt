@@ -3,10 +3,14 @@
 //! Promises that a search finds the first entry that grants, and that a change is the defined one or, for want of memory, none.
 #![tactic(auto)]
 
+mod editing;
+mod lines;
 mod plain;
 mod rep;
 mod searching;
 
+pub use editing::{new_policy, set_opened};
+pub use lines::read_line;
 pub use plain::Plain;
 pub use rep::Rep;
 pub use searching::search;
