@@ -1,5 +1,6 @@
 -- A worked example: the text of a run with two takes.
 use Rattle.std.specs.Prelude.{◌≡◌, ℕ, Bool, true, false, List, [], ◌∷◌, ◌++◌, Some, None, codes, refl}
+use Rattle.std.specs.Fmt.{digits}
 use Rattle.tm_types.specs.declared.policy.Mode.{Mode}
 use Rattle.tm_types.specs.declared.verdict.EntryPlace.{EntryPlace}
 use Rattle.tm_types.specs.declared.verdict.Reason.{Reason}
@@ -27,5 +28,5 @@ pub two_takes
     ≡ codes "run 1\n"
     ++ codes "take 1 7 0 0 granted\nlook 0 enforcing entry:0 stay - -\naudit -\n"
     ++ codes "take 2 7 0 0 denied\nlook 0 enforcing no_entry stay - -\naudit -\n"
-unfolding run_text two take_of look_of
+unfolding run_text two take_of look_of digits
 two_takes = refl
