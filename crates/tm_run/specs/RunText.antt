@@ -1,0 +1,107 @@
+-- The text of a run.
+use Rattle.std.specs.Prelude.{ℕ, ◌+◌, Bool, true, false, List, [], ◌∷◌, ◌++◌, Option, Some, None, decimal, codes}
+use Rattle.std.specs.List.{flat_map}
+use Rattle.tm_word.specs.Words.{Text}
+use Rattle.tm_word.specs.Spelling.{spell}
+use Rattle.tm_types.specs.declared.policy.Mode.{Mode}
+use Rattle.tm_types.specs.declared.verdict.EntryPlace.{EntryPlace}
+use Rattle.tm_types.specs.declared.verdict.Reason.{Reason}
+use Rattle.tm_types.specs.declared.verdict.Move.{Move}
+use Rattle.tm_types.specs.declared.step.Answered.{Answered}
+use Rattle.tm_types.specs.declared.step.Heard.{Heard}
+use Rattle.tm_types.specs.declared.step.Look.{Look}
+use Rattle.tm_types.specs.declared.step.Take.{Take}
+use Rattle.tm_types.specs.declared.step.Run.{Run}
+
+-- a mode's word, and `none` for a manual transition
+abbrev pub mode_text : Option Mode → Text
+mode_text None = codes "none"
+mode_text (Some Mode.Disabled) = codes "disabled"
+mode_text (Some Mode.Learning) = codes "learning"
+mode_text (Some Mode.Permissive) = codes "permissive"
+mode_text (Some Mode.Enforcing) = codes "enforcing"
+
+-- an entry's place in the domain's own list, or the ACL group and the place in its list, from 0
+abbrev pub place_text : EntryPlace → Text
+place_text (EntryPlace.Own place) = codes "entry:" ++ decimal place
+place_text (EntryPlace.Acl group place) = codes "group:" ++ decimal group ++ 58 ∷ decimal place
+
+-- a reason's word; an entry has its place
+abbrev pub reason_text : Reason → Text
+reason_text (Reason.Entry place) = place_text place
+reason_text Reason.Disabled = codes "disabled"
+reason_text Reason.Permissive = codes "permissive"
+reason_text Reason.Quota = codes "quota"
+reason_text Reason.Learn = codes "learn"
+reason_text Reason.Ask = codes "ask"
+reason_text Reason.NoEntry = codes "no_entry"
+reason_text Reason.NotReady = codes "not_ready"
+reason_text Reason.NoManual = codes "no_manual"
+
+-- where the process goes; a live domain by its number
+abbrev pub move_text : Move → Text
+move_text Move.Stay = codes "stay"
+move_text (Move.Enter domain) = codes "enter:" ++ decimal domain
+move_text Move.Make = codes "make"
+move_text Move.Fail = codes "fail"
+
+-- the numbers joined by commas, and `-` for none
+abbrev pub numbers_text : List ℕ → Text
+numbers_text [] = codes "-"
+numbers_text (number ∷ others) = decimal number ++ flat_map (λ other. 44 ∷ decimal other) others
+
+-- what became of the query; `nobody` where no supervisor was attached
+abbrev pub answer_text : Option Answered → Text
+answer_text None = codes "nobody"
+answer_text (Some Answered.Yes) = codes "yes"
+answer_text (Some Answered.No) = codes "no"
+answer_text (Some Answered.Retry) = codes "retry"
+answer_text (Some Answered.Detached) = codes "detached"
+
+-- what a look learned, `@` and the version at which it did, and `-` where it asked nothing
+abbrev pub heard_text : Option Heard → Text
+heard_text None = codes "-"
+heard_text (Some heard) = answer_text heard.answer ++ 64 ∷ decimal heard.version
+
+-- the mode, the reason and the move of a look
+abbrev pub verdict_text : Look → Text
+verdict_text look = mode_text look.mode ++ 32 ∷ reason_text look.reason ++ 32 ∷ move_text look.step
+
+-- the steps that a look made itself, and what it learned
+abbrev pub learned_text : Look → Text
+learned_text look = numbers_text look.own ++ 32 ∷ heard_text look.heard
+
+-- the line of a look
+abbrev pub look_text : Look → Text
+look_text look = codes "look " ++ decimal look.version ++ 32 ∷ verdict_text look ++ 32 ∷ learned_text look ++ 10 ∷ []
+
+-- the audit text as one word, and `-` for none
+abbrev pub audit_word : Option Text → Text
+audit_word None = codes "-"
+audit_word (Some text) = spell text
+
+-- the answer that the process got
+abbrev pub granted_text : Bool → Text
+granted_text true = codes "granted"
+granted_text false = codes "denied"
+
+-- the process and the numbers of its domain before and after
+abbrev pub domains_text : Take → Text
+domains_text t = decimal t.pid ++ 32 ∷ decimal t.before ++ 32 ∷ decimal t.after
+
+-- the first line of the take with that number
+abbrev pub take_line : ℕ → Take → Text
+take_line number t = codes "take " ++ decimal number ++ 32 ∷ domains_text t ++ 32 ∷ granted_text t.granted ++ 10 ∷ []
+
+-- the lines of the take with that number: its own, its looks in order, its audit text
+abbrev pub take_text : ℕ → Take → Text
+take_text number t = take_line number t ++ flat_map look_text t.looks ++ codes "audit " ++ audit_word t.audit ++ 10 ∷ []
+
+-- the text before, and the takes after it, of which the first has the number after `count`
+abbrev pub with_takes : Text → ℕ → List Take → Text
+with_takes before count [] = before
+with_takes before count (t ∷ takes) = with_takes (before ++ take_text (count + 1) t) (count + 1) takes
+
+-- the line `run 1` and the takes in order, numbered from 1; it speaks of runs without a step, whose lines would stand between them
+unfoldable pub run_text : Run → Text
+run_text run = with_takes (codes "run 1\n") 0 run.takes
