@@ -1,7 +1,7 @@
 -- Where every mode is disabled or enforcing, every request is plain, and nobody edits or answers, no step is made.
-use Rattle.std.proofs.Common.{◌≡◌, ℕ, zero, suc, List, [], ◌∷◌, ◌++◌, map, Bool, true, false, refl, ap, sym, ◌∙◌}
-use Rattle.std.specs.Prelude.{Option, Some, None, option_map, if◌then◌else◌, slice_get, slice_set, not, ◌&&◌, ◌||◌, ◌==◌, unwrap_or, is_some}
-use Rattle.std.specs.List.{AllByRecursion, list_all, list_any, find}
+use Rattle.std.proofs.Common.{◌≡◌, ℕ, zero, suc, List, [], ◌∷◌, ◌++◌, map, Bool, true, false, refl, ap, ◌∙◌}
+use Rattle.std.specs.Prelude.{Option, Some, None, option_map, if◌then◌else◌, slice_get, slice_set, not, ◌==◌, unwrap_or, is_some}
+use Rattle.std.specs.List.{AllByRecursion, list_all, find}
 use Rattle.std.specs.Option.{option_and_then, option_map_or, IfSome}
 use Rattle.std.proofs.lemmas.Bool.{and_parts}
 use Rattle.tm_list.specs.Map.{at_rank}
@@ -26,8 +26,6 @@ use Rattle.tm_types.specs.declared.request.Item.{Item}
 use Rattle.tm_types.specs.declared.request.Tree.{Tree}
 use Rattle.tm_types.specs.declared.step.Editor.{Editor}
 use Rattle.tm_types.specs.declared.step.Turn.{Turn}
-use Rattle.tm_types.specs.declared.step.Run.{Run}
-use Rattle.tm_types.specs.declared.step.Look.{Look}
 use Rattle.tm_types.specs.declared.verdict.Move.{Move}
 use Rattle.tm_types.specs.declared.verdict.Verdict.{Verdict}
 use Rattle.tm_rules.specs.Grammar.{Grammar}
@@ -37,12 +35,12 @@ use Rattle.tm_rules.specs.Mode.{slot, config_of, mode_of}
 use Rattle.tm_rules.specs.Policy.{namespace_word, empty_namespace, namespace_named, namespace_of, domain_at, profile_of}
 use Rattle.tm_rules.specs.Search.{Granting, first}
 use Rattle.tm_rules.specs.Learned.{line_of}
-use Rattle.tm_core.specs.Verdict.{by_mode, execute_verdict, in_mode, verdict_in, verdict, is_granting}
+use Rattle.tm_core.specs.Verdict.{by_mode, in_mode, verdict_in, verdict, is_granting}
 use Rattle.tm_core.specs.Run.{Situation, Situations, at_start}
 use Rattle.tm_core.specs.Steps.{after}
-use Rattle.tm_core.specs.Legal.{Scene, opening_of, final_policy, steps_of_line, steps_of_move}
-use Rattle.tm_core.specs.Play.{Player, Way, Begun, Stage, going_on, on_way, look_at, end_tree, passed, first_look, take_event, tree_event, line_event, editor_event, player_event, event, turn, turns, rounds, everybody, start_of, IsAlone}
-use Rattle.tm_core.specs.Still.{is_still_mode, is_still_profile, is_still_policy, is_plain_request, is_plain_item, is_plain_trace, IsStill, StillPlayers, StillPlaysMakeNoStep, StillPlaysKeepThePolicy}
+use Rattle.tm_core.specs.Legal.{Scene, opening_of, steps_of_line, steps_of_move}
+use Rattle.tm_core.specs.Play.{Player, Way, Begun, Stage, going_on, on_way, look_at, end_tree, passed, first_look, take_event, tree_event, editor_event, player_event, event, turn, turns, rounds, everybody, start_of, IsAlone}
+use Rattle.tm_core.specs.Still.{is_still_mode, is_still_profile, is_still_policy, is_plain_request, is_plain_item, is_plain_trace, StillPlayers, StillPlaysMakeNoStep, StillPlaysKeepThePolicy}
 use Rattle.tm_core.proofs.Asked.{found_holds}
 
 -- A fact of what an option or a list holds
@@ -103,7 +101,7 @@ still-mode profile function h =
     let slots = all-true (λ (pair : SlotName × Config). is_still_mode pair.1.mode) profile.slots both.1 in
     let category : Config = unwrap_or (slot profile (category_of function)) profile.config in
     unwrap-holds Still (slot profile (SlotName.One function)) category (rank-holds Still slot_rank (slot_rank (SlotName.One function)) profile.slots slots)
-      (unwrap-holds Still (slot profile (category_of function)) profile.config (rank-holds Still slot_rank (slot_rank (category_of function)) profile.slots slots) both.0)
+    (unwrap-holds Still (slot profile (category_of function)) profile.config (rank-holds Still slot_rank (slot_rank (category_of function)) profile.slots slots) both.0)
 
 abbrev AllStill : Namespace → Type 0
 AllStill ns = list_all (λ (pair : ℕ × Profile). is_still_profile pair.1) ns.profiles ≡ true
@@ -116,7 +114,7 @@ still-profile policy domain h =
     let found = found_holds AllStill (λ (ns : Namespace). texts_equal ns.name word) policy.namespaces all in
     let here : AllStill (namespace_named policy word) = unwrap-holds AllStill (find (λ (ns : Namespace). texts_equal ns.name word) policy.namespaces) (empty_namespace word) found refl in
     rank-holds (λ (profile : Profile). is_still_profile profile ≡ true) (λ (n : ℕ). n) domain.profile (namespace_named policy word).profiles
-      (all-true (λ (pair : ℕ × Profile). is_still_profile pair.1) (namespace_named policy word).profiles here)
+    (all-true (λ (pair : ℕ × Profile). is_still_profile pair.1) (namespace_named policy word).profiles here)
 
 -- No verdict on a plain request asks for a step
 
@@ -166,7 +164,7 @@ module _ (g : Grammar) where
         by_domain : (domain : Domain) → IfSome (option_and_then (verdict_in g.is_path policy attached process request domain) (profile_of policy domain)) AsksNothing
         by_domain domain =
             then-holds AsksNothing (verdict_in g.is_path policy attached process request domain) (profile_of policy domain)
-              (so-holds (λ (profile : Profile). is_still_profile profile ≡ true) _ (λ profile all. in-still process domain profile request.args request.perm request.attributes plain all) (profile_of policy domain) (still-profile policy domain still))
+            (so-holds (λ (profile : Profile). is_still_profile profile ≡ true) _ (λ profile all. in-still process domain profile request.args request.perm request.attributes plain all) (profile_of policy domain) (still-profile policy domain still))
 
   -- Players
 
@@ -177,11 +175,11 @@ module _ (g : Grammar) where
   unfolding look_at
   look_at-still p now request still alone plain =
       then-holds OwesNothing _ now.domain
-        (each-holds _
-          (λ d. map-holds OwesNothing _ (verdict g.is_path p.state.policy p.state.queries.attached d now.process request)
-            (so-holds AsksNothing _ (λ v none. ap Stage.Owing (none d 0)) (verdict g.is_path p.state.policy p.state.queries.attached d now.process request)
-              (verdict-still p.state.policy p.state.queries.attached alone d now.process request still plain)))
-          now.domain)
+      (each-holds _
+      (λ d. map-holds OwesNothing _ (verdict g.is_path p.state.policy p.state.queries.attached d now.process request)
+      (so-holds AsksNothing _ (λ v none. ap Stage.Owing (none d 0)) (verdict g.is_path p.state.policy p.state.queries.attached d now.process request)
+      (verdict-still p.state.policy p.state.queries.attached alone d now.process request still plain)))
+      now.domain)
 
 -- what a way keeps: no take waits, and the records that are left have plain requests
 abbrev StillWay : Way → Type 0
@@ -224,9 +222,9 @@ module _ (scene : Scene) (alone : IsAlone scene) (still : is_still_policy scene.
       let same_policy : p.state.policy ≡ scene.policy = ap (λ s. s.policy) h.state in
       let nobody : p.state.queries.attached ≡ false = ap (λ s. s.queries.attached) h.state in
       map-holds (Kept scene) _ (look_at g p (now pid) request 0 [])
-        (so-holds (OwesNothing g) _
-          (λ b owes. on_way-kept p t _ h (going_on-still (record way { at = now; items = items }) b both.1 owes))
-          (look_at g p (now pid) request 0 []) (look_at-still g p (now pid) request (ap is_still_policy same_policy ∙ still) nobody both.0))
+      (so-holds (OwesNothing g) _
+      (λ b owes. on_way-kept p t _ h (going_on-still (record way { at = now; items = items }) b both.1 owes))
+      (look_at g p (now pid) request 0 []) (look_at-still g p (now pid) request (ap is_still_policy same_policy ∙ still) nobody both.0))
 
   tree_event-kept : (p : Player) (desk : Bool) (t : ℕ) → desk ≡ false → Kept scene p → IfSome (tree_event g p desk t) (Kept scene)
   unfolding tree_event

@@ -1,5 +1,5 @@
 -- Still policies: nothing is learned and nobody is asked, so that plain requests make no step.
-use Rattle.std.specs.Prelude.{◌≡◌, ℕ, Bool, true, false, ◌&&◌, not, List, [], Option, None}
+use Rattle.std.specs.Prelude.{◌≡◌, ℕ, Bool, true, false, ◌&&◌, not, List, [], None}
 use Rattle.std.specs.List.{AllByRecursion, list_all}
 use Rattle.tm_rules.specs.Words.{Trace}
 use Rattle.tm_types.specs.declared.policy.Mode.{Mode}
@@ -19,7 +19,7 @@ use Rattle.tm_core.specs.Play.{Player, Way, start_of, turns, Plays, CanPlay, IsA
 
 -- Still modes and plain requests
 
--- disabled and enforcing: without a supervisor no step follows a look
+-- disabled and enforcing: nothing is learned, and without a supervisor nobody is asked
 abbrev pub is_still_mode : Mode → Bool
 is_still_mode Mode.Disabled = true
 is_still_mode Mode.Learning = false
