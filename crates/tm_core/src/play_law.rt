@@ -5,6 +5,7 @@ ghost use Rattle.tm_types.specs.declared.step.Turn.{Turn};
 ghost use Rattle.tm_rules.specs.Grammar.{Grammar};
 ghost use Rattle.tm_core.specs.Steps.{State, apply};
 ghost use Rattle.tm_core.specs.Legal.{Scene};
+ghost use Rattle.tm_core.specs.Still.{StillPlayers, StillPlaysMakeNoStep, StillPlaysKeepThePolicy};
 ghost use Rattle.tm_core.specs.Play.{EveryPlayIsLegal, EveryPlayEnds, EveryStopIsFinished, EveryEventIsWork, IsGrammar, IsOpened, CanPlay, NobodyCanMove, start_of, turns};
 
 /// For every schedule the play of a scene that can be played is legal: its takes, versions, verdicts, own steps, replies, the
@@ -39,4 +40,20 @@ pub fn stops_stay()
 pub fn policies_stay_opened()
     ensures { (g : Grammar) (state : State) (step : Step) → IsGrammar g →
         IsOpened state.policy → IsOpened (apply g state step).state.policy }
+{}
+
+/// Without editors and without a supervisor, where every mode is disabled or enforcing and no request is an execute or a manual
+/// transition, turns make no step, leave the state as it was at the start, and leave no take waiting.
+pub fn still_players()
+    ensures { StillPlayers }
+{}
+
+/// Such plays make no step.
+pub fn still_plays_make_no_step()
+    ensures { StillPlaysMakeNoStep }
+{}
+
+/// Such plays leave the policy as it was.
+pub fn still_plays_keep_the_policy()
+    ensures { StillPlaysKeepThePolicy }
 {}
