@@ -21,6 +21,7 @@ changing-none test change new i (x ∷ xs) e = go (test x) refl e
   where
     ih : position_from test (i + 1) xs ≡ None → changing test change new xs ≡ xs ++ new ∷ []
     ih = changing-none test change new (i + 1) xs
+
     go : (b : Bool) → test x ≡ b → (if b then Some i else position_from test (i + 1) xs) ≡ None → (if b then change x ∷ xs else x ∷ changing test change new xs) ≡ x ∷ xs ++ new ∷ []
     go true h e = absurd cc
     go false h e = ap (λ t. x ∷ t) (ih e)
@@ -33,6 +34,7 @@ changing-some test change new i (x ∷ xs) k d e = go (test x) refl e
   where
     ih : position_from test (i + 1) xs ≡ Some k → (j : ℕ) × (k ≡ i + 1 + j) × (changing test change new xs ≡ slice_set xs j (change (get_or xs j d)))
     ih = changing-some test change new (i + 1) xs k d
+
     go : (b : Bool) → test x ≡ b → (if b then Some i else position_from test (i + 1) xs) ≡ Some k
         → (j : ℕ) × (k ≡ i + j) × ((if b then change x ∷ xs else x ∷ changing test change new xs) ≡ slice_set (x ∷ xs) j (change (get_or (x ∷ xs) j d)))
     go true h e = let same : i ≡ k = cc in (0, omega (arith, same), refl)

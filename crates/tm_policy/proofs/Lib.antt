@@ -2,3 +2,4 @@ pub mod Edits
 pub mod Executes
 pub mod Lists
 pub mod Finds
+pub mod FewLaws

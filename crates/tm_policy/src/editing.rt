@@ -17,7 +17,10 @@ use std::alloc::{AllocError, Global};
 use tm_list::{Copied, Map, NoMemory, Seq};
 use tm_rules::{bytes_equal, same_line, texts_equal};
 use tm_types::entry::Entry;
-use tm_types::policy::{Config, Cursor, Domain, DomainRule, Logs, Mode, Namespace, Policy, PolicyLine, Profile, ProfileEffect, ProfileLine, Profiles, Setting};
+use tm_types::policy::{
+    Config, Cursor, Domain, DomainRule, Logs, Mode, Namespace, Policy, PolicyLine, Profile,
+    ProfileEffect, ProfileLine, Profiles, Setting,
+};
 use tm_types::step::{EditReply, FileKind, LineFault};
 use tm_types::unions::{DomainName, Groups};
 use tm_word::Text;

@@ -4,12 +4,14 @@
 #![tactic(auto)]
 
 mod editing;
+mod few;
 mod lines;
 mod plain;
 mod rep;
 mod searching;
 
 pub use editing::{new_policy, set_opened};
+pub use few::is_few;
 pub use lines::read_line;
 pub use plain::Plain;
 pub use rep::Rep;

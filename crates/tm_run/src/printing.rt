@@ -197,7 +197,8 @@ mod tests {
         });
         let audit = Seq::from_bytes(alloc, b"a b\n")?;
         let out = printed(alloc, take(alloc, false, look, Some(audit))?)?;
-        let text = "run 1\ntake 1 7 0 3 denied\nlook 0 enforcing ask stay 3,12 no@14\naudit a\\040b\\012\n";
+        let text =
+            "run 1\ntake 1 7 0 3 denied\nlook 0 enforcing ask stay 3,12 no@14\naudit a\\040b\\012\n";
         assert_eq!(rt; out.as_slice(), text.as_bytes());
         Ok(())
     }

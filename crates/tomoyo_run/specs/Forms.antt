@@ -14,17 +14,27 @@ line_with_words line (byte ∷ bytes) =
 abbrev pub first_line_with_words : List ℕ → Option ℕ
 first_line_with_words text = line_with_words 1 text
 
+-- the line at which reading fails
+abbrev pub fault_line : {A : Type 0} → Result A ℕ → Option ℕ
+fault_line (Ok x) = None
+fault_line (Err line) = Some line
+
 -- the first line that no form fits, in `profile`
 abbrev pub profile_not_built : List ℕ → Option ℕ
-profile_not_built profile = first_line_with_words profile
+profile_not_built profile = fault_line (profile_opening profile)
+
+-- the same in `domain_policy`, with these profiles; a fault of the profiles comes first
+abbrev pub domains_not_built : Result Policy ℕ → List ℕ → Option ℕ
+domains_not_built (Ok policy) domain_policy = fault_line (domain_opening policy domain_policy)
+domains_not_built (Err line) domain_policy = None
 
 -- the same in `domain_policy`, whose profiles `profile` defines
 abbrev pub domain_policy_not_built : List ℕ → List ℕ → Option ℕ
-domain_policy_not_built profile domain_policy = first_line_with_words domain_policy
+domain_policy_not_built profile domain_policy = domains_not_built (profile_opening profile) domain_policy
 
 -- the same in `trace`
 abbrev pub trace_not_built : List ℕ → Option ℕ
-trace_not_built trace = first_line_with_words trace
+trace_not_built trace = fault_line (trace_of trace)
 
 -- a line of this file, or else what the later files have
 abbrev pub line_of : FileName → Option ℕ → Option (FileName × ℕ) → Option (FileName × ℕ)

@@ -1,9 +1,20 @@
 -- What a play of the files gives, and what it refuses.
-use Rattle.std.specs.Prelude.{◌≡◌, ℕ, Option, Some, None, codes, ⊤}
+use Rattle.std.specs.Prelude.{◌≡◌, ℕ, ⊤, [], Option, Some, None, Ok}
+use Rattle.tm_types.specs.declared.policy.Policy.{Policy}
+use Rattle.tm_types.specs.declared.step.Run.{Run}
+use Rattle.tm_rules.specs.Words.{Trace}
+use Rattle.tm_rules.specs.Grammar.{Grammar}
+use Rattle.tm_core.specs.Legal.{Scene, Legal, final_policy}
+use Rattle.tm_core.specs.Play.{IsGrammar}
+use Rattle.tm_core.specs.Play as core
+use Rattle.tm_run.specs.RunText.{run_text}
+use Rattle.tm_rerun.specs.Summary.{summary_text}
+use Rattle.tm_forms.specs.Opening.{opening_of}
+use Rattle.tm_forms.specs.Trace.{trace_of}
 use Rattle.tm_io.specs.declared.names.FileName.{FileName}
 use Rattle.tomoyo_run.specs.declared.status.Status.{Status}
 use Rattle.tomoyo_run.specs.declared.play.Played.{Played}
-use Rattle.tomoyo_run.specs.Fetches.{Texts}
+use Rattle.tomoyo_run.specs.Fetches.{Texts, content}
 use Rattle.tomoyo_run.specs.Forms.{first_not_built}
 
 abbrev pub not_built_at : Option (FileName × ℕ) → Option Status
@@ -19,6 +30,22 @@ abbrev pub Refuses : Texts → Status → Type 0
 Refuses texts Status.OutOfMemory = ⊤
 Refuses texts status = refusal_of texts ≡ Some status
 
--- STUB: the run text and the summary of a play of these files
-unfoldable pub Plays : Texts → Played → Type 0
-Plays texts played = (played.run ≡ codes "run 1\n") × (played.summary ≡ codes "requests 0 granted 0 denied 0 learned 0 steps 0 domains 1 clean yes plain yes\n")
+-- a policy and a trace, without editors and without a supervisor
+abbrev pub alone : Grammar → Policy → Trace → Scene
+alone g policy trace = record { grammar = g; policy = policy; trace = trace; editors = []; book = None }
+
+-- the run that the policy and the trace play by the default order, and it is legal: whatever the grammar of the lines that come later
+pub record IsPlayOf (policy : Policy) (trace : Trace) (run : Run) : Type 0 where
+  pub plays : (g : Grammar) → IsGrammar g → core.Plays (alone g policy trace) [] run
+  pub is_legal : (g : Grammar) → IsGrammar g → Legal (alone g policy trace) run
+
+-- the files load to an opening and spell a trace, and what was played are the texts of the run that these play
+pub record Plays (texts : Texts) (played : Played) : Type 0 where
+  pub opening : Policy
+  pub trace : Trace
+  pub run : Run
+  pub loads : opening_of (content texts FileName.Profile) (content texts FileName.DomainPolicy) ≡ Ok opening
+  pub spells : trace_of (content texts FileName.Trace) ≡ Ok trace
+  pub is_play : IsPlayOf opening trace run
+  pub run_is : played.run ≡ run_text run
+  pub summary_is : (g : Grammar) → IsGrammar g → played.summary ≡ summary_text run opening (final_policy (alone g opening trace) run)

@@ -9,16 +9,24 @@ use tm_types::request::{ScriptKind, TraceKind};
 use tm_types::step::{EditReply, FileKind};
 use tm_word::Text;
 
-const PROFILE: &[u8] = b"";
+const PROFILE: &[u8] = b"PROFILE_VERSION=20150505\n\
+0-CONFIG={ mode=disabled grant_log=no reject_log=no }\n\
+1-CONFIG={ mode=enforcing grant_log=no reject_log=no }\n";
 
-const DOMAIN_POLICY: &[u8] = b"";
+const DOMAIN_POLICY: &[u8] = b"<kernel>\nuse_profile 1\nfile read /a\n";
 
-const TRACE: &[u8] = b"";
+const TRACE: &[u8] = b"tree 7 <kernel>\ndo 7 file read /a\ndo 7 file read /b\n";
 
-const RUN: &[u8] = b"run 1\n";
+const RUN: &[u8] = b"run 1\n\
+take 1 7 0 0 granted\n\
+look 0 enforcing entry:0 stay - -\n\
+audit -\n\
+take 2 7 0 0 denied\n\
+look 0 enforcing no_entry stay - -\n\
+audit -\n";
 
 const SUMMARY: &[u8] =
-    b"requests 0 granted 0 denied 0 learned 0 steps 0 domains 1 clean yes plain yes\n";
+    b"requests 2 granted 1 denied 1 learned 0 steps 0 domains 1 clean no plain yes\n";
 
 // The three needed files, then this one.
 fn files(alloc: Global, name: FileName, bytes: &[u8]) -> Result<FileList, NoMemory> {
@@ -226,6 +234,54 @@ fn statuses_have_their_line_and_number(rt: HostRuntime) -> Result<(), Fail> {
     for (status, code, line) in rows {
         assert_eq!(rt; status.code(), code);
         assert_eq!(rt; format!(in alloc; "{status}")?.as_str(), line);
+    }
+    Ok(())
+}
+
+#[test]
+fn in_mode_disabled_every_request_is_granted(rt: HostRuntime) -> Result<(), Fail> {
+    let alloc = rt.alloc();
+    let disabled = b"<kernel>\nuse_profile 0\nfile read /a\n";
+    let texts = files(alloc, FileName::DomainPolicy, disabled)?;
+    let mut shelf = MemoryShelf::new(alloc, texts, Vec::new(alloc));
+    let mut out = MemorySink::new(alloc, Vec::new(alloc));
+    let status = run_alone(alloc, &words(alloc, &["step"])?, &mut shelf, &mut out);
+    assert_eq!(rt; status, Status::Done);
+    let run: &[u8] = b"run 1\n\
+take 1 7 0 0 granted\n\
+look 0 disabled disabled stay - -\n\
+audit -\n\
+take 2 7 0 0 granted\n\
+look 0 disabled disabled stay - -\n\
+audit -\n";
+    assert_eq!(rt; shelf.get(FileName::Run), Some(run));
+    let summary: &[u8] =
+        b"requests 2 granted 2 denied 0 learned 0 steps 0 domains 1 clean yes plain yes\n";
+    assert_eq!(rt; out.bytes(), summary);
+    Ok(())
+}
+
+#[test]
+fn forms_that_are_not_built_are_told_with_their_line(rt: HostRuntime) -> Result<(), Fail> {
+    let alloc = rt.alloc();
+    let rows: [(FileName, &[u8], u64); 8] = [
+        (FileName::DomainPolicy, b"<kernel>\nuse_profile 1\nfile unlink /a\n", 3),
+        (FileName::DomainPolicy, b"<kernel>\nuse_profile 9\n", 2),
+        (FileName::DomainPolicy, b"<kernel>\n", 2),
+        (FileName::DomainPolicy, b"", 1),
+        (FileName::Profile, b"\nPROFILE_VERSION=20150505\n0-CONFIG={ mode=odd }\n", 3),
+        (FileName::Trace, b"tree 7 <kernel>\ndo 8 file read /a\n", 2),
+        (FileName::Trace, b"tree 0 <kernel>\n", 1),
+        (FileName::Trace, b"tree 7 <kernel>\ndo 7 file read /\\*\n", 2),
+    ];
+    for (name, bytes, line) in rows {
+        let texts = files(alloc, name, bytes)?;
+        let mut shelf = MemoryShelf::new(alloc, texts, Vec::new(alloc));
+        let mut out = MemorySink::new(alloc, Vec::new(alloc));
+        let status = run_alone(alloc, &words(alloc, &["step"])?, &mut shelf, &mut out);
+        assert_eq!(rt; status, Status::NotBuilt(name, line));
+        assert!(rt; shelf.get(FileName::Run).is_none());
+        assert!(rt; out.bytes().is_empty());
     }
     Ok(())
 }

@@ -1,0 +1,9 @@
+use Rattle.std.proofs.Common.{◌≡◌, ℕ, List, length, drop}
+use Rattle.std.specs.List.{list_all}
+use Rattle.tm_types.specs.declared.entry.Entry.{Entry}
+use Rattle.tm_types.specs.declared.policy.Domain.{Domain}
+use Rattle.tm_policy.specs.FewTests.{is_short, has_short_lists}
+use Rattle.tm_policy.proofs.few.are_short_groups.Given as goal
+
+abbrev pub invariant-loop-entries : goal.invariant-loop-entries
+invariant-loop-entries l = list_all (λ (group : ℕ × List Entry). is_short (length group.1)) (drop l.entries-index l.groups) ≡ list_all (λ (group : ℕ × List Entry). is_short (length group.1)) l.groups
