@@ -17,26 +17,23 @@ changing test change new (x ∷ xs) = if test x then change x ∷ xs else x ∷ 
 -- where none passes the new one goes last
 changing-none : {A : Type 0} (test : A → Bool) (change : A → A) (new : A) (i : ℕ) (xs : List A) → position_from test i xs ≡ None → changing test change new xs ≡ xs ++ new ∷ []
 changing-none test change new i [] e = refl
-changing-none test change new i (x ∷ xs) e = go (test x) refl e
+changing-none test change new i (x ∷ xs) e = go (changing-none test change new (i + 1) xs) (test x) refl e
   where
-    ih : position_from test (i + 1) xs ≡ None → changing test change new xs ≡ xs ++ new ∷ []
-    ih = changing-none test change new (i + 1) xs
-    go : (b : Bool) → test x ≡ b → (if b then Some i else position_from test (i + 1) xs) ≡ None → (if b then change x ∷ xs else x ∷ changing test change new xs) ≡ x ∷ xs ++ new ∷ []
-    go true h e = absurd cc
-    go false h e = ap (λ t. x ∷ t) (ih e)
+    go : (position_from test (i + 1) xs ≡ None → changing test change new xs ≡ xs ++ new ∷ []) → (b : Bool) → test x ≡ b → (if b then Some i else position_from test (i + 1) xs) ≡ None
+        → (if b then change x ∷ xs else x ∷ changing test change new xs) ≡ x ∷ xs ++ new ∷ []
+    go ih true h e = absurd cc
+    go ih false h e = ap (λ t. x ∷ t) (ih e)
 
 -- where one passes it is changed in its place
 changing-some : {A : Type 0} (test : A → Bool) (change : A → A) (new : A) (i : ℕ) (xs : List A) (k : ℕ) (d : A) → position_from test i xs ≡ Some k
     → (j : ℕ) × (k ≡ i + j) × (changing test change new xs ≡ slice_set xs j (change (get_or xs j d)))
 changing-some test change new i [] k d e = absurd cc
-changing-some test change new i (x ∷ xs) k d e = go (test x) refl e
+changing-some test change new i (x ∷ xs) k d e = go (changing-some test change new (i + 1) xs k d) (test x) refl e
   where
-    ih : position_from test (i + 1) xs ≡ Some k → (j : ℕ) × (k ≡ i + 1 + j) × (changing test change new xs ≡ slice_set xs j (change (get_or xs j d)))
-    ih = changing-some test change new (i + 1) xs k d
-    go : (b : Bool) → test x ≡ b → (if b then Some i else position_from test (i + 1) xs) ≡ Some k
-        → (j : ℕ) × (k ≡ i + j) × ((if b then change x ∷ xs else x ∷ changing test change new xs) ≡ slice_set (x ∷ xs) j (change (get_or (x ∷ xs) j d)))
-    go true h e = let same : i ≡ k = cc in (0, omega (arith, same), refl)
-    go false h e =
+    go : (position_from test (i + 1) xs ≡ Some k → (j : ℕ) × (k ≡ i + 1 + j) × (changing test change new xs ≡ slice_set xs j (change (get_or xs j d)))) → (b : Bool) → test x ≡ b
+        → (if b then Some i else position_from test (i + 1) xs) ≡ Some k → (j : ℕ) × (k ≡ i + j) × ((if b then change x ∷ xs else x ∷ changing test change new xs) ≡ slice_set (x ∷ xs) j (change (get_or (x ∷ xs) j d)))
+    go ih true h e = let same : i ≡ k = cc in (0, omega (arith, same), refl)
+    go ih false h e =
         let found = ih e in
         let place : k ≡ i + 1 + found.0 = found.1 in
         let next : k ≡ i + suc found.0 = omega (arith, place) in

@@ -8,6 +8,6 @@ mod lines;
 mod rep;
 mod searching;
 
-pub use editing::{new_policy, set_opened};
+pub use editing::{apply_line, new_policy, set_opened};
 pub use lines::read_line;
 pub use rep::Rep;
