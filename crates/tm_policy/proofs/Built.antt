@@ -34,23 +34,36 @@ ending read (word ∷ words) h line e = absurd cc
 
 config-built : (words : List Text) → Builds (config_line words)
 unfolding config_line
-config-built words = after _ _ (λ number. after _ _ (λ mode. after _ _ (λ grant. after _ _ (λ reject. after _ _ (λ rest. ending _ rest refl)))))
+config-built words =
+    after (word_at config_number words) _ (λ number.
+    after (word_at mode_word number.1) _ (λ mode.
+    after (keyword_at (codes "grant_log=no") mode.1) _ (λ grant.
+    after (keyword_at (codes "reject_log=no") grant) _ (λ reject.
+    after (keyword_at (codes "}") reject) _ (λ rest. ending (kernel_profile (ProfileEffect.Config number.0 (silent mode.0))) rest refl)))))
 
 profile-built : (word : Text) (words : List Text) → Builds (profile_line word words)
 unfolding profile_line
-profile-built word words = either _ _ _ (ending _ words refl) (config-built (word ∷ words))
+profile-built word words =
+    either (texts_equal word (codes "PROFILE_VERSION=20150505")) (at_end (kernel_profile ProfileEffect.Version) words) (config_line (word ∷ words)) (ending (kernel_profile ProfileEffect.Version) words refl) (config-built (word ∷ words))
 
 use-built : (words : List Text) → Builds (use_profile_line words)
 unfolding use_profile_line
-use-built words = after _ _ (λ number. ending _ number.1 refl)
+use-built words = after (word_at profile_number words) _ (λ number. ending (PolicyLine.Domain (DomainRule.UseProfile number.0)) number.1 refl)
 
 file-built : (words : List Text) → Builds (file_line words)
 unfolding file_line
-file-built words = after _ _ (λ perms. after _ _ (λ name. ending _ name.1 refl))
+file-built words =
+    after (word_at perms_word words) _ (λ perms.
+    after (word_at name_word perms.1) _ (λ name. ending (PolicyLine.Domain (DomainRule.Acl false (path_entry name.0 perms.0))) name.1 refl))
 
 domain-built : (word : Text) (words : List Text) → Builds (domain_line word words)
 unfolding domain_line
-domain-built word words = either _ _ _ (ending _ words refl) (either _ _ _ (use-built words) (either _ _ _ (file-built words) (failed LineKind.Keyword)))
+domain-built word words =
+    let files = either (texts_equal word (codes "file")) (file_line words) (Err LineKind.Keyword) (file-built words) (failed LineKind.Keyword) in
+    let uses = either (texts_equal word (codes "use_profile")) (use_profile_line words) (if texts_equal word (codes "file") then file_line words else Err LineKind.Keyword) (use-built words) files in
+    either (texts_equal word kernel) (at_end (PolicyLine.Domain (DomainRule.Choose kernel)) words)
+      (if texts_equal word (codes "use_profile") then use_profile_line words else (if texts_equal word (codes "file") then file_line words else Err LineKind.Keyword))
+      (ending (PolicyLine.Domain (DomainRule.Choose kernel)) words refl) uses
 
 words-built : (file : FileKind) (words : List Text) → Builds (read_words file words)
 unfolding read_words

@@ -64,6 +64,10 @@ adding_last line entries e = adding-changing line entries ∙ changing-none (λ 
 pub adding_there : (line : Entry) (entries : List Entry) (k : ℕ) (d : Entry) → position_from (λ (entry : Entry). same_line entry line) 0 entries ≡ Some k → adding line entries ≡ slice_set entries k (joined_entry line (get_or entries k d))
 adding_there line entries k d e = adding-changing line entries ∙ changing-there (λ entry. same_line entry line) (joined_entry line) line entries k d e
 
+-- the same of the entry that stands there
+pub adding_at : (line : Entry) (entries : List Entry) (k : ℕ) (e : Entry) → position_from (λ (entry : Entry). same_line entry line) 0 entries ≡ Some k → e ≡ get_or entries k e → slice_set entries k (joined_entry line e) ≡ adding line entries
+adding_at line entries k e found is = ap (λ t. slice_set entries k (joined_entry line t)) is ∙ sym (adding_there line entries k e found)
+
 namespace-changing : (name : Text) (change : Namespace → Namespace) (spaces : List Namespace) → in_namespace name change spaces ≡ changing (λ (ns : Namespace). texts_equal ns.name name) change (change (empty_namespace name)) spaces
 namespace-changing name change [] = refl
 namespace-changing name change (n ∷ ns) = ap (λ t. if texts_equal n.name name then change n ∷ ns else n ∷ t) (namespace-changing name change ns)
@@ -75,6 +79,11 @@ namespace_last name change spaces e = namespace-changing name change spaces ∙ 
 -- a namespace that is there is changed
 pub namespace_there : (name : Text) (change : Namespace → Namespace) (spaces : List Namespace) (k : ℕ) (d : Namespace) → position_from (λ (ns : Namespace). texts_equal ns.name name) 0 spaces ≡ Some k → in_namespace name change spaces ≡ slice_set spaces k (change (get_or spaces k d))
 namespace_there name change spaces k d e = namespace-changing name change spaces ∙ changing-there (λ (ns : Namespace). texts_equal ns.name name) change (change (empty_namespace name)) spaces k d e
+
+-- the same of the namespace that stands there
+pub namespace_at : (name : Text) (change : Namespace → Namespace) (spaces : List Namespace) (k : ℕ) (n m : Namespace) → position_from (λ (ns : Namespace). texts_equal ns.name name) 0 spaces ≡ Some k → n ≡ get_or spaces k n → m ≡ change n
+    → slice_set spaces k m ≡ in_namespace name change spaces
+namespace_at name change spaces k n m found is done = ap (slice_set spaces k) (done ∙ ap change is) ∙ sym (namespace_there name change spaces k n found)
 
 -- another element in a place
 pub set_changed : {A : Type 0} (xs : List A) (k : ℕ) (y : A) → slice_set xs k y ≡ changed_at k (λ x. y) xs

@@ -171,7 +171,7 @@ fn namespace_place(namespaces: &[Namespace], name: &Text) -> Option<usize>
 }
 
 // The namespaces after a profile line of the namespace of that name.
-#[tactic(auto, using(crate::proofs::Edits::namespace_last, crate::proofs::Edits::namespace_there))]
+#[tactic(auto, using(crate::proofs::Edits::namespace_last, crate::proofs::Edits::namespace_at))]
 fn in_namespace(
     alloc: Global,
     namespaces: &mut Seq<Namespace>,
@@ -209,7 +209,7 @@ fn entry_place(entries: &[Entry], line: &Entry) -> Option<usize>
 }
 
 // The entries with a line added.
-#[tactic(auto, using(crate::proofs::Edits::adding_last, crate::proofs::Edits::adding_there))]
+#[tactic(auto, using(crate::proofs::Edits::adding_last, crate::proofs::Edits::adding_at))]
 fn adding(mut entries: Vec<Entry>, line: Entry) -> Result<Seq<Entry>, NoMemory>
     ensures done { IfOk result (λ made. made ≡ adding line entries.items) }
     ensures short { IfOk result (λ made. IsShort entries.items → IsShort made) }
