@@ -17,28 +17,23 @@ changing test change new (x ∷ xs) = if test x then change x ∷ xs else x ∷ 
 -- where none passes the new one goes last
 changing-none : {A : Type 0} (test : A → Bool) (change : A → A) (new : A) (i : ℕ) (xs : List A) → position_from test i xs ≡ None → changing test change new xs ≡ xs ++ new ∷ []
 changing-none test change new i [] e = refl
-changing-none test change new i (x ∷ xs) e = go (test x) refl e
+changing-none test change new i (x ∷ xs) e = go (changing-none test change new (i + 1) xs) (test x) refl e
   where
-    ih : position_from test (i + 1) xs ≡ None → changing test change new xs ≡ xs ++ new ∷ []
-    ih = changing-none test change new (i + 1) xs
-
-    go : (b : Bool) → test x ≡ b → (if b then Some i else position_from test (i + 1) xs) ≡ None → (if b then change x ∷ xs else x ∷ changing test change new xs) ≡ x ∷ xs ++ new ∷ []
-    go true h e = absurd cc
-    go false h e = ap (λ t. x ∷ t) (ih e)
+    go : (position_from test (i + 1) xs ≡ None → changing test change new xs ≡ xs ++ new ∷ []) → (b : Bool) → test x ≡ b → (if b then Some i else position_from test (i + 1) xs) ≡ None
+        → (if b then change x ∷ xs else x ∷ changing test change new xs) ≡ x ∷ xs ++ new ∷ []
+    go ih true h e = absurd cc
+    go ih false h e = ap (λ t. x ∷ t) (ih e)
 
 -- where one passes it is changed in its place
 changing-some : {A : Type 0} (test : A → Bool) (change : A → A) (new : A) (i : ℕ) (xs : List A) (k : ℕ) (d : A) → position_from test i xs ≡ Some k
     → (j : ℕ) × (k ≡ i + j) × (changing test change new xs ≡ slice_set xs j (change (get_or xs j d)))
 changing-some test change new i [] k d e = absurd cc
-changing-some test change new i (x ∷ xs) k d e = go (test x) refl e
+changing-some test change new i (x ∷ xs) k d e = go (changing-some test change new (i + 1) xs k d) (test x) refl e
   where
-    ih : position_from test (i + 1) xs ≡ Some k → (j : ℕ) × (k ≡ i + 1 + j) × (changing test change new xs ≡ slice_set xs j (change (get_or xs j d)))
-    ih = changing-some test change new (i + 1) xs k d
-
-    go : (b : Bool) → test x ≡ b → (if b then Some i else position_from test (i + 1) xs) ≡ Some k
-        → (j : ℕ) × (k ≡ i + j) × ((if b then change x ∷ xs else x ∷ changing test change new xs) ≡ slice_set (x ∷ xs) j (change (get_or (x ∷ xs) j d)))
-    go true h e = let same : i ≡ k = cc in (0, omega (arith, same), refl)
-    go false h e =
+    go : (position_from test (i + 1) xs ≡ Some k → (j : ℕ) × (k ≡ i + 1 + j) × (changing test change new xs ≡ slice_set xs j (change (get_or xs j d)))) → (b : Bool) → test x ≡ b
+        → (if b then Some i else position_from test (i + 1) xs) ≡ Some k → (j : ℕ) × (k ≡ i + j) × ((if b then change x ∷ xs else x ∷ changing test change new xs) ≡ slice_set (x ∷ xs) j (change (get_or (x ∷ xs) j d)))
+    go ih true h e = let same : i ≡ k = cc in (0, omega (arith, same), refl)
+    go ih false h e =
         let found = ih e in
         let place : k ≡ i + 1 + found.0 = found.1 in
         let next : k ≡ i + suc found.0 = omega (arith, place) in
@@ -69,6 +64,10 @@ adding_last line entries e = adding-changing line entries ∙ changing-none (λ 
 pub adding_there : (line : Entry) (entries : List Entry) (k : ℕ) (d : Entry) → position_from (λ (entry : Entry). same_line entry line) 0 entries ≡ Some k → adding line entries ≡ slice_set entries k (joined_entry line (get_or entries k d))
 adding_there line entries k d e = adding-changing line entries ∙ changing-there (λ entry. same_line entry line) (joined_entry line) line entries k d e
 
+-- the same of the entry that stands there
+pub adding_at : (line : Entry) (entries : List Entry) (k : ℕ) (e : Entry) → position_from (λ (entry : Entry). same_line entry line) 0 entries ≡ Some k → e ≡ get_or entries k e → slice_set entries k (joined_entry line e) ≡ adding line entries
+adding_at line entries k e found is = ap (λ t. slice_set entries k (joined_entry line t)) is ∙ sym (adding_there line entries k e found)
+
 namespace-changing : (name : Text) (change : Namespace → Namespace) (spaces : List Namespace) → in_namespace name change spaces ≡ changing (λ (ns : Namespace). texts_equal ns.name name) change (change (empty_namespace name)) spaces
 namespace-changing name change [] = refl
 namespace-changing name change (n ∷ ns) = ap (λ t. if texts_equal n.name name then change n ∷ ns else n ∷ t) (namespace-changing name change ns)
@@ -80,6 +79,11 @@ namespace_last name change spaces e = namespace-changing name change spaces ∙ 
 -- a namespace that is there is changed
 pub namespace_there : (name : Text) (change : Namespace → Namespace) (spaces : List Namespace) (k : ℕ) (d : Namespace) → position_from (λ (ns : Namespace). texts_equal ns.name name) 0 spaces ≡ Some k → in_namespace name change spaces ≡ slice_set spaces k (change (get_or spaces k d))
 namespace_there name change spaces k d e = namespace-changing name change spaces ∙ changing-there (λ (ns : Namespace). texts_equal ns.name name) change (change (empty_namespace name)) spaces k d e
+
+-- the same of the namespace that stands there
+pub namespace_at : (name : Text) (change : Namespace → Namespace) (spaces : List Namespace) (k : ℕ) (n m : Namespace) → position_from (λ (ns : Namespace). texts_equal ns.name name) 0 spaces ≡ Some k → n ≡ get_or spaces k n → m ≡ change n
+    → slice_set spaces k m ≡ in_namespace name change spaces
+namespace_at name change spaces k n m found is done = ap (slice_set spaces k) (done ∙ ap change is) ∙ sym (namespace_there name change spaces k n found)
 
 -- another element in a place
 pub set_changed : {A : Type 0} (xs : List A) (k : ℕ) (y : A) → slice_set xs k y ≡ changed_at k (λ x. y) xs

@@ -1,5 +1,5 @@
 //! What a line of a policy file does to a policy.
-ghost use Rattle.std.specs.Prelude.{◌≡◌, ◌<◌, ℕ, List, [], true, Some, None, length, unwrap_or, option_map, is_some, IfOk, IfSome, OnOk, OnErr};
+ghost use Rattle.std.specs.Prelude.{◌≡◌, ◌<◌, ℕ, List, [], true, false, Some, None, length, unwrap_or, option_map, is_some, IfOk, IfSome, OnOk, OnErr};
 ghost use Rattle.std.specs.List.{position_from};
 ghost use Rattle.tm_types.specs.declared.policy.Domain.{Domain};
 ghost use Rattle.tm_types.specs.declared.policy.Namespace.{Namespace};
@@ -14,6 +14,7 @@ ghost use Rattle.tm_policy.specs.Lines.{read_line, is_built_effect, is_built_rul
 
 use crate::lines::read_line;
 use std::alloc::{AllocError, Global};
+use tm_domain::namespace;
 use tm_list::{Copied, Map, NoMemory, Seq};
 use tm_rules::{bytes_equal, same_line, texts_equal};
 use tm_types::entry::Entry;
@@ -173,6 +174,7 @@ fn namespace_place(namespaces: &[Namespace], name: &Text) -> Option<usize>
 }
 
 // The namespaces after a profile line of the namespace of that name.
+#[tactic(auto, using(crate::proofs::Edits::namespace_last, crate::proofs::Edits::namespace_at))]
 fn in_namespace(
     alloc: Global,
     namespaces: &mut Seq<Namespace>,
@@ -210,6 +212,7 @@ fn entry_place(entries: &[Entry], line: &Entry) -> Option<usize>
 }
 
 // The entries with a line added.
+#[tactic(auto, using(crate::proofs::Edits::adding_last, crate::proofs::Edits::adding_at))]
 fn adding(mut entries: Vec<Entry>, line: Entry) -> Result<Seq<Entry>, NoMemory>
     ensures done { IfOk result (λ made. made ≡ adding line entries.items) }
     ensures short { IfOk result (λ made. IsShort entries.items → IsShort made) }
@@ -226,17 +229,6 @@ fn adding(mut entries: Vec<Entry>, line: Entry) -> Result<Seq<Entry>, NoMemory>
             entries.push(line)?;
             Ok(Seq::from_vec(entries))
         }
-    }
-}
-
-// The first word of a domain name.
-fn namespace_word(name: &DomainName) -> &[u8]
-    ensures { result.now ≡ namespace_word name.now }
-{
-    let bytes = name.bytes();
-    match bytes.iter().position(|byte| *byte == b' ') {
-        Some(end) => &bytes[..end],
-        None => bytes,
     }
 }
 
@@ -288,10 +280,167 @@ fn chosen(policy: &Policy, cursor: Cursor) -> Option<(u32, &Domain)>
 }
 
 // Puts another domain in the place of this number.
+#[tactic(auto, using(crate::proofs::Edits::set_changed, crate::proofs::Edits::each_set))]
 fn put_domain(policy: &mut Policy, number: u32, domain: Domain)
     requires { number < length policy.old.domains }
     ensures done { policy.new ≡ with_domain policy.old number domain }
     ensures few { IsFew policy.old → IsShort domain.entries → IsFew policy.new }
 {
     policy.domains.set(number as usize, domain);
+}
+
+// Gives the chosen domain a profile.
+#[tactic(auto, unfolding(tm_rules::specs::Edit::domain_line))]
+fn use_profile(
+    alloc: Global,
+    policy: &mut Policy,
+    cursor: Cursor,
+    number: u8,
+) -> Result<EditReply, NoMemory>
+    ensures done { IfOk result (λ reply. domain_line policy.old cursor (DomainRule.UseProfile number) ≡ record { policy = policy.new; cursor = cursor; reply = reply }) }
+    ensures kept { OnErr result (policy.new ≡ policy.old) }
+{
+    match chosen(policy, cursor) {
+        Some((place, domain)) => {
+            if !has_profile(policy, namespace(&domain.name), number) {
+                return Ok(EditReply::NoProfile);
+            }
+            let mut changed = domain.copy(alloc)?;
+            changed.profile = number;
+            put_domain(policy, place, changed);
+            Ok(EditReply::Done)
+        }
+        None => Ok(EditReply::NoDomain),
+    }
+}
+
+// A domain with a line added to its entries.
+fn with_entry(alloc: Global, domain: &Domain, line: Entry) -> Result<Domain, NoMemory>
+    ensures done { IfOk result (λ made. made ≡ record domain.now { entries = adding line domain.now.entries }) }
+    ensures short { IfOk result (λ made. IsShort domain.now.entries → IsShort made.entries) }
+{
+    let mut changed = domain.copy(alloc)?;
+    let entries = changed.entries.take();
+    changed.entries = adding(entries, line)?;
+    Ok(changed)
+}
+
+// Adds a line to the entries of the chosen domain.
+#[tactic(auto, unfolding(tm_rules::specs::Edit::domain_line))]
+fn add_entry(
+    alloc: Global,
+    policy: &mut Policy,
+    cursor: Cursor,
+    line: Entry,
+) -> Result<EditReply, NoMemory>
+    ensures done { IfOk result (λ reply. domain_line policy.old cursor (DomainRule.Acl false line) ≡ record { policy = policy.new; cursor = cursor; reply = reply }) }
+    ensures kept { OnErr result (policy.new ≡ policy.old) }
+{
+    match chosen(policy, cursor) {
+        Some((place, domain)) => {
+            let changed = with_entry(alloc, domain, line)?;
+            put_domain(policy, place, changed);
+            Ok(EditReply::Done)
+        }
+        None => Ok(EditReply::NoDomain),
+    }
+}
+
+// Chooses the live domain of a name, or makes one.
+#[tactic(auto, unfolding(tm_rules::specs::Edit::domain_line))]
+fn choose(
+    alloc: Global,
+    policy: &mut Policy,
+    cursor: &mut Cursor,
+    name: DomainName,
+) -> Result<EditReply, NoMemory>
+    requires { IsShort policy.old.domains }
+    ensures done { IfOk result (λ reply. domain_line policy.old cursor.old (DomainRule.Choose name) ≡ record { policy = policy.new; cursor = cursor.new; reply = reply }) }
+    ensures kept { OnErr result ((policy.new ≡ policy.old) × (cursor.new ≡ cursor.old)) }
+{
+    if let Some(place) = live_domain(policy, &name) {
+        *cursor = Some(place);
+        return Ok(EditReply::Done);
+    }
+    if policy.opened && !has_profile(policy, namespace(&name), 0) {
+        return Ok(EditReply::NoProfile);
+    }
+    let place = policy.domains.len();
+    if place >= 4294967295 {
+        return Err(AllocError);
+    }
+    policy.domains.push(new_domain(alloc, name))?;
+    *cursor = Some(place as u32);
+    Ok(EditReply::Done)
+}
+
+// What a line of a domain does.
+fn apply_rule(
+    alloc: Global,
+    policy: &mut Policy,
+    cursor: &mut Cursor,
+    rule: DomainRule,
+) -> Result<EditReply, NoMemory>
+    requires built { is_built_rule rule ≡ true }
+    requires short { IsShort policy.old.domains }
+    ensures done { IfOk result (λ reply. domain_line policy.old cursor.old rule ≡ record { policy = policy.new; cursor = cursor.new; reply = reply }) }
+    ensures kept { OnErr result ((policy.new ≡ policy.old) × (cursor.new ≡ cursor.old)) }
+{
+    match rule {
+        DomainRule::Choose(name) => choose(alloc, policy, cursor, name),
+        DomainRule::UseProfile(number) => use_profile(alloc, policy, *cursor, number),
+        DomainRule::Acl(false, line) => add_entry(alloc, policy, *cursor, line),
+        DomainRule::Acl(true, _) => unreachable!(),
+        DomainRule::Select(_) => unreachable!(),
+        DomainRule::Delete(_) => unreachable!(),
+        DomainRule::UseGroup(_, _) => unreachable!(),
+        DomainRule::QuotaExceeded(_) => unreachable!(),
+        DomainRule::TransitionFailed(_) => unreachable!(),
+    }
+}
+
+// What a line that was read does.
+#[tactic(auto, unfolding(tm_rules::specs::Edit::apply_read))]
+fn apply_read(
+    alloc: Global,
+    policy: &mut Policy,
+    cursor: &mut Cursor,
+    line: PolicyLine,
+) -> Result<EditReply, NoMemory>
+    requires built { is_built line ≡ true }
+    requires short { IsShort policy.old.domains }
+    ensures done { IfOk result (λ reply. apply_read policy.old cursor.old line ≡ record { policy = policy.new; cursor = cursor.new; reply = reply }) }
+    ensures kept { OnErr result ((policy.new ≡ policy.old) × (cursor.new ≡ cursor.old)) }
+{
+    match line {
+        PolicyLine::Nothing => Ok(EditReply::Done),
+        PolicyLine::Profile(line) => {
+            in_namespace(alloc, &mut policy.namespaces, line)?;
+            Ok(EditReply::Done)
+        }
+        PolicyLine::Domain(rule) => apply_rule(alloc, policy, cursor, rule),
+        PolicyLine::Exception(_) => unreachable!(),
+        PolicyLine::Group(_) => unreachable!(),
+        PolicyLine::Manager(_, _) => unreachable!(),
+    }
+}
+
+/// Does a line of a policy file, with the cursor of that file: after want of memory policy and cursor are as before.
+#[tactic(auto, using(crate::proofs::Built::read_built))]
+pub fn apply_line(
+    alloc: Global,
+    policy: &mut Policy,
+    file: FileKind,
+    cursor: &mut Cursor,
+    line: &[u8],
+) -> Result<EditReply, NoMemory>
+    requires { IsShort policy.old.domains }
+    ensures done { IfOk result (λ reply. apply_parsed policy.old cursor.old (read_line file line.now) ≡ record { policy = policy.new; cursor = cursor.new; reply = reply }) }
+    ensures kept { OnErr result ((policy.new ≡ policy.old) × (cursor.new ≡ cursor.old)) }
+{
+    match read_line(alloc, file, line) {
+        Ok(read) => apply_read(alloc, policy, cursor, read),
+        Err(LineFault::Kind(kind)) => Ok(EditReply::BadLine(kind)),
+        Err(LineFault::NoMemory) => Err(AllocError),
+    }
 }

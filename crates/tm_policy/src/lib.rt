@@ -10,7 +10,7 @@ mod plain;
 mod rep;
 mod searching;
 
-pub use editing::{new_policy, set_opened};
+pub use editing::{apply_line, new_policy, set_opened};
 pub use few::is_few;
 pub use lines::read_line;
 pub use plain::Plain;
