@@ -62,8 +62,8 @@ domain-built word words =
     let files = either (texts_equal word (codes "file")) (file_line words) (Err LineKind.Keyword) (file-built words) (failed LineKind.Keyword) in
     let uses = either (texts_equal word (codes "use_profile")) (use_profile_line words) (if texts_equal word (codes "file") then file_line words else Err LineKind.Keyword) (use-built words) files in
     either (texts_equal word kernel) (at_end (PolicyLine.Domain (DomainRule.Choose kernel)) words)
-      (if texts_equal word (codes "use_profile") then use_profile_line words else (if texts_equal word (codes "file") then file_line words else Err LineKind.Keyword))
-      (ending (PolicyLine.Domain (DomainRule.Choose kernel)) words refl) uses
+    (if texts_equal word (codes "use_profile") then use_profile_line words else (if texts_equal word (codes "file") then file_line words else Err LineKind.Keyword))
+    (ending (PolicyLine.Domain (DomainRule.Choose kernel)) words refl) uses
 
 words-built : (file : FileKind) (words : List Text) → Builds (read_words file words)
 unfolding read_words

@@ -4,3 +4,4 @@ pub mod Executes
 pub mod Few
 pub mod Lists
 pub mod Finds
+pub mod LineExamples

@@ -18,7 +18,10 @@ use tm_domain::namespace;
 use tm_list::{Copied, Map, NoMemory, Seq};
 use tm_rules::{bytes_equal, same_line, texts_equal};
 use tm_types::entry::Entry;
-use tm_types::policy::{Config, Cursor, Domain, DomainRule, Logs, Mode, Namespace, Policy, PolicyLine, Profile, ProfileEffect, ProfileLine, Profiles, Setting};
+use tm_types::policy::{
+    Config, Cursor, Domain, DomainRule, Logs, Mode, Namespace, Policy, PolicyLine, Profile,
+    ProfileEffect, ProfileLine, Profiles, Setting,
+};
 use tm_types::step::{EditReply, FileKind, LineFault};
 use tm_types::unions::{DomainName, Groups};
 use tm_word::Text;
@@ -40,7 +43,8 @@ fn new_domain(alloc: Global, name: DomainName) -> Domain
 
 /// The policy of which nothing is written yet: the domain `<kernel>` alone, with profile 0, not opened. Errors: want of memory.
 pub fn new_policy(alloc: Global) -> Result<Policy, NoMemory>
-    ensures { IfOk result (λ policy. policy ≡ new_policy) }
+    ensures new { IfOk result (λ policy. policy ≡ new_policy) }
+    ensures few { IfOk result (λ policy. IsFew policy) }
 {
     let name = Seq::from_bytes(alloc, b"<kernel>")?;
     let mut domains = Seq::new(alloc);
@@ -57,7 +61,8 @@ pub fn new_policy(alloc: Global) -> Result<Policy, NoMemory>
 /// Opens a policy in which each live domain has its profile. Takes no memory.
 pub fn set_opened(policy: &mut Policy)
     requires { position_from (wants_profile policy.old) 0 policy.old.domains ≡ None }
-    ensures { policy.new ≡ record policy.old { opened = true } }
+    ensures opened { policy.new ≡ record policy.old { opened = true } }
+    ensures few { IsFew policy.old → IsFew policy.new }
 {
     policy.opened = true;
 }
@@ -428,7 +433,10 @@ fn apply_read(
     }
 }
 
-/// Does a line of a policy file, with the cursor of that file: after want of memory policy and cursor are as before.
+/// Does a line of a policy file, with the cursor of that file or editor, and gives its reply: the line is done, or refused by the
+/// policy as it stands, or it is outside the grammar; a refused line changes nothing.
+///
+/// Errors: want of memory, also where a list would have 2^32 - 1 members already; policy and cursor are then as before.
 #[tactic(auto, using(crate::proofs::Built::read_built))]
 pub fn apply_line(
     alloc: Global,
