@@ -1,9 +1,8 @@
 -- What a line keeps few.
-use Rattle.std.proofs.Common.{◌≡◌, ℕ, ◌<◌, ◌^◌, arith, subst, sym, ◌∙◌, length, Bool, true, false, List, [], ◌∷◌, ◌++◌, refl}
+use Rattle.std.proofs.Common.{◌≡◌, ℕ, ◌<◌, ◌^◌, arith, subst, sym, Bool, true, false, List, [], ◌∷◌, ◌++◌}
 use Rattle.std.specs.Prelude.{Some, Result, Ok, Err, OnOk, OnErr, slice_get, if◌then◌else◌}
 use Rattle.std.specs.List.{AllByRecursion}
 use Rattle.tm_word.specs.Words.{Text}
-use Rattle.tm_types.specs.declared.entry.Entry.{Entry}
 use Rattle.tm_types.specs.declared.policy.Namespace.{Namespace}
 use Rattle.tm_types.specs.declared.policy.Domain.{Domain}
 use Rattle.tm_types.specs.declared.policy.Policy.{Policy}

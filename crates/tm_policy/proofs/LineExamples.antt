@@ -1,5 +1,5 @@
 -- worked examples of lines
-use Rattle.std.proofs.Common.{◌≡◌, true, false, [], ◌∷◌, Ok, Err, Some, None, refl}
+use Rattle.std.proofs.Common.{◌≡◌, false, Ok, Err, refl}
 use Rattle.std.specs.Prelude.{codes}
 use Rattle.tm_word.specs.Spelling.{words_of}
 use Rattle.tm_word.specs.Printing.{is_literal, literal}
