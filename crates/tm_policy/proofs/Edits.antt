@@ -1,6 +1,6 @@
 -- A change of the first element that a test finds, or of a new one.
-use Rattle.std.proofs.Common.{◌≡◌, ℕ, zero, suc, ◌+◌, ◌<◌, subst, length, get_or, arith, Bool, true, false, List, [], ◌∷◌, ◌++◌, refl, sym, ap, ◌∙◌}
-use Rattle.std.specs.Prelude.{Option, Some, None, if◌then◌else◌, slice_get, slice_set, bit_or}
+use Rattle.std.proofs.Common.{◌≡◌, ℕ, zero, suc, ◌+◌, subst, get_or, arith, Bool, true, false, List, [], ◌∷◌, ◌++◌, refl, sym, ap, ◌∙◌}
+use Rattle.std.specs.Prelude.{Some, None, if◌then◌else◌, slice_set, bit_or}
 use Rattle.std.specs.List.{position_from, AllByRecursion}
 use Rattle.tm_word.specs.Words.{Text}
 use Rattle.tm_types.specs.declared.entry.Entry.{Entry}

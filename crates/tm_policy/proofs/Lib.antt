@@ -1,6 +1,8 @@
 pub mod Built
 pub mod Edits
 pub mod Executes
+pub mod Few
 pub mod Lists
 pub mod Finds
 pub mod FewLaws
+pub mod LineExamples

@@ -1,12 +1,12 @@
 //! What a line of a policy file does to a policy.
 ghost use Rattle.std.specs.Prelude.{◌≡◌, ◌<◌, ℕ, List, [], true, false, Some, None, length, unwrap_or, option_map, is_some, IfOk, IfSome, OnOk, OnErr};
-ghost use Rattle.std.specs.List.{position_from};
+ghost use Rattle.std.specs.List.{AllByRecursion, position_from};
 ghost use Rattle.tm_types.specs.declared.policy.Domain.{Domain};
 ghost use Rattle.tm_types.specs.declared.policy.Namespace.{Namespace};
 ghost use Rattle.tm_types.specs.declared.policy.DomainRule.{DomainRule};
 ghost use Rattle.tm_types.specs.declared.policy.ProfileEffect.{ProfileEffect};
 ghost use Rattle.tm_rules.specs.Equality.{texts_equal};
-ghost use Rattle.tm_rules.specs.Few.{IsShort, IsFew};
+ghost use Rattle.tm_rules.specs.Few.{IsShort, IsFewHere, IsFew};
 ghost use Rattle.tm_rules.specs.Policy.{at_key, namespace_word, empty_namespace, profile_numbered, live_domain, with_domain, adding, same_line};
 ghost use Rattle.tm_rules.specs.Edit.{Edited, new_domain, new_profile, set_config, profile_line, in_namespace, chosen, domain_line, apply_read, apply_parsed};
 ghost use Rattle.tm_rules.specs.Load.{new_policy, wants_profile};
@@ -43,7 +43,8 @@ fn new_domain(alloc: Global, name: DomainName) -> Domain
 
 /// The policy of which nothing is written yet: the domain `<kernel>` alone, with profile 0, not opened. Errors: want of memory.
 pub fn new_policy(alloc: Global) -> Result<Policy, NoMemory>
-    ensures { IfOk result (λ policy. policy ≡ new_policy) }
+    ensures new { IfOk result (λ policy. policy ≡ new_policy) }
+    ensures few { IfOk result (λ policy. IsFew policy) }
 {
     let name = Seq::from_bytes(alloc, b"<kernel>")?;
     let mut domains = Seq::new(alloc);
@@ -60,7 +61,8 @@ pub fn new_policy(alloc: Global) -> Result<Policy, NoMemory>
 /// Opens a policy in which each live domain has its profile. Takes no memory.
 pub fn set_opened(policy: &mut Policy)
     requires { position_from (wants_profile policy.old) 0 policy.old.domains ≡ None }
-    ensures { policy.new ≡ record policy.old { opened = true } }
+    ensures opened { policy.new ≡ record policy.old { opened = true } }
+    ensures few { IsFew policy.old → IsFew policy.new }
 {
     policy.opened = true;
 }
@@ -174,7 +176,6 @@ fn namespace_place(namespaces: &[Namespace], name: &Text) -> Option<usize>
 }
 
 // The namespaces after a profile line of the namespace of that name.
-#[tactic(auto, using(crate::proofs::Edits::namespace_last, crate::proofs::Edits::namespace_at))]
 fn in_namespace(
     alloc: Global,
     namespaces: &mut Seq<Namespace>,
@@ -183,6 +184,7 @@ fn in_namespace(
     requires { is_built_effect line.effect ≡ true }
     ensures done { OnOk result (namespaces.new ≡ in_namespace line.namespace (profile_line line.effect) namespaces.old) }
     ensures kept { OnErr result (namespaces.new ≡ namespaces.old) }
+    ensures few { AllByRecursion IsFewHere namespaces.old → AllByRecursion IsFewHere namespaces.new }
 {
     match namespace_place(namespaces.as_slice(), &line.namespace) {
         Some(place) => {
@@ -212,7 +214,6 @@ fn entry_place(entries: &[Entry], line: &Entry) -> Option<usize>
 }
 
 // The entries with a line added.
-#[tactic(auto, using(crate::proofs::Edits::adding_last, crate::proofs::Edits::adding_at))]
 fn adding(mut entries: Vec<Entry>, line: Entry) -> Result<Seq<Entry>, NoMemory>
     ensures done { IfOk result (λ made. made ≡ adding line entries.items) }
     ensures short { IfOk result (λ made. IsShort entries.items → IsShort made) }
@@ -260,9 +261,11 @@ fn live_domain(policy: &Policy, name: &DomainName) -> Option<u32>
 }
 
 // The chosen domain, where it is live.
+#[tactic(auto, using(crate::proofs::Few::short_entries))]
 fn chosen(policy: &Policy, cursor: Cursor) -> Option<(u32, &Domain)>
     ensures found { option_map (λ (pair : _). (pair.0, pair.1.now)) result ≡ chosen policy.now cursor }
     ensures within { IfSome result (λ pair. pair.0 < length policy.now.domains) }
+    ensures short { IfSome result (λ pair. IsFew policy.now → IsShort pair.1.now.entries) }
 {
     match cursor {
         Some(number) => match policy.domains.get(number as usize) {
@@ -299,6 +302,7 @@ fn use_profile(
 ) -> Result<EditReply, NoMemory>
     ensures done { IfOk result (λ reply. domain_line policy.old cursor (DomainRule.UseProfile number) ≡ record { policy = policy.new; cursor = cursor; reply = reply }) }
     ensures kept { OnErr result (policy.new ≡ policy.old) }
+    ensures few { IsFew policy.old → IsFew policy.new }
 {
     match chosen(policy, cursor) {
         Some((place, domain)) => {
@@ -335,6 +339,7 @@ fn add_entry(
 ) -> Result<EditReply, NoMemory>
     ensures done { IfOk result (λ reply. domain_line policy.old cursor (DomainRule.Acl false line) ≡ record { policy = policy.new; cursor = cursor; reply = reply }) }
     ensures kept { OnErr result (policy.new ≡ policy.old) }
+    ensures few { IsFew policy.old → IsFew policy.new }
 {
     match chosen(policy, cursor) {
         Some((place, domain)) => {
@@ -347,7 +352,7 @@ fn add_entry(
 }
 
 // Chooses the live domain of a name, or makes one.
-#[tactic(auto, unfolding(tm_rules::specs::Edit::domain_line))]
+#[tactic(auto, using(crate::proofs::Few::few_with_domain), unfolding(tm_rules::specs::Edit::domain_line))]
 fn choose(
     alloc: Global,
     policy: &mut Policy,
@@ -357,6 +362,7 @@ fn choose(
     requires { IsShort policy.old.domains }
     ensures done { IfOk result (λ reply. domain_line policy.old cursor.old (DomainRule.Choose name) ≡ record { policy = policy.new; cursor = cursor.new; reply = reply }) }
     ensures kept { OnErr result ((policy.new ≡ policy.old) × (cursor.new ≡ cursor.old)) }
+    ensures few { IsFew policy.old → IsFew policy.new }
 {
     if let Some(place) = live_domain(policy, &name) {
         *cursor = Some(place);
@@ -385,6 +391,7 @@ fn apply_rule(
     requires short { IsShort policy.old.domains }
     ensures done { IfOk result (λ reply. domain_line policy.old cursor.old rule ≡ record { policy = policy.new; cursor = cursor.new; reply = reply }) }
     ensures kept { OnErr result ((policy.new ≡ policy.old) × (cursor.new ≡ cursor.old)) }
+    ensures few { IsFew policy.old → IsFew policy.new }
 {
     match rule {
         DomainRule::Choose(name) => choose(alloc, policy, cursor, name),
@@ -400,7 +407,7 @@ fn apply_rule(
 }
 
 // What a line that was read does.
-#[tactic(auto, unfolding(tm_rules::specs::Edit::apply_read))]
+#[tactic(auto, using(crate::proofs::Few::few_with_namespaces), unfolding(tm_rules::specs::Edit::apply_read))]
 fn apply_read(
     alloc: Global,
     policy: &mut Policy,
@@ -411,6 +418,7 @@ fn apply_read(
     requires short { IsShort policy.old.domains }
     ensures done { IfOk result (λ reply. apply_read policy.old cursor.old line ≡ record { policy = policy.new; cursor = cursor.new; reply = reply }) }
     ensures kept { OnErr result ((policy.new ≡ policy.old) × (cursor.new ≡ cursor.old)) }
+    ensures few { IsFew policy.old → IsFew policy.new }
 {
     match line {
         PolicyLine::Nothing => Ok(EditReply::Done),
@@ -425,7 +433,10 @@ fn apply_read(
     }
 }
 
-/// Does a line of a policy file, with the cursor of that file: after want of memory policy and cursor are as before.
+/// Does a line of a policy file, with the cursor of that file or editor, and gives its reply: the line is done, or refused by the
+/// policy as it stands, or it is outside the grammar; a refused line changes nothing.
+///
+/// Errors: want of memory, also where a list would have 2^32 - 1 members already; policy and cursor are then as before.
 #[tactic(auto, using(crate::proofs::Built::read_built))]
 pub fn apply_line(
     alloc: Global,
@@ -437,6 +448,7 @@ pub fn apply_line(
     requires { IsShort policy.old.domains }
     ensures done { IfOk result (λ reply. apply_parsed policy.old cursor.old (read_line file line.now) ≡ record { policy = policy.new; cursor = cursor.new; reply = reply }) }
     ensures kept { OnErr result ((policy.new ≡ policy.old) × (cursor.new ≡ cursor.old)) }
+    ensures few { IsFew policy.old → IsFew policy.new }
 {
     match read_line(alloc, file, line) {
         Ok(read) => apply_read(alloc, policy, cursor, read),

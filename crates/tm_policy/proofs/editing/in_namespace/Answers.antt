@@ -1,11 +1,11 @@
-use Rattle.std.proofs.Common.{◌≡◌, ◌++◌, ◌∷◌, [], Some, None, slice_set, subst, sym, ◌∙◌, rules}
+use Rattle.std.proofs.Common.{◌≡◌, Some, None, slice_set, subst, sym, ◌∙◌, rules}
 use Rattle.std.specs.Prelude.{OnOk}
 use Rattle.std.specs.List.{position_from}
 use Rattle.tm_types.specs.declared.policy.Namespace.{Namespace}
 use Rattle.tm_rules.specs.Equality.{texts_equal}
-use Rattle.tm_rules.specs.Policy.{empty_namespace}
 use Rattle.tm_rules.specs.Edit.{profile_line}
 use Rattle.tm_policy.proofs.Edits.{namespace_last, namespace_at}
+use Rattle.tm_policy.proofs.Few.{few_namespaces, few_after}
 use Rattle.tm_policy.proofs.editing.in_namespace.Goals as goal
 
 pub returns-in_ok-changed-in-Some-clause-done : goal.returns-in_ok-changed-in-Some-clause-done
@@ -20,3 +20,11 @@ returns-in_ok-profile_line-in-None-clause-done c =
     let found : position_from (λ (ns : Namespace). texts_equal ns.name c.args.line.namespace) 0 c.args.namespaces.now ≡ None = search rules in
     let last = namespace_last c.args.line.namespace (profile_line c.args.line.effect) c.args.namespaces.now found in
     subst (λ t. OnOk c.push.result (c.push.new.self ≡ t)) (sym last) (search rules)
+
+pub returns-in_ok-changed-in-Some-clause-few : goal.returns-in_ok-changed-in-Some-clause-few
+returns-in_ok-changed-in-Some-clause-few c =
+    few_namespaces c.args.line.namespace c.args.line.effect c.args.namespaces.now c.set.new.self (returns-in_ok-changed-in-Some-clause-done c)
+
+pub returns-in_ok-profile_line-in-None-clause-few : goal.returns-in_ok-profile_line-in-None-clause-few
+returns-in_ok-profile_line-in-None-clause-few c =
+    few_after c.push.result c.args.line.namespace c.args.line.effect c.args.namespaces.now c.push.new.self (returns-in_ok-profile_line-in-None-clause-done c) (search rules)
