@@ -1,8 +1,8 @@
 use Rattle.std.proofs.Common.{◌≡◌, ℕ, suc, List, [], drop}
-use Rattle.std.specs.Prelude.{None, length}
+use Rattle.std.specs.Prelude.{None}
 use Rattle.tm_forms.specs.Trace.{trace_lines}
 use Rattle.tm_forms.proofs.trace.read_trace.Given as goal
 
 -- from here on it gives what the whole gives
 abbrev pub invariant-loop-place : goal.invariant-loop-place
-invariant-loop-place l = trace_lines (suc (length l.yielded)) l.state (drop (length l.yielded) l.lines.items) ≡ trace_lines 1 None l.lines.items
+invariant-loop-place l = trace_lines (suc l.place) l.state (drop l.place l.line-items) ≡ trace_lines 1 None l.line-items
