@@ -7,4 +7,4 @@ mod lines;
 mod trace;
 
 pub use lines::FormFault;
-pub use trace::read_trace;
+pub use trace::{plain_traces, read_trace};

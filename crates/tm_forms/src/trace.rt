@@ -1,6 +1,7 @@
 //! Traces of the first path.
 ghost use Rattle.std.specs.Prelude.{◌≡◌, Ok, IfOk};
 ghost use Rattle.tm_forms.specs.Lines.{Gives};
+ghost use Rattle.tm_forms.specs.TraceForms.{EveryTraceIsPlain};
 ghost use Rattle.tm_forms.specs.Trace.{pid_of, path_request, named_request, request_of, with_request, same_pid, tree_line, do_line, trace_line, trace_of};
 
 use crate::lines::{FormFault, text_lines};
@@ -205,3 +206,9 @@ pub fn read_trace(alloc: Global, bytes: &[u8]) -> Result<Trace, FormFault>
     }
     Ok(trace)
 }
+
+/// A law, nothing to run: every trace that is read has at most one tree, which begins in `<kernel>` and has only requests of its
+/// own process, each one that a trace can hold, no execute and no manual transition.
+pub fn plain_traces()
+    ensures { EveryTraceIsPlain }
+{}
