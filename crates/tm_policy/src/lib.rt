@@ -3,7 +3,9 @@
 //! Promises that a search finds the first entry that grants, and that a change is the defined one or, for want of memory, none.
 #![tactic(auto)]
 
+mod lines;
 mod rep;
 mod searching;
 
+pub use lines::read_line;
 pub use rep::Rep;

@@ -1,0 +1,212 @@
+-- Reading a policy line: the forms built so far. Every other line is read by later stages, and until then is a bad keyword.
+use Rattle.std.specs.Prelude.{◌≡◌, ℕ, ◌==◌, nat_lt, ◌&&◌, not, if◌then◌else◌, Bool, true, false, List, [], ◌∷◌, take, drop, Option, Some, None, Result, Ok, Err, bit_or, codes}
+use Rattle.std.specs.List.{position, slice_split}
+use Rattle.tm_word.specs.Words.{Text, Pattern}
+use Rattle.tm_word.specs.Spelling.{words_of}
+use Rattle.tm_word.specs.Printing.{is_literal}
+use Rattle.tm_number.specs.declared.Base.{Base}
+use Rattle.tm_number.specs.declared.Number.{Number}
+use Rattle.tm_number.specs.declared.text.NumberFault.{NumberFault}
+use Rattle.tm_number.specs.Numbers.{number_of, same_base}
+use Rattle.tm_pattern.specs.declared.reading.PatternFault.{PatternFault}
+use Rattle.tm_pattern.specs.Reading.{pattern_of}
+use Rattle.tm_types.specs.declared.entry.Args.{Args}
+use Rattle.tm_types.specs.declared.entry.Entry.{Entry}
+use Rattle.tm_types.specs.declared.entry.LineKind.{LineKind}
+use Rattle.tm_types.specs.declared.unions.NameUnion.{NameUnion}
+use Rattle.tm_types.specs.declared.policy.DomainRule.{DomainRule}
+use Rattle.tm_types.specs.declared.policy.Mode.{Mode}
+use Rattle.tm_types.specs.declared.policy.PolicyLine.{PolicyLine}
+use Rattle.tm_types.specs.declared.policy.ProfileEffect.{ProfileEffect}
+use Rattle.tm_types.specs.declared.policy.Setting.{Setting}
+use Rattle.tm_types.specs.declared.step.FileKind.{FileKind}
+use Rattle.tm_types.specs.declared.step.LineFault.{LineFault}
+use Rattle.tm_rules.specs.Equality.{texts_equal}
+use Rattle.tm_rules.specs.Policy.{kernel}
+
+-- a fault is the kind that reading gives, unless memory ran out
+abbrev pub Fails : {Y : Type 0} → LineFault → Result Y LineKind → Type 0
+Fails LineFault.NoMemory read = Unit {0}
+Fails (LineFault.Kind kind) read = read ≡ Err kind
+
+-- what a call returned, seen by view, is what reading gives, unless memory ran out
+abbrev pub Gives : {X Y : Type 0} → (X → Y) → Result X LineFault → Result Y LineKind → Type 0
+Gives view (Ok x) read = read ≡ Ok (view x)
+Gives view (Err fault) read = Fails fault read
+
+infixl 10 ◌>>=◌
+-- the next step, unless one before it failed
+abbrev pub ◌>>=◌ : {A B : Type 0} → Result A LineKind → (A → Result B LineKind) → Result B LineKind
+(Ok x) >>= f = f x
+(Err kind) >>= f = Err kind
+
+-- Steps, each with the words that are left
+
+-- the first word, as this reads it
+abbrev pub word_at : {A : Type 0} → (Text → Result A LineKind) → List Text → Result (A × List Text) LineKind
+word_at read [] = Err LineKind.Keyword
+word_at read (word ∷ words) = read word >>= λ x. Ok (x, words)
+
+-- the first word is this one
+abbrev pub keyword_at : Text → List Text → Result (List Text) LineKind
+keyword_at keyword [] = Err LineKind.Keyword
+keyword_at keyword (word ∷ words) = if texts_equal word keyword then Ok words else Err LineKind.Keyword
+
+-- the line, where no word is left
+abbrev pub at_end : PolicyLine → List Text → Result PolicyLine LineKind
+at_end line [] = Ok line
+at_end line (word ∷ words) = Err LineKind.Keyword
+
+-- Numbers of profiles
+
+-- a plain decimal from 0 to 255
+abbrev pub profile_value : Result Number NumberFault → Result ℕ LineKind
+profile_value (Ok n) = if same_base n.base Base.Decimal && nat_lt n.value 256 then Ok n.value else Err LineKind.Keyword
+profile_value (Err fault) = Err LineKind.Keyword
+
+-- the number of a profile that a word writes
+abbrev pub profile_number : Text → Result ℕ LineKind
+profile_number word = profile_value (number_of word)
+
+-- Profile lines
+
+-- what stands before `-CONFIG={`
+abbrev pub config_cut : Option ℕ → Text → Result ℕ LineKind
+config_cut None word = Err LineKind.Keyword
+config_cut (Some k) word = if texts_equal (drop k word) (codes "-CONFIG={") then profile_number (take k word) else Err LineKind.Keyword
+
+-- the number in `N-CONFIG={`
+abbrev pub config_number : Text → Result ℕ LineKind
+config_number word = config_cut (position (λ b. b == 45) word) word
+
+-- `mode=disabled` or `mode=enforcing`, or one of the two between them
+abbrev pub mode_word : Text → Result Mode LineKind
+mode_word word =
+    if texts_equal word (codes "mode=disabled")
+    then Ok Mode.Disabled
+    else
+    (if texts_equal word (codes "mode=learning")
+    then Ok Mode.Learning
+    else
+    (if texts_equal word (codes "mode=permissive")
+    then Ok Mode.Permissive
+    else (if texts_equal word (codes "mode=enforcing") then Ok Mode.Enforcing else Err LineKind.Keyword)))
+
+-- what a profile line of the namespace `<kernel>` does
+abbrev pub kernel_profile : ProfileEffect → PolicyLine
+kernel_profile effect = PolicyLine.Profile (record { namespace = kernel; effect = effect })
+
+-- a mode, with no log
+abbrev pub silent : Mode → Setting
+silent mode = record { mode = mode; grant = Some false; reject = Some false }
+
+-- `N-CONFIG={ mode=M grant_log=no reject_log=no }`
+unfoldable pub config_line : List Text → Result PolicyLine LineKind
+config_line words = do
+  number ← word_at config_number words
+  mode ← word_at mode_word number.1
+  grant ← keyword_at (codes "grant_log=no") mode.1
+  reject ← keyword_at (codes "reject_log=no") grant
+  rest ← keyword_at (codes "}") reject
+  at_end (kernel_profile (ProfileEffect.Config number.0 (silent mode.0))) rest
+
+-- `PROFILE_VERSION=20150505`, or a mode
+unfoldable pub profile_line : Text → List Text → Result PolicyLine LineKind
+profile_line word words = if texts_equal word (codes "PROFILE_VERSION=20150505") then at_end (kernel_profile ProfileEffect.Version) words else config_line (word ∷ words)
+
+-- Domain lines
+
+-- the permission of a word: read stands at place 1, write at place 2
+abbrev pub mask : Text → Result ℕ LineKind
+mask piece = if texts_equal piece (codes "read") then Ok 2 else (if texts_equal piece (codes "write") then Ok 4 else Err LineKind.Keyword)
+
+-- these permissions and those of the words
+abbrev pub bits_after : ℕ → List Text → Result ℕ LineKind
+bits_after bits [] = Ok bits
+bits_after bits (piece ∷ pieces) = mask piece >>= λ more. bits_after (bit_or bits more) pieces
+
+-- permissions joined by `/`, in any order
+unfoldable pub perms_word : Text → Result ℕ LineKind
+perms_word word = bits_after 0 (slice_split (λ b. b == 47) word)
+
+-- a name of a group begins with `@`
+abbrev pub is_group : Text → Bool
+is_group [] = false
+is_group (b ∷ rest) = b == 64
+
+-- a pattern that stands for one name
+abbrev pub literal_name : Result Pattern PatternFault → Result NameUnion LineKind
+literal_name (Ok pattern) = if is_literal pattern then Ok (NameUnion.One pattern) else Err LineKind.Keyword
+literal_name (Err fault) = Err LineKind.Keyword
+
+-- the literal that a word writes
+unfoldable pub name_word : Text → Result NameUnion LineKind
+name_word word = if is_group word then Err LineKind.Keyword else literal_name (pattern_of word)
+
+-- an entry of the row of single paths, without conditions
+abbrev pub path_entry : NameUnion → ℕ → Entry
+path_entry name bits = record { args = Args.Path name; perms = record { bits = bits }; cond = record { clauses = []; grant_log = None } }
+
+-- the words after `file`: permissions and a name
+unfoldable pub file_line : List Text → Result PolicyLine LineKind
+file_line words = do
+  perms ← word_at perms_word words
+  name ← word_at name_word perms.1
+  at_end (PolicyLine.Domain (DomainRule.Acl false (path_entry name.0 perms.0))) name.1
+
+-- the word after `use_profile`
+unfoldable pub use_profile_line : List Text → Result PolicyLine LineKind
+use_profile_line words = do
+  number ← word_at profile_number words
+  at_end (PolicyLine.Domain (DomainRule.UseProfile number.0)) number.1
+
+-- `<kernel>`, `use_profile N`, or `file PERMISSIONS NAME`
+unfoldable pub domain_line : Text → List Text → Result PolicyLine LineKind
+domain_line word words =
+    if texts_equal word kernel
+    then at_end (PolicyLine.Domain (DomainRule.Choose kernel)) words
+    else (if texts_equal word (codes "use_profile") then use_profile_line words else (if texts_equal word (codes "file") then file_line words else Err LineKind.Keyword))
+
+-- Lines
+
+-- the line of a file with these words
+unfoldable pub read_words : FileKind → List Text → Result PolicyLine LineKind
+read_words file [] = Ok PolicyLine.Nothing
+read_words FileKind.Profile (word ∷ words) = profile_line word words
+read_words FileKind.Exception (word ∷ words) = Err LineKind.Keyword
+read_words FileKind.Domain (word ∷ words) = domain_line word words
+read_words FileKind.Manager (word ∷ words) = Err LineKind.Keyword
+
+-- the line of a file that a text writes
+unfoldable pub read_line : FileKind → Text → Result PolicyLine LineKind
+read_line file line = read_words file (words_of line)
+
+-- What was read
+
+-- what a line of a profile does is built
+abbrev pub is_built_effect : ProfileEffect → Bool
+is_built_effect ProfileEffect.Version = true
+is_built_effect (ProfileEffect.Comment n text) = false
+is_built_effect (ProfileEffect.Preference n audit learning) = false
+is_built_effect (ProfileEffect.Config n setting) = true
+is_built_effect (ProfileEffect.Slot n name setting) = false
+
+-- what a line of a domain does is built
+abbrev pub is_built_rule : DomainRule → Bool
+is_built_rule (DomainRule.Choose name) = true
+is_built_rule (DomainRule.Select name) = false
+is_built_rule (DomainRule.Delete name) = false
+is_built_rule (DomainRule.UseProfile n) = true
+is_built_rule (DomainRule.UseGroup delete n) = false
+is_built_rule (DomainRule.QuotaExceeded delete) = false
+is_built_rule (DomainRule.TransitionFailed delete) = false
+is_built_rule (DomainRule.Acl delete entry) = not delete
+
+-- what a line does is built
+abbrev pub is_built : PolicyLine → Bool
+is_built PolicyLine.Nothing = true
+is_built (PolicyLine.Profile line) = is_built_effect line.effect
+is_built (PolicyLine.Exception line) = false
+is_built (PolicyLine.Group line) = false
+is_built (PolicyLine.Domain rule) = is_built_rule rule
+is_built (PolicyLine.Manager delete rule) = false

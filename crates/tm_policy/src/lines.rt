@@ -1,0 +1,346 @@
+//! Reading a policy line: the forms built so far.
+ghost use Rattle.std.specs.Prelude.{◌≡◌, ◌==◌, ◌∷◌, IfOk};
+ghost use Rattle.std.specs.List.{position, slice_split};
+ghost use Rattle.tm_policy.specs.Lines.{Gives, word_at, keyword_at, at_end, profile_number, config_cut, config_number, mode_word, kernel_profile, config_line, profile_line, mask, bits_after, perms_word, is_group, name_word, path_entry, file_line, use_profile_line, domain_line, read_words, read_line};
+
+use std::alloc::Global;
+use tm_list::{NoMemory, Seq};
+use tm_number::{Base, read_number};
+use tm_pattern::{PatternFault, is_literal, read_pattern};
+use tm_rules::bytes_equal;
+use tm_types::entry::{Args, Cond, Entry, LineKind, Perms};
+use tm_types::policy::{DomainRule, Mode, PolicyLine, ProfileEffect, ProfileLine, Setting};
+use tm_types::step::{FileKind, LineFault};
+use tm_types::unions::NameUnion;
+use tm_word::{Text, normal_words};
+
+// The words after a keyword.
+fn keyword_at<'a>(keyword: &[u8], words: &'a [Text]) -> Result<&'a [Text], LineFault>
+    ensures { Gives (λ rest. rest.now) result (keyword_at keyword.now words.now) }
+{
+    match words {
+        [] => Err(LineFault::Kind(LineKind::Keyword)),
+        [word, rest @ ..] => {
+            if bytes_equal(word.bytes(), keyword) {
+                Ok(rest)
+            } else {
+                Err(LineFault::Kind(LineKind::Keyword))
+            }
+        }
+    }
+}
+
+// The line, where no word is left.
+fn at_end(line: PolicyLine, words: &[Text]) -> Result<PolicyLine, LineFault>
+    ensures { Gives (λ x. x) result (at_end line words.now) }
+{
+    match words {
+        [] => Ok(line),
+        [_, ..] => Err(LineFault::Kind(LineKind::Keyword)),
+    }
+}
+
+// The number of a profile.
+fn profile_number(word: &[u8]) -> Result<u8, LineFault>
+    ensures { Gives (λ x. x) result (profile_number word.now) }
+{
+    match read_number(word) {
+        Ok(number) => match number.base {
+            Base::Decimal => {
+                if number.value < 256 {
+                    Ok(number.value as u8)
+                } else {
+                    Err(LineFault::Kind(LineKind::Keyword))
+                }
+            }
+            Base::Octal => Err(LineFault::Kind(LineKind::Keyword)),
+            Base::Hex => Err(LineFault::Kind(LineKind::Keyword)),
+        },
+        Err(_) => Err(LineFault::Kind(LineKind::Keyword)),
+    }
+}
+
+// Where the first `-` stands.
+fn cut_of(word: &[u8]) -> Option<usize>
+    ensures { result ≡ position (λ b. b == 45) word.now }
+{
+    word.iter().position(|byte| *byte == b'-')
+}
+
+// The number in `N-CONFIG={`.
+fn config_number(word: &[u8]) -> Result<u8, LineFault>
+    ensures { Gives (λ x. x) result (config_number word.now) }
+{
+    match cut_of(word) {
+        Some(place) => {
+            if bytes_equal(&word[place..], b"-CONFIG={") {
+                profile_number(&word[..place])
+            } else {
+                Err(LineFault::Kind(LineKind::Keyword))
+            }
+        }
+        None => Err(LineFault::Kind(LineKind::Keyword)),
+    }
+}
+
+fn config_number_at(words: &[Text]) -> Result<(u8, &[Text]), LineFault>
+    ensures { Gives (λ x. (x.0, x.1.now)) result (word_at config_number words.now) }
+{
+    match words {
+        [] => Err(LineFault::Kind(LineKind::Keyword)),
+        [word, rest @ ..] => Ok((config_number(word.bytes())?, rest)),
+    }
+}
+
+fn profile_number_at(words: &[Text]) -> Result<(u8, &[Text]), LineFault>
+    ensures { Gives (λ x. (x.0, x.1.now)) result (word_at profile_number words.now) }
+{
+    match words {
+        [] => Err(LineFault::Kind(LineKind::Keyword)),
+        [word, rest @ ..] => Ok((profile_number(word.bytes())?, rest)),
+    }
+}
+
+fn mode_word(word: &[u8]) -> Result<Mode, LineFault>
+    ensures { Gives (λ x. x) result (mode_word word.now) }
+{
+    if bytes_equal(word, b"mode=disabled") {
+        return Ok(Mode::Disabled);
+    }
+    if bytes_equal(word, b"mode=learning") {
+        return Ok(Mode::Learning);
+    }
+    if bytes_equal(word, b"mode=permissive") {
+        return Ok(Mode::Permissive);
+    }
+    if bytes_equal(word, b"mode=enforcing") {
+        return Ok(Mode::Enforcing);
+    }
+    Err(LineFault::Kind(LineKind::Keyword))
+}
+
+fn mode_at(words: &[Text]) -> Result<(Mode, &[Text]), LineFault>
+    ensures { Gives (λ x. (x.0, x.1.now)) result (word_at mode_word words.now) }
+{
+    match words {
+        [] => Err(LineFault::Kind(LineKind::Keyword)),
+        [word, rest @ ..] => Ok((mode_word(word.bytes())?, rest)),
+    }
+}
+
+// A profile line of the namespace `<kernel>`.
+fn kernel_profile(alloc: Global, effect: ProfileEffect) -> Result<PolicyLine, NoMemory>
+    ensures { IfOk result (λ line. line ≡ kernel_profile effect) }
+{
+    let namespace = Seq::from_bytes(alloc, b"<kernel>")?;
+    Ok(PolicyLine::Profile(ProfileLine { namespace, effect }))
+}
+
+#[tactic(auto, unfolding(crate::specs::Lines::config_line))]
+fn config_line(alloc: Global, words: &[Text]) -> Result<PolicyLine, LineFault>
+    ensures { Gives (λ x. x) result (config_line words.now) }
+{
+    let (number, rest) = config_number_at(words)?;
+    let (mode, rest) = mode_at(rest)?;
+    let rest = keyword_at(b"grant_log=no", rest)?;
+    let rest = keyword_at(b"reject_log=no", rest)?;
+    let rest = keyword_at(b"}", rest)?;
+    let setting = Setting {
+        mode,
+        grant: Some(false),
+        reject: Some(false),
+    };
+    at_end(
+        kernel_profile(alloc, ProfileEffect::Config(number, setting))?,
+        rest,
+    )
+}
+
+#[tactic(auto, unfolding(crate::specs::Lines::profile_line))]
+fn profile_line(
+    alloc: Global,
+    word: &[u8],
+    rest: &[Text],
+    words: &[Text],
+) -> Result<PolicyLine, LineFault>
+    requires { words.now ≡ word.now ∷ rest.now }
+    ensures { Gives (λ x. x) result (profile_line word.now rest.now) }
+{
+    if bytes_equal(word, b"PROFILE_VERSION=20150505") {
+        at_end(kernel_profile(alloc, ProfileEffect::Version)?, rest)
+    } else {
+        config_line(alloc, words)
+    }
+}
+
+// The permission of a word.
+fn mask(piece: &[u8]) -> Result<u16, LineFault>
+    ensures { Gives (λ x. x) result (mask piece.now) }
+{
+    if bytes_equal(piece, b"read") {
+        return Ok(2);
+    }
+    if bytes_equal(piece, b"write") {
+        return Ok(4);
+    }
+    Err(LineFault::Kind(LineKind::Keyword))
+}
+
+// What stands between the slashes of a word.
+fn pieces_of(alloc: Global, word: &[u8]) -> Result<Vec<Text>, NoMemory>
+    ensures { IfOk result (λ pieces. pieces.items ≡ slice_split (λ b. b == 47) word.now) }
+{
+    let mut made = Vec::new(alloc);
+    for piece in word.split(|byte| *byte == b'/') {
+        made.push(Seq::from_bytes(alloc, piece)?)?;
+    }
+    Ok(made)
+}
+
+// The permissions of these words.
+fn bits_of(pieces: &[Text]) -> Result<u16, LineFault>
+    ensures { Gives (λ x. x) result (bits_after 0 pieces.now) }
+{
+    let mut bits = 0u16;
+    for piece in pieces {
+        bits |= mask(piece.bytes())?;
+    }
+    Ok(bits)
+}
+
+#[tactic(auto, unfolding(crate::specs::Lines::perms_word))]
+fn perms_word(alloc: Global, word: &[u8]) -> Result<u16, LineFault>
+    ensures { Gives (λ x. x) result (perms_word word.now) }
+{
+    let pieces = pieces_of(alloc, word)?;
+    bits_of(pieces.as_slice())
+}
+
+fn perms_at(alloc: Global, words: &[Text]) -> Result<(u16, &[Text]), LineFault>
+    ensures { Gives (λ x. (x.0, x.1.now)) result (word_at perms_word words.now) }
+{
+    match words {
+        [] => Err(LineFault::Kind(LineKind::Keyword)),
+        [word, rest @ ..] => Ok((perms_word(alloc, word.bytes())?, rest)),
+    }
+}
+
+fn is_group(word: &[u8]) -> bool
+    ensures { result ≡ is_group word.now }
+{
+    match word {
+        [] => false,
+        [byte, ..] => *byte == b'@',
+    }
+}
+
+// The literal that a word writes.
+#[tactic(auto, unfolding(crate::specs::Lines::name_word))]
+fn name_word(alloc: Global, word: &[u8]) -> Result<NameUnion, LineFault>
+    ensures { Gives (λ x. x) result (name_word word.now) }
+{
+    if is_group(word) {
+        return Err(LineFault::Kind(LineKind::Keyword));
+    }
+    match read_pattern(alloc, word) {
+        Ok(pattern) => {
+            if is_literal(&pattern) {
+                Ok(NameUnion::One(pattern))
+            } else {
+                Err(LineFault::Kind(LineKind::Keyword))
+            }
+        }
+        Err(PatternFault::BadElement(_)) => Err(LineFault::Kind(LineKind::Keyword)),
+        Err(PatternFault::LoneBrace(_)) => Err(LineFault::Kind(LineKind::Keyword)),
+        Err(PatternFault::EmptyPart(_)) => Err(LineFault::Kind(LineKind::Keyword)),
+        Err(PatternFault::NoMemory) => Err(LineFault::NoMemory),
+    }
+}
+
+fn name_at(alloc: Global, words: &[Text]) -> Result<(NameUnion, &[Text]), LineFault>
+    ensures { Gives (λ x. (x.0, x.1.now)) result (word_at name_word words.now) }
+{
+    match words {
+        [] => Err(LineFault::Kind(LineKind::Keyword)),
+        [word, rest @ ..] => Ok((name_word(alloc, word.bytes())?, rest)),
+    }
+}
+
+// An entry of the row of single paths, without conditions.
+fn path_entry(alloc: Global, name: NameUnion, bits: u16) -> Entry
+    ensures { result ≡ path_entry name bits }
+{
+    Entry {
+        args: Args::Path(name),
+        perms: Perms { bits },
+        cond: Cond {
+            clauses: Seq::new(alloc),
+            grant_log: None,
+        },
+    }
+}
+
+#[tactic(auto, unfolding(crate::specs::Lines::file_line))]
+fn file_line(alloc: Global, words: &[Text]) -> Result<PolicyLine, LineFault>
+    ensures { Gives (λ x. x) result (file_line words.now) }
+{
+    let (bits, rest) = perms_at(alloc, words)?;
+    let (name, rest) = name_at(alloc, rest)?;
+    at_end(
+        PolicyLine::Domain(DomainRule::Acl(false, path_entry(alloc, name, bits))),
+        rest,
+    )
+}
+
+#[tactic(auto, unfolding(crate::specs::Lines::use_profile_line))]
+fn use_profile_line(words: &[Text]) -> Result<PolicyLine, LineFault>
+    ensures { Gives (λ x. x) result (use_profile_line words.now) }
+{
+    let (number, rest) = profile_number_at(words)?;
+    at_end(PolicyLine::Domain(DomainRule::UseProfile(number)), rest)
+}
+
+#[tactic(auto, unfolding(crate::specs::Lines::domain_line))]
+fn domain_line(alloc: Global, word: &[u8], words: &[Text]) -> Result<PolicyLine, LineFault>
+    ensures { Gives (λ x. x) result (domain_line word.now words.now) }
+{
+    if bytes_equal(word, b"<kernel>") {
+        let name = Seq::from_bytes(alloc, b"<kernel>")?;
+        return at_end(PolicyLine::Domain(DomainRule::Choose(name)), words);
+    }
+    if bytes_equal(word, b"use_profile") {
+        return use_profile_line(words);
+    }
+    if bytes_equal(word, b"file") {
+        return file_line(alloc, words);
+    }
+    Err(LineFault::Kind(LineKind::Keyword))
+}
+
+#[tactic(auto, unfolding(crate::specs::Lines::read_words))]
+fn read_words(alloc: Global, file: FileKind, words: &[Text]) -> Result<PolicyLine, LineFault>
+    ensures { Gives (λ x. x) result (read_words file words.now) }
+{
+    match words {
+        [] => Ok(PolicyLine::Nothing),
+        [word, rest @ ..] => match file {
+            FileKind::Profile => profile_line(alloc, word.bytes(), rest, words),
+            FileKind::Exception => Err(LineFault::Kind(LineKind::Keyword)),
+            FileKind::Domain => domain_line(alloc, word.bytes(), rest),
+            FileKind::Manager => Err(LineFault::Kind(LineKind::Keyword)),
+        },
+    }
+}
+
+/// Reads a line of a policy file, in the forms built so far: a line without words in every file; `PROFILE_VERSION=20150505` and
+/// `N-CONFIG={ mode=M grant_log=no reject_log=no }` in the profile file; `<kernel>`, `use_profile N` and `file PERMISSIONS NAME`,
+/// with permissions of `read` and `write` and a literal name, in the domain file.
+///
+/// Errors: the kind `Keyword` for every other line, or want of memory.
+#[tactic(auto, unfolding(crate::specs::Lines::read_line))]
+pub fn read_line(alloc: Global, file: FileKind, line: &[u8]) -> Result<PolicyLine, LineFault>
+    ensures { Gives (λ x. x) result (read_line file line.now) }
+{
+    let words = normal_words(alloc, line)?;
+    read_words(alloc, file, words.as_slice())
+}
