@@ -4,7 +4,10 @@
 #![tactic(auto)]
 
 mod lines;
+mod opening;
+mod stub;
 mod trace;
 
 pub use lines::FormFault;
+pub use opening::{read_domains, read_profile};
 pub use trace::{plain_traces, read_trace};
