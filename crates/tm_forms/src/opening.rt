@@ -1,5 +1,5 @@
 //! The policy that the two policy files of the first path give.
-ghost use Rattle.std.specs.Prelude.{◌≡◌, IfOk};
+ghost use Rattle.std.specs.Prelude.{◌≡◌, Ok, IfOk};
 ghost use Rattle.tm_rules.specs.Load.{new_policy, is_done};
 ghost use Rattle.tm_forms.specs.Lines.{Gives};
 ghost use Rattle.tm_policy.specs.Lines.{read_line};
@@ -212,17 +212,23 @@ fn stage_after(stage: Stage, line: &PolicyLine) -> Stage
 
 /// The stage after a line that may stand here.
 #[tactic(auto, unfolding(crate::specs::Opening::stage_at))]
+fn next_stage(number: u64, stage: Stage, line: &PolicyLine) -> Result<Stage, FormFault>
+    ensures { Gives result (stage_at number stage (Ok line.now)) }
+{
+    if line_fits(stage, line) {
+        Ok(stage_after(stage, line))
+    } else {
+        Err(FormFault::Line(number))
+    }
+}
+
+/// The stage after a line of this text, where it may stand here.
+#[tactic(auto, unfolding(crate::specs::Opening::stage_at))]
 fn stage_at(alloc: Global, number: u64, stage: Stage, text: &[u8]) -> Result<Stage, FormFault>
     ensures { Gives result (stage_at number stage (read_line (file_of stage) text.now)) }
 {
     match read_line(alloc, file_of(stage), text) {
-        Ok(line) => {
-            if line_fits(stage, &line) {
-                Ok(stage_after(stage, &line))
-            } else {
-                Err(FormFault::Line(number))
-            }
-        }
+        Ok(line) => next_stage(number, stage, &line),
         Err(LineFault::NoMemory) => Err(FormFault::NoMemory),
         Err(LineFault::Kind(_)) => Err(FormFault::Line(number)),
     }
@@ -258,6 +264,10 @@ fn edit_line(
         mut cursor,
         ..
     } = state;
+    // The places of domains are u32; a policy that is loaded here has one domain.
+    if policy.domains.len() > u32::MAX as usize {
+        return Err(FormFault::NoMemory);
+    }
     let reply = apply_line(alloc, &mut policy, file, &mut cursor, text)?;
     if is_done(reply) {
         Ok(Loading {
