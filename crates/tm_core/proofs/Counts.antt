@@ -12,10 +12,10 @@ use Rattle.tm_rules.specs.Words.{Trace}
 use Rattle.tm_rules.specs.Grammar.{Grammar}
 use Rattle.tm_core.specs.Run.{History, step_at}
 use Rattle.tm_core.specs.Legal.{own_numbers, times, times_owned, is_own}
-use Rattle.tm_core.specs.Play.{Begun, Stage, Way, taken, going_on}
+use Rattle.tm_core.specs.Play.{Begun, Stage, Way, taken, ended_way, going_on}
 use Rattle.tm_core.proofs.Laws.{times-append}
 use Rattle.tm_core.proofs.Histories.{step_at-later, step_at-last, step_at-past, length-push}
-use Rattle.tm_core.proofs.Takes.{with_step}
+use Rattle.tm_core.proofs.Takes.{going-ends, going-on}
 
 -- Trees and their ways, side by side
 
@@ -26,11 +26,11 @@ EachWay P t [] (way ∷ ways) = ⊥
 EachWay P t (tree ∷ trees) [] = ⊥
 EachWay P t (tree ∷ trees) (way ∷ ways) = P t tree way × EachWay P (suc t) trees ways
 
-pub EachWay-map : (P Q : ℕ → Tree → Way → Type 0) (t : ℕ) (trees : Trace) (ways : List Way) → ((m : ℕ) (tree : Tree) (way : Way) → P m tree way → Q m tree way) → EachWay P t trees ways → EachWay Q t trees ways
+pub EachWay-map : (P Q : ℕ → Tree → Way → Type 0) (t : ℕ) (trees : Trace) (ways : List Way) → ((m : ℕ) (tree : Tree) (way : Way) → t ≤ m → P m tree way → Q m tree way) → EachWay P t trees ways → EachWay Q t trees ways
 EachWay-map P Q t [] [] f h = tt
 EachWay-map P Q t [] (way ∷ ways) f h = absurd h
 EachWay-map P Q t (tree ∷ trees) [] f h = absurd h
-EachWay-map P Q t (tree ∷ trees) (way ∷ ways) f h = (f t tree way h.0, EachWay-map P Q (suc t) trees ways f h.1)
+EachWay-map P Q t (tree ∷ trees) (way ∷ ways) f h = (f t tree way (omega arith) h.0, EachWay-map P Q (suc t) trees ways (λ m other w le. f m other w (omega arith)) h.1)
 
 -- the tree of a way
 pub record TreeOf (P : ℕ → Tree → Way → Type 0) (t : ℕ) (trees : Trace) (n : ℕ) (way : Way) : Type 0 where
@@ -49,14 +49,20 @@ way-at P t (tree ∷ trees) (w ∷ ways) (suc n) way h at =
     let later = way-at P (suc t) trees ways n way h.1 at in
     record { tree = later.tree; number = later.number; there = later.there; numbered = omega (arith, later.numbered); holds = later.holds }
 
--- one way is replaced
-pub way-set : (P Q : ℕ → Tree → Way → Type 0) (t : ℕ) (trees : Trace) (ways : List Way) (n m : ℕ) (tree : Tree) (new : Way) → EachWay P t trees ways → slice_get trees n ≡ Some tree → m ≡ t + n → Q m tree new → ((k : ℕ) (other : Tree) (way : Way) → P k other way → Q k other way) → EachWay Q t trees (slice_set ways n new)
+-- one way is replaced, and the others go on
+pub way-set : (P Q : ℕ → Tree → Way → Type 0) (t : ℕ) (trees : Trace) (ways : List Way) (n m : ℕ) (tree : Tree) (new : Way) → EachWay P t trees ways → slice_get trees n ≡ Some tree → m ≡ t + n → Q m tree new → ((k : ℕ) (other : Tree) (way : Way) → k ≢ m → P k other way → Q k other way) → EachWay Q t trees (slice_set ways n new)
 way-set P Q t [] [] n m tree new h at is holds f = tt
 way-set P Q t [] (w ∷ ways) n m tree new h at is holds f = absurd h
 way-set P Q t (x ∷ trees) [] n m tree new h at is holds f = absurd h
-way-set P Q t (x ∷ trees) (w ∷ ways) zero m tree new h at is holds f =
-    (subst (λ k. Q k x new) (let same : m ≡ t = omega arith in same) (subst (λ y. Q m y new) (let same : tree ≡ x = cc in same) holds), EachWay-map P Q (suc t) trees ways f h.1)
-way-set P Q t (x ∷ trees) (w ∷ ways) (suc n) m tree new h at is holds f = (f t x w h.0, way-set P Q (suc t) trees ways n m tree new h.1 at (omega arith) holds f)
+way-set P Q t (x ∷ trees) (w ∷ ways) zero m tree new h at is holds f = (
+  subst (λ k. Q k x new) (let same : m ≡ t = omega arith in same) (subst (λ y. Q m y new) (let same : tree ≡ x = cc in same) holds),
+  EachWay-map P Q (suc t) trees ways (λ k other way le. f k other way (λ same. absurd (omega arith))) h.1,
+)
+way-set P Q t (x ∷ trees) (w ∷ ways) (suc n) m tree new h at is holds f = (f t x w (λ same. absurd (omega arith)) h.0, way-set P Q (suc t) trees ways n m tree new h.1 at (omega arith) holds f)
+
+-- all ways go on
+pub way-all : (P Q : ℕ → Tree → Way → Type 0) (t : ℕ) (trees : Trace) (ways : List Way) → ((m : ℕ) (tree : Tree) (way : Way) → P m tree way → Q m tree way) → EachWay P t trees ways → EachWay Q t trees ways
+way-all P Q t trees ways f h = EachWay-map P Q t trees ways (λ m tree way le. f m tree way) h
 
 -- Own steps
 
@@ -86,25 +92,24 @@ own_numbers-push : (n : ℕ) (takes : List Take) (k : Take) → times n (own_num
 own_numbers-push n takes k =
     rw (flat_map-append (λ (t : Take). flat_map (λ (look : Look). look.own) t.looks) takes (k ∷ []), times-append n (own_numbers takes) (flat_map (λ (look : Look). look.own) k.looks ++ []), times-append n (flat_map (λ (look : Look). look.own) k.looks) []) (omega arith)
 
--- a take owns the same while it runs and when it has ended
-pub going-own : (g : Grammar) (n : ℕ) (way : Way) (b : Begun) (rest : List Step) → b.stage ≡ Stage.Owing rest → times n (way_own (going_on g way b)) ≡ times n (own_numbers way.takes) + times n (begun_own (Some b))
-going-own g n way b [] stage = rw stage (rw (times-append n (own_numbers (way.takes ++ (taken g b) ∷ [])) [], own_numbers-push n way.takes (taken g b)) (omega arith))
-going-own g n way b (step ∷ rest) stage = rw stage (times-append n (own_numbers way.takes) (begun_own (Some b)))
-
--- one own step more
-pub step-own : (n number : ℕ) (b : Begun) (led : Option ℕ) (rest : List Step) → times n (begun_own (Some (with_step b number led rest))) ≡ times n (begun_own (Some b)) + times n (number ∷ [])
-step-own n number b led rest =
-    let look : Look = record b.look { own = b.look.own ++ number ∷ [] } in
+-- the own steps of a take, look by look
+pub begun_own-is : (n : ℕ) (b : Begun) → times n (begun_own (Some b)) ≡ times n (flat_map (λ (look : Look). look.own) b.looked) + times n b.look.own
+begun_own-is n b =
     let f : Look → List ℕ = λ l. l.own in
-    rw (
-      flat_map-append f b.looked (look ∷ []),
-      flat_map-append f b.looked (b.look ∷ []),
-      times-append n (flat_map f b.looked) ((b.look.own ++ number ∷ []) ++ []),
-      times-append n (flat_map f b.looked) (b.look.own ++ []),
-      times-append n (b.look.own ++ number ∷ []) [],
-      times-append n b.look.own [],
-      times-append n b.look.own (number ∷ []),
-    ) (omega arith)
+    rw (flat_map-append f b.looked (b.look ∷ []), times-append n (flat_map f b.looked) (b.look.own ++ []), times-append n b.look.own []) (omega arith)
+
+ended-own : (g : Grammar) (n : ℕ) (way : Way) (b : Begun) → times n (way_own (ended_way g way b)) ≡ times n (own_numbers way.takes) + times n (begun_own (Some b))
+ended-own g n way b = rw (times-append n (own_numbers (way.takes ++ (taken g b) ∷ [])) [], own_numbers-push n way.takes (taken g b)) (omega arith)
+
+-- a take owns the same while it runs and when it has ended
+pub going-own : (g : Grammar) (n : ℕ) (way : Way) (b : Begun) → times n (way_own (going_on g way b)) ≡ times n (own_numbers way.takes) + times n (begun_own (Some b))
+going-own g n way b = go b.stage refl
+  where
+    go : (stage : Stage) → b.stage ≡ stage → times n (way_own (going_on g way b)) ≡ times n (own_numbers way.takes) + times n (begun_own (Some b))
+    go (Stage.Owing []) e = rw (going-ends g way b e) (ended-own g n way b)
+    go (Stage.Owing (step ∷ rest)) e = rw (going-on g way b (Stage.Owing (step ∷ rest)) e tt) (times-append n (own_numbers way.takes) (begun_own (Some b)))
+    go (Stage.Waiting serial) e = rw (going-on g way b (Stage.Waiting serial) e tt) (times-append n (own_numbers way.takes) (begun_own (Some b)))
+    go Stage.Looking e = rw (going-on g way b Stage.Looking e tt) (times-append n (own_numbers way.takes) (begun_own (Some b)))
 
 -- each number is owned as often as its step asks, also after one own step more
 pub counted-push : (history : History) (step : Step) (r : Reply) (n c : ℕ) → is_own step ≡ true → c ≡ times_owned (step_at history n) → c + times n (suc (length history) ∷ []) ≡ times_owned (step_at (history ++ (step, r) ∷ []) n)
@@ -123,3 +128,25 @@ counted-push history step r n c own is = go (suc (length history) == n) refl
         other ne (inl lt) =
             let none : c ≡ 0 = is ∙ ap times_owned (step_at-past history n lt) in
             rw (step_at-past (history ++ (step, r) ∷ []) n (rw (length-push history step r) (omega arith))) (omega arith)
+
+-- another step is owned by nobody
+pub counted-other : (history : History) (step : Step) (r : Reply) (n c : ℕ) → is_own step ≡ false → c ≡ times_owned (step_at history n) → c ≡ times_owned (step_at (history ++ (step, r) ∷ []) n)
+counted-other history step r n c own is = go (cases_lt (length history) n)
+  where
+    last : (suc (length history) == n) ≡ true → c ≡ times_owned (step_at (history ++ (step, r) ∷ []) n)
+    last e =
+        let same : n ≡ suc (length history) = sym (eqb-true (suc (length history)) n e) in
+        let none : c ≡ 0 = is ∙ ap times_owned (step_at-past history n (omega arith)) in
+        let zero_ : times_owned (step_at (history ++ (step, r) ∷ []) n) ≡ 0 = rw (same, step_at-last history step r, own) refl in
+        none ∙ sym zero_
+
+    past : (b : Bool) → (suc (length history) == n) ≡ b → length history < n → c ≡ times_owned (step_at (history ++ (step, r) ∷ []) n)
+    past true e lt = last e
+    past false e lt =
+        let ne : suc (length history) ≢ n = eqb-false (suc (length history)) n e in
+        let none : c ≡ 0 = is ∙ ap times_owned (step_at-past history n lt) in
+        none ∙ sym (ap times_owned (step_at-past (history ++ (step, r) ∷ []) n (rw (length-push history step r) (omega arith))))
+
+    go : (length history < n) ⊎ (n ≤ length history) → c ≡ times_owned (step_at (history ++ (step, r) ∷ []) n)
+    go (inl lt) = past (suc (length history) == n) refl lt
+    go (inr le) = is ∙ sym (ap times_owned (step_at-later history ((step, r) ∷ []) n le))

@@ -1,6 +1,6 @@
 -- A history that goes on keeps the steps and the replies that it has.
-use Rattle.std.proofs.Common.{◌≡◌, ◌≤◌, ◌<◌, max, ℕ, zero, suc, List, [], ◌∷◌, ◌++◌, length, take, map, refl, sym, ap, arith}
-use Rattle.std.specs.Prelude.{Option, Some, None, slice_get}
+use Rattle.std.proofs.Common.{◌≡◌, ◌≤◌, ◌<◌, max, ℕ, zero, suc, ◌+◌, List, [], ◌∷◌, ◌++◌, length, take, map, Bool, true, false, refl, sym, ap, ◌∙◌, arith, append-nil}
+use Rattle.std.specs.Prelude.{Option, Some, None, slice_get, if◌then◌else◌}
 use Rattle.std.specs.List.{AllByRecursion}
 use Rattle.std.proofs.lemmas.List.{length-map, length-append}
 use Rattle.std.proofs.lemmas.Option.{slice_get_past}
@@ -13,7 +13,7 @@ use Rattle.tm_types.specs.declared.verdict.Reason.{Reason}
 use Rattle.tm_types.specs.declared.verdict.Move.{Move}
 use Rattle.tm_core.specs.Queries.{numbered}
 use Rattle.tm_core.specs.Steps.{after}
-use Rattle.tm_core.specs.Run.{History, steps_of, step_at, reply_at, raised}
+use Rattle.tm_core.specs.Run.{History, steps_of, step_at, reply_at, raised, places, places_from}
 use Rattle.tm_core.specs.Legal.{Scene, state_at, opening_of, RisesFrom, last_number, domain_after}
 
 -- Lists
@@ -103,3 +103,42 @@ domain_after-fields h more before version mode reason Move.Fail own heard all = 
 
 pub domain_after-later : (h more : History) (before : ℕ) (look : Look) → AllByRecursion (λ k. k ≤ length h) look.own → domain_after (h ++ more) before look ≡ domain_after h before look
 domain_after-later h more before look all = domain_after-fields h more before look.version look.mode look.reason look.step look.own look.heard all
+
+-- Places
+
+All-widen : (a b c d : ℕ) (ns : List ℕ) → c ≤ a → b ≤ d → AllByRecursion (λ k. (a ≤ k) × (k < b)) ns → AllByRecursion (λ k. (c ≤ k) × (k < d)) ns
+All-widen a b c d [] le le' all = tt
+All-widen a b c d (n ∷ ns) le le' all = ((omega (arith, all.0.0), omega (arith, all.0.1)), All-widen a b c d ns le le' all.1)
+
+places_from-push : (n : ℕ) (test : Step → Bool) (h : History) (step : Step) (r : Reply) → places_from n test (h ++ (step, r) ∷ []) ≡ places_from n test h ++ (if test step then (n + length h) ∷ [] else [])
+places_from-push n test [] step r = go (test step)
+  where
+    go : (b : Bool) → (if b then n ∷ [] else []) ≡ (if b then (n + 0) ∷ [] else [])
+    go true = let same : n + 0 ≡ n = omega arith in rw same refl
+    go false = refl
+places_from-push n test (pair ∷ h) step r = go (test pair.0) (places_from-push (suc n) test h step r)
+  where
+    last : (b : Bool) → (if b then (suc n + length h) ∷ [] else []) ≡ (if b then (n + suc (length h)) ∷ [] else [])
+    last true = let same : suc n + length h ≡ n + suc (length h) = omega arith in rw same refl
+    last false = refl
+
+    go : (b : Bool) → places_from (suc n) test (h ++ (step, r) ∷ []) ≡ places_from (suc n) test h ++ (if test step then (suc n + length h) ∷ [] else []) → (if b then n ∷ places_from (suc n) test (h ++ (step, r) ∷ []) else places_from (suc n) test (h ++ (step, r) ∷ [])) ≡ (if b then n ∷ places_from (suc n) test h else places_from (suc n) test h) ++ (if test step then (n + suc (length h)) ∷ [] else [])
+    go true ih = ap (λ (ns : List ℕ). n ∷ ns) (ih ∙ ap (λ (ms : List ℕ). places_from (suc n) test h ++ ms) (last (test step)))
+    go false ih = ih ∙ ap (λ (ms : List ℕ). places_from (suc n) test h ++ ms) (last (test step))
+
+-- a step that passes is a place more
+pub places-push : (test : Step → Bool) (h : History) (step : Step) (r : Reply) → test step ≡ true → places test (h ++ (step, r) ∷ []) ≡ places test h ++ suc (length h) ∷ []
+places-push test h step r e = places_from-push 1 test h step r ∙ rw e (let same : 1 + length h ≡ suc (length h) = omega arith in rw same refl)
+
+-- another step is none
+pub places-other : (test : Step → Bool) (h : History) (step : Step) (r : Reply) → test step ≡ false → places test (h ++ (step, r) ∷ []) ≡ places test h
+places-other test h step r e = places_from-push 1 test h step r ∙ rw e (append-nil (places test h))
+
+-- places are numbers of the history
+pub places-le : (n : ℕ) (test : Step → Bool) (h : History) → AllByRecursion (λ k. (n ≤ k) × (k < n + length h)) (places_from n test h)
+places-le n test [] = tt
+places-le n test (pair ∷ h) = go (test pair.0) (All-widen (suc n) (suc n + length h) n (n + suc (length h)) (places_from (suc n) test h) (omega arith) (omega arith) (places-le (suc n) test h))
+  where
+    go : (b : Bool) → AllByRecursion (λ k. (n ≤ k) × (k < n + suc (length h))) (places_from (suc n) test h) → AllByRecursion (λ k. (n ≤ k) × (k < n + suc (length h))) (if b then n ∷ places_from (suc n) test h else places_from (suc n) test h)
+    go true rest = ((omega arith, omega arith), rest)
+    go false rest = rest

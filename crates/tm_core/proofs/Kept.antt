@@ -17,7 +17,7 @@ use Rattle.tm_types.specs.declared.step.LearnReply.{LearnReply}
 use Rattle.tm_types.specs.declared.step.MakeReply.{MakeReply}
 use Rattle.tm_rules.specs.Grammar.{Grammar}
 use Rattle.tm_rules.specs.Equality.{texts_equal}
-use Rattle.tm_rules.specs.Policy.{changed_at, with_domain, domain_at, profile_of, live_domain, namespace_named, namespace_word}
+use Rattle.tm_rules.specs.Policy.{changed_at, domain_at, profile_of, live_domain, namespace_named, namespace_word}
 use Rattle.tm_rules.specs.Requests.{begins_with_byte}
 use Rattle.tm_rules.specs.Transition.{is_domain_name}
 use Rattle.tm_rules.specs.Edit.{new_domain}
@@ -72,16 +72,21 @@ pub record DomainIn (p : Policy) (d : ℕ) : Type 0 where
 
 -- what plays need of an opened policy: live domains have profiles, and aggregators lead to paths
 pub record Sound (p : Policy) : Type 0 where
+  pub opened : p.opened ≡ true
   pub profiles : (d : ℕ) (x : Domain) → domain_at p d ≡ Some x → x.live ≡ true → IsSome (profile_of p x)
   pub aggregators : AllByRecursion (λ (ns : Namespace). AllByRecursion (λ (pair : Pattern × Word). begins_with_byte 47 pair.1 ≡ true) ns.aggregators) p.namespaces
 
--- a later policy has the same namespaces, and each domain with its name and profile
+-- a later policy has each domain with its name, and its profile is still defined
 pub record Keeps (p q : Policy) : Type 0 where
-  pub namespaces : q.namespaces ≡ p.namespaces
-  pub domains : (d : ℕ) (x : Domain) → domain_at p d ≡ Some x → (y : Domain) × (domain_at q d ≡ Some y) × (y.name ≡ x.name) × (y.profile ≡ x.profile)
+  pub domains : (d : ℕ) (x : Domain) → domain_at p d ≡ Some x → (y : Domain) × (domain_at q d ≡ Some y) × (y.name ≡ x.name) × (IsSome (profile_of p x) → IsSome (profile_of q y))
+
+-- a later policy that is sound too
+pub record Evolves (p q : Policy) : Type 0 where
+  pub keeps : Keeps p q
+  pub sound : Sound q
 
 pub Keeps-refl : (p : Policy) → Keeps p p
-Keeps-refl p = record { namespaces = refl; domains = λ d x at. (x, at, refl, refl) }
+Keeps-refl p = record { domains = λ d x at. (x, at, refl, λ has. has) }
 
 -- the profile goes by the namespaces, the namespace word and the number
 pub same_profile : (p q : Policy) (x y : Domain) → q.namespaces ≡ p.namespaces → namespace_word y.name ≡ namespace_word x.name → y.profile ≡ x.profile → profile_of q y ≡ profile_of p x
@@ -90,8 +95,9 @@ same_profile p q x y n a b = rw (n, a, b) refl
 
 pub DomainIn-later : (p q : Policy) (d : ℕ) → Keeps p q → DomainIn p d → DomainIn q d
 DomainIn-later p q d keeps h =
-    let (y, at, name, profile) = keeps.domains d h.domain h.there in
-    record { domain = y; there = at; profile = h.profile; profiled = same_profile p q h.domain y keeps.namespaces (ap namespace_word name) profile ∙ h.profiled }
+    let (y, at, name, has) = keeps.domains d h.domain h.there in
+    let (profile, is) = some_of (profile_of q y) (has (rw h.profiled refl)) in
+    record { domain = y; there = at; profile = profile; profiled = is }
 
 -- a live domain has its profile
 pub live_in : (p : Policy) (name : DomainName) (n : ℕ) → Sound p → live_domain p name ≡ Some n → DomainIn p n
@@ -100,44 +106,72 @@ live_in p name n sound e =
     let (profile, is) = some_of (profile_of p x) (sound.profiles n x at live) in
     record { domain = x; there = at; profile = profile; profiled = is }
 
+-- equal domains and namespaces
+pub same-evolves : (p q : Policy) → q.namespaces ≡ p.namespaces → q.domains ≡ p.domains → q.opened ≡ p.opened → Sound p → Evolves p q
+same-evolves p q n d o sound =
+    record {
+      keeps = record { domains = λ e x at. (x, rw d at, refl, λ has. rw (same_profile p q x x n refl refl) has) };
+      sound = record {
+        opened = o ∙ sound.opened;
+        profiles = λ e x at live. rw (same_profile p q x x n refl refl) (sound.profiles e x (rw d at at) live);
+        aggregators = rw n sound.aggregators;
+      };
+    }
+
 -- A domain that is changed
 
--- the name, the profile and the life of a domain stay
-pub record SameHead (x y : Domain) : Type 0 where
+-- the name stays, a profile is still defined, and what is live was live
+pub record Succeeds (p : Policy) (x y : Domain) : Type 0 where
   pub name : y.name ≡ x.name
-  pub profile : y.profile ≡ x.profile
-  pub live : y.live ≡ x.live
+  pub profile : IsSome (profile_of p x) → IsSome (profile_of p y)
+  pub live : y.live ≡ true → x.live ≡ true
 
-same_head : (x : Domain) → SameHead x x
-same_head x = record { name = refl; profile = refl; live = refl }
+pub same_head : (p : Policy) (x : Domain) → Succeeds p x x
+same_head p x = record { name = refl; profile = λ has. has; live = λ live. live }
 
-get-changed : (xs : List Domain) (d e : ℕ) (old new x : Domain) → slice_get xs d ≡ Some old → SameHead old new → slice_get xs e ≡ Some x → (y : Domain) × (slice_get (changed_at d (λ z. new) xs) e ≡ Some y) × SameHead x y
-get-changed [] d e old new x was same at = absurd cc
-get-changed (a ∷ xs) zero zero old new x was same at = (new, refl, subst (λ o. SameHead o new) (let e : old ≡ x = cc in e) same)
-get-changed (a ∷ xs) zero (suc e) old new x was same at = (x, at, same_head x)
-get-changed (a ∷ xs) (suc d) zero old new x was same at = (x, at, same_head x)
-get-changed (a ∷ xs) (suc d) (suc e) old new x was same at = get-changed xs d e old new x was same at
+-- what changes neither name nor profile nor life
+pub succeeds : (p : Policy) (x y : Domain) → y.name ≡ x.name → y.profile ≡ x.profile → y.live ≡ x.live → Succeeds p x y
+succeeds p x y n f l = record { name = n; profile = λ has. rw (same_profile p p x y refl (ap namespace_word n) f) has; live = λ live. sym l ∙ live }
 
-got-changed : (xs : List Domain) (d e : ℕ) (old new y : Domain) → slice_get xs d ≡ Some old → SameHead old new → slice_get (changed_at d (λ z. new) xs) e ≡ Some y → (x : Domain) × (slice_get xs e ≡ Some x) × SameHead x y
-got-changed [] d e old new y was same at = absurd cc
-got-changed (a ∷ xs) zero zero old new y was same at = (old, was, subst (λ o. SameHead old o) (let e : new ≡ y = cc in e) same)
-got-changed (a ∷ xs) zero (suc e) old new y was same at = (y, at, same_head y)
-got-changed (a ∷ xs) (suc d) zero old new y was same at = (y, at, same_head y)
-got-changed (a ∷ xs) (suc d) (suc e) old new y was same at = got-changed xs d e old new y was same at
+module _ (p : Policy) (change : Domain → Domain) where
+  get-changed : (xs : List Domain) (d e : ℕ) (old x : Domain) → slice_get xs d ≡ Some old → Succeeds p old (change old) → slice_get xs e ≡ Some x → (y : Domain) × (slice_get (changed_at d change xs) e ≡ Some y) × Succeeds p x y
+  get-changed [] d e old x was same at = absurd cc
+  get-changed (a ∷ xs) zero zero old x was same at =
+      let first : a ≡ old = cc in
+      let second : old ≡ x = cc in
+      (change a, refl, subst (λ o. Succeeds p o (change a)) second (subst (λ z. Succeeds p old (change z)) (sym first) same))
+  get-changed (a ∷ xs) zero (suc e) old x was same at = (x, at, same_head p x)
+  get-changed (a ∷ xs) (suc d) zero old x was same at = (x, at, same_head p x)
+  get-changed (a ∷ xs) (suc d) (suc e) old x was same at = get-changed xs d e old x was same at
 
-changed-keeps : (p : Policy) (d : ℕ) (old new : Domain) → domain_at p d ≡ Some old → SameHead old new → Keeps p (with_domain p d new)
-changed-keeps p d old new was same =
-    record { namespaces = refl; domains = λ e x at. let found = get-changed p.domains d e old new x was same at in (found.0, found.1, found.2.name, found.2.profile) }
+  got-changed : (xs : List Domain) (d e : ℕ) (old y : Domain) → slice_get xs d ≡ Some old → Succeeds p old (change old) → slice_get (changed_at d change xs) e ≡ Some y → (x : Domain) × (slice_get xs e ≡ Some x) × Succeeds p x y
+  got-changed [] d e old y was same at = absurd cc
+  got-changed (a ∷ xs) zero zero old y was same at =
+      let first : a ≡ old = cc in
+      let second : change a ≡ y = cc in
+      (old, was, subst (λ o. Succeeds p old o) second (subst (λ z. Succeeds p old (change z)) (sym first) same))
+  got-changed (a ∷ xs) zero (suc e) old y was same at = (y, at, same_head p y)
+  got-changed (a ∷ xs) (suc d) zero old y was same at = (y, at, same_head p y)
+  got-changed (a ∷ xs) (suc d) (suc e) old y was same at = got-changed xs d e old y was same at
 
-changed-sound : (p : Policy) (d : ℕ) (old new : Domain) → domain_at p d ≡ Some old → SameHead old new → Sound p → Sound (with_domain p d new)
-changed-sound p d old new was same sound =
-    record {
-      profiles = λ e y at live.
-          let found = got-changed p.domains d e old new y was same at in
-          let alike : profile_of (with_domain p d new) y ≡ profile_of p found.0 = same_profile p (with_domain p d new) found.0 y refl (ap namespace_word found.2.name) found.2.profile in
-          rw alike (sound.profiles e found.0 found.1 (sym found.2.live ∙ live));
-      aggregators = sound.aggregators;
-    }
+  -- a domain that is changed so lets its policy evolve
+  pub changed-evolves : (d : ℕ) (old : Domain) → domain_at p d ≡ Some old → Succeeds p old (change old) → Sound p → Evolves p (record p { domains = changed_at d change p.domains })
+  changed-evolves d old was same sound =
+      let q : Policy = record p { domains = changed_at d change p.domains } in
+      record {
+        keeps = record {
+          domains = λ e x at.
+              let found = get-changed p.domains d e old x was same at in
+              (found.0, found.1, found.2.name, λ has. rw (same_profile p q found.0 found.0 refl refl refl) (found.2.profile has));
+        };
+        sound = record {
+          opened = sound.opened;
+          profiles = λ e y at live.
+              let found = got-changed p.domains d e old y was same at in
+              rw (same_profile p q y y refl refl refl) (found.2.profile (sound.profiles e found.0 found.1 (found.2.live live)));
+          aggregators = sound.aggregators;
+        };
+      }
 
 -- A domain that is made
 
@@ -156,17 +190,19 @@ got-pushed [] new P last front (suc d) y at = absurd cc
 got-pushed (a ∷ xs) new P last front zero y at = front 0 y at
 got-pushed (a ∷ xs) new P last front (suc d) y at = got-pushed xs new P last (λ e x got. front (suc e) x got) d y at
 
-made-keeps : (p : Policy) (new : Domain) → Keeps p (record p { domains = p.domains ++ new ∷ [] })
-made-keeps p new = record { namespaces = refl; domains = λ d x at. (x, get-front p.domains new d x at, refl, refl) }
-
-made-sound : (p : Policy) (new : Domain) (profile : Profile) → profile_of p new ≡ Some profile → Sound p → Sound (record p { domains = p.domains ++ new ∷ [] })
-made-sound p new profile has sound =
+-- a domain that is made with a profile lets its policy evolve
+pub made-evolves : (p : Policy) (new : Domain) → IsSome (profile_of p new) → Sound p → Evolves p (record p { domains = p.domains ++ new ∷ [] })
+made-evolves p new has sound =
     let q : Policy = record p { domains = p.domains ++ new ∷ [] } in
     record {
-      profiles = got-pushed p.domains new (λ y. y.live ≡ true → IsSome (profile_of q y))
-          (λ live. rw (same_profile p q new new refl refl refl ∙ has) refl)
-          (λ d x at live. rw (same_profile p q x x refl refl refl) (sound.profiles d x at live));
-      aggregators = sound.aggregators;
+      keeps = record { domains = λ d x at. (x, get-front p.domains new d x at, refl, λ had. rw (same_profile p q x x refl refl refl) had) };
+      sound = record {
+        opened = sound.opened;
+        profiles = got-pushed p.domains new (λ y. y.live ≡ true → IsSome (profile_of q y))
+            (λ live. rw (same_profile p q new new refl refl refl) has)
+            (λ d x at live. rw (same_profile p q x x refl refl refl) (sound.profiles d x at live));
+        aggregators = sound.aggregators;
+      };
     }
 
 -- What a process's own steps do
@@ -181,10 +217,8 @@ Ready g p step = ⊥
 pub Ready-later : (g : Grammar) (p q : Policy) (step : Step) → Keeps p q → Ready g p step → Ready g q step
 Ready-later g p q (Step.Learn d entry) keeps h = (h.0, DomainIn-later p q d keeps h.1)
 Ready-later g p q (Step.Make d name) keeps h =
-    let (y, at, same, profile) = keeps.domains d h.0.domain h.0.there in (
-      record { domain = y; there = at; profile = h.0.profile; profiled = same_profile p q h.0.domain y keeps.namespaces (ap namespace_word same) profile ∙ h.0.profiled },
-      rw same h.1,
-    )
+    let (y, at, same, has) = keeps.domains d h.0.domain h.0.there in
+    let (profile, is) = some_of (profile_of q y) (has (rw h.0.profiled refl)) in (record { domain = y; there = at; profile = profile; profiled = is }, rw same h.1)
 Ready-later g p q (Step.Fail d) keeps h = DomainIn-later p q d keeps h
 Ready-later g p q (Step.Ask d retry line) keeps h = absurd h
 Ready-later g p q (Step.Answer serial code) keeps h = absurd h
@@ -204,16 +238,15 @@ RepliesTo q step reply = ⊥
 pub record Fits (s : State) (step : Step) (done : Applied) : Type 0 where
   pub reply : Reply
   pub replied : done.reply ≡ Some reply
-  pub keeps : Keeps s.policy done.state.policy
-  pub sound : Sound done.state.policy
-  pub queries : done.state.queries ≡ s.queries
+  pub evolves : Evolves s.policy done.state.policy
+  pub others : done.state ≡ record s { policy = done.state.policy }
   pub answers : RepliesTo done.state.policy step reply
 
-learned_head : (reply : LearnReply) (x : Domain) (entry : Entry) → SameHead x (learned_domain reply x entry)
-learned_head LearnReply.Added x entry = record { name = refl; profile = refl; live = refl }
-learned_head LearnReply.There x entry = same_head x
-learned_head LearnReply.Mode x entry = same_head x
-learned_head LearnReply.Quota x entry = record { name = refl; profile = refl; live = refl }
+learned_head : (p : Policy) (reply : LearnReply) (x : Domain) (entry : Entry) → Succeeds p x (learned_domain reply x entry)
+learned_head p LearnReply.Added x entry = succeeds p x (learned_domain LearnReply.Added x entry) refl refl refl
+learned_head p LearnReply.There x entry = same_head p x
+learned_head p LearnReply.Mode x entry = same_head p x
+learned_head p LearnReply.Quota x entry = succeeds p x (learned_domain LearnReply.Quota x entry) refl refl refl
 
 learn-fits : (g : Grammar) (s : State) (d : ℕ) (entry : Entry) → Sound s.policy → fits_entry g entry ≡ true → DomainIn s.policy d → Fits s (Step.Learn d entry) (apply g s (Step.Learn d entry))
 unfolding apply learn
@@ -223,23 +256,21 @@ learn-fits g s d entry sound fits h =
     (record {
       reply = Reply.Learn reply;
       replied = refl;
-      keeps = changed-keeps s.policy d h.domain (learned_domain reply h.domain entry) h.there (learned_head reply h.domain entry);
-      sound = changed-sound s.policy d h.domain (learned_domain reply h.domain entry) h.there (learned_head reply h.domain entry) sound;
-      queries = refl;
+      evolves = changed-evolves s.policy (λ z. learned_domain reply h.domain entry) d h.domain h.there (learned_head s.policy reply h.domain entry) sound;
+      others = refl;
       answers = (reply, refl);
     })
 
 fail-fits : (g : Grammar) (s : State) (d : ℕ) → Sound s.policy → DomainIn s.policy d → Fits s (Step.Fail d) (apply g s (Step.Fail d))
 unfolding apply fail
 fail-fits g s d sound h =
-    let same : SameHead h.domain (record h.domain { transition_failed = true }) = record { name = refl; profile = refl; live = refl } in
+    let new : Domain = record h.domain { transition_failed = true } in
     rw (h.there, h.profiled)
     (record {
       reply = Reply.Fail (not h.domain.transition_failed);
       replied = refl;
-      keeps = changed-keeps s.policy d h.domain (record h.domain { transition_failed = true }) h.there same;
-      sound = changed-sound s.policy d h.domain (record h.domain { transition_failed = true }) h.there same sound;
-      queries = refl;
+      evolves = changed-evolves s.policy (λ z. new) d h.domain h.there (succeeds s.policy h.domain new refl refl refl) sound;
+      others = refl;
       answers = (not h.domain.transition_failed, refl);
     })
 
@@ -262,9 +293,8 @@ make-fits g s d name sound h fits = rw (h.there, fits, h.profiled) (by_live (liv
         record {
           reply = Reply.Make (MakeReply.New (length p.domains));
           replied = refl;
-          keeps = made-keeps p new;
-          sound = made-sound p new h.profile has sound;
-          queries = refl;
+          evolves = made-evolves p new (rw has refl) sound;
+          others = refl;
           answers = (
             MakeReply.New (length p.domains),
             length p.domains,
@@ -277,9 +307,8 @@ make-fits g s d name sound h fits = rw (h.there, fits, h.profiled) (by_live (liv
         record {
           reply = Reply.Make (MakeReply.Old n);
           replied = refl;
-          keeps = Keeps-refl p;
-          sound = sound;
-          queries = refl;
+          evolves = record { keeps = Keeps-refl p; sound = sound };
+          others = refl;
           answers = (MakeReply.Old n, n, refl, refl, live_in p name n sound e);
         }
 

@@ -1,100 +1,36 @@
--- What ended takes come to: the clauses of legality that speak of single takes.
-use Rattle.std.proofs.Common.{◌≡◌, ◌<◌, ℕ, suc, List, [], ◌∷◌, ◌++◌, length, map, take, drop, true, false, true≢false, refl, sym, ap, ◌∙◌, subst, arith, append-nil}
-use Rattle.std.specs.Prelude.{Option, Some, None, IfSome, flat_map}
+-- What ended takes come to: the clauses of legality, tree by tree.
+use Rattle.std.proofs.Common.{◌≡◌, ◌<◌, ℕ, zero, suc, ◌+◌, List, [], ◌∷◌, ◌++◌, length, map, take, drop, Bool, true, false, true≢false, refl, sym, ap, ◌∙◌, subst, arith, append-nil}
+use Rattle.std.specs.Prelude.{Option, Some, None, if◌then◌else◌, ◌==◌, flat_map, slice_get}
 use Rattle.std.specs.List.{AllByRecursion}
+use Rattle.std.proofs.lemmas.Bool.{eqb-true}
 use Rattle.std.proofs.lemmas.List.{length-map, map-append}
 use Rattle.std.proofs.lemmas.Grind.{flat_map-append}
-use Rattle.tm_types.specs.declared.policy.Mode.{Mode}
-use Rattle.tm_types.specs.declared.policy.Policy.{Policy}
 use Rattle.tm_types.specs.declared.request.Item.{Item}
 use Rattle.tm_types.specs.declared.request.Tree.{Tree}
-use Rattle.tm_types.specs.declared.step.Step.{Step}
-use Rattle.tm_types.specs.declared.step.Reply.{Reply}
-use Rattle.tm_types.specs.declared.step.Heard.{Heard}
 use Rattle.tm_types.specs.declared.step.Look.{Look}
 use Rattle.tm_types.specs.declared.step.Take.{Take}
-use Rattle.tm_types.specs.declared.verdict.Reason.{Reason}
-use Rattle.tm_types.specs.declared.verdict.Move.{Move}
-use Rattle.tm_types.specs.declared.verdict.Verdict.{Verdict}
 use Rattle.tm_rules.specs.Words.{Trace}
-use Rattle.tm_core.specs.Run.{History, Situations, with_situation, with_ids, forked, at_start, Case, tree_cases, cases_from, do_pids, all_do_pids, step_at, places_from}
-use Rattle.tm_core.specs.Legal.{Scene, subject_of, LooksRise, LookHolds, OwnSteps, EndsWith, LookLearns, LooksFollow, AsksWith, AfterAnswer, last_look, look_grants, steps_asked, retry_written, own_numbers, times, is_own, is_of_supervisor}
+use Rattle.tm_core.specs.Steps.{State}
+use Rattle.tm_core.specs.Run.{History, Situations, with_situation, with_ids, forked, at_start, Case, tree_cases, cases_from, do_pids, all_do_pids, seen, places}
+use Rattle.tm_core.specs.Legal.{Scene, subject_of, LookHolds, OwnSteps, LookLearns, own_numbers, times, is_end}
 use Rattle.tm_core.specs.Play.{Begun, Way}
 use Rattle.tm_core.proofs.Laws.{times-append}
-use Rattle.tm_core.proofs.Asked.{NotAsk, All-append, same_line_steps}
-use Rattle.tm_core.proofs.Looked.{owed_by}
-use Rattle.tm_core.proofs.Walks.{CaseDone, WayHolds, BegunHolds}
-use Rattle.tm_core.proofs.Takes.{grants-is}
+use Rattle.tm_core.proofs.Asked.{All-append}
+use Rattle.tm_core.proofs.Looked.{LookDone}
+use Rattle.tm_core.proofs.Walks.{All-map, CaseDone, BegunHolds, EndsAs, is_over, WayHolds}
 use Rattle.tm_core.proofs.Counts.{EachWay, way_own, count_own}
-
--- Looks that ask nobody
-
-after_yes-fields : (reason : Reason) (heard : Option Heard) (own : List ℕ) → NotAsk reason → AfterAnswer reason heard own
-after_yes-fields Reason.Ask heard own not_ask = absurd not_ask
-after_yes-fields (Reason.Entry place) heard own not_ask = tt
-after_yes-fields Reason.Disabled heard own not_ask = tt
-after_yes-fields Reason.Permissive heard own not_ask = tt
-after_yes-fields Reason.Quota heard own not_ask = tt
-after_yes-fields Reason.Learn heard own not_ask = tt
-after_yes-fields Reason.NoEntry heard own not_ask = tt
-after_yes-fields Reason.NotReady heard own not_ask = tt
-after_yes-fields Reason.NoManual heard own not_ask = tt
-
-learns-fields : (scene : Scene) (history : History) (version : ℕ) (mode : Option Mode) (reason : Reason) (step : Move) (own : List ℕ) (heard : Option Heard) → NotAsk reason → heard ≡ None → (let look : Look = record { version = version; mode = mode; reason = reason; step = step; own = own; heard = heard } in LookLearns scene history look)
-learns-fields scene history version mode Reason.Ask step own heard not_ask none = absurd not_ask
-learns-fields scene history version mode (Reason.Entry place) step own heard not_ask none = none
-learns-fields scene history version mode Reason.Disabled step own heard not_ask none = none
-learns-fields scene history version mode Reason.Permissive step own heard not_ask none = none
-learns-fields scene history version mode Reason.Quota step own heard not_ask none = none
-learns-fields scene history version mode Reason.Learn step own heard not_ask none = none
-learns-fields scene history version mode Reason.NoEntry step own heard not_ask none = none
-learns-fields scene history version mode Reason.NotReady step own heard not_ask none = none
-learns-fields scene history version mode Reason.NoManual step own heard not_ask none = none
-
-asks-fields : (history : History) (retry version : ℕ) (mode : Option Mode) (reason : Reason) (step : Move) (own : List ℕ) (heard : Option Heard) → NotAsk reason → (let look : Look = record { version = version; mode = mode; reason = reason; step = step; own = own; heard = heard } in AsksWith history retry look)
-asks-fields history retry version mode Reason.Ask step own heard not_ask = absurd not_ask
-asks-fields history retry version mode (Reason.Entry place) step own heard not_ask = tt
-asks-fields history retry version mode Reason.Disabled step own heard not_ask = tt
-asks-fields history retry version mode Reason.Permissive step own heard not_ask = tt
-asks-fields history retry version mode Reason.Quota step own heard not_ask = tt
-asks-fields history retry version mode Reason.Learn step own heard not_ask = tt
-asks-fields history retry version mode Reason.NoEntry step own heard not_ask = tt
-asks-fields history retry version mode Reason.NotReady step own heard not_ask = tt
-asks-fields history retry version mode Reason.NoManual step own heard not_ask = tt
 
 -- The clauses of one take
 
 module _ (scene : Scene) (history : History) (c : Case) (h : CaseDone scene history c) where
-  reason-is : NotAsk h.look.reason
-  reason-is = rw h.looked.shown.reason h.looked.not_ask
-
-  pub rises : LooksRise history c.now.floor c.taken.looks
-  rises = rw h.only (h.floor, h.looked.version, tt)
-
   pub shows : AllByRecursion (LookHolds scene history (subject_of c)) c.taken.looks
-  shows = rw h.only ((h.verdict, h.looked.judged, h.looked.shown), tt)
-
-  asked : map (step_at history) h.look.own ≡ map Some (steps_asked scene.grammar (subject_of c).domain (retry_written history h.look) h.verdict (look_grants h.look))
-  unfolding steps_asked
-  asked =
-      let v : Verdict = h.verdict in
-      let made : map (step_at history) h.look.own ≡ map Some (owed_by scene (subject_of c).domain v) = sym (append-nil (map (step_at history) h.look.own)) ∙ h.looked.steps in
-      rw (grants-is h.look.reason h.look.heard reason-is, h.looked.shown.reason, same_line_steps scene.grammar (subject_of c).domain (retry_written history h.look) 0 v.mode v.reason v.name v.step v.target v.line h.looked.not_ask) made
+  shows = All-map (LookDone scene history (subject_of c)) (LookHolds scene history (subject_of c)) c.taken.looks (λ look d. d.holds) h.looks
 
   pub owns : AllByRecursion (OwnSteps scene history (subject_of c)) c.taken.looks
-  owns = rw h.only (record { asked = rw h.looked.judged asked; rising = h.looked.rising; after_yes = after_yes-fields h.look.reason h.look.heard h.look.own reason-is }, tt)
-
-  pub ends : IfSome (last_look c.taken.looks) (EndsWith scene history (subject_of c) c.taken)
-  ends = rw h.only (record { granted = h.granted; domain = h.after; audit = rw h.looked.judged h.looked.audited })
-
-  pub looks-some : 0 < length c.taken.looks
-  looks-some = rw h.only (omega arith)
+  owns = All-map (LookDone scene history (subject_of c)) (OwnSteps scene history (subject_of c)) c.taken.looks (λ look d. d.owns) h.looks
 
   pub learns : AllByRecursion (LookLearns scene history) c.taken.looks
-  learns = rw h.only (learns-fields scene history h.look.version h.look.mode h.look.reason h.look.step h.look.own h.look.heard reason-is h.looked.unheard, tt)
-
-  pub follows : LooksFollow history 0 c.taken.looks
-  follows = rw h.only (asks-fields history 0 h.look.version h.look.mode h.look.reason h.look.step h.look.own h.look.heard reason-is, rw h.looked.unheard refl)
+  learns = All-map (LookDone scene history (subject_of c)) (LookLearns scene history) c.taken.looks (λ look d. d.learns) h.looks
 
 -- Trees that are done
 
@@ -122,73 +58,114 @@ drop-front : {A : Type 0} (xs ys : List A) → drop (length xs) (xs ++ ys) ≡ y
 drop-front [] ys = refl
 drop-front (x ∷ xs) ys = drop-front xs ys
 
-done-pids : (scene : Scene) (history : History) (p : Policy) (t : ℕ) (tree : Tree) (way : Way) → WayHolds scene history p t tree way → IsDone way → map (λ (k : Take). k.pid) way.takes ≡ do_pids tree.records
-done-pids scene history p t tree way h done =
+done-pids : (scene : Scene) (history : History) (s : State) (t : ℕ) (tree : Tree) (way : Way) → WayHolds scene history s t tree way → IsDone way → map (λ (k : Take). k.pid) way.takes ≡ do_pids tree.records
+done-pids scene history s t tree way h done =
     let left : h.left ≡ way.items = go way.begun done.idle h.begun in
     sym (append-nil (map (λ (k : Take). k.pid) way.takes)) ∙ rw (left, done.empty) at h.pids
   where
-    go : (o : Option Begun) → o ≡ None → BegunHolds scene history p h.walked way.at way.items h.left o → h.left ≡ way.items
+    go : (o : Option Begun) → o ≡ None → BegunHolds scene history s h.walked way.at way.items h.left o → h.left ≡ way.items
     go None e b = b
     go (Some b) e held = absurd cc
 
-done-cases : (scene : Scene) (history : History) (p : Policy) (t : ℕ) (tree : Tree) (way : Way) (rest : List Take) → WayHolds scene history p t tree way → IsDone way → AllByRecursion (CaseDone scene history) (tree_cases t (at_start scene.policy tree) tree.records (take (length (do_pids tree.records)) (way.takes ++ rest)))
-done-cases scene history p t tree way rest h done =
-    let pids = done-pids scene history p t tree way h done in
+done-cases : (scene : Scene) (history : History) (s : State) (P : Case → Type 0) (t : ℕ) (tree : Tree) (way : Way) (rest : List Take) → (h : WayHolds scene history s t tree way) → IsDone way → AllByRecursion P h.done → AllByRecursion P (tree_cases t (at_start scene.policy tree) tree.records (take (length (do_pids tree.records)) (way.takes ++ rest)))
+done-cases scene history s P t tree way rest h done all =
+    let pids = done-pids scene history s t tree way h done in
     let long : length (do_pids tree.records) ≡ length way.takes = sym (ap length pids) ∙ length-map way.takes (λ (k : Take). k.pid) in
     let are : tree_cases t (at_start scene.policy tree) tree.records way.takes ≡ h.done =
     ap (tree_cases t (at_start scene.policy tree) tree.records) (sym (append-nil way.takes)) ∙ h.cases [] ∙ rw (tree_cases-none t h.walked h.left) (append-nil h.done) in
-    rw (long, take-front way.takes rest, are) h.ended
+    rw (long, take-front way.takes rest, are) all
 
 -- the clauses that speak of all takes of all trees
 
-pub all-cases : (scene : Scene) (history : History) (p : Policy) (t : ℕ) (trees : Trace) (ways : List Way) → EachWay (WayHolds scene history p) t trees ways → AllByRecursion IsDone ways → AllByRecursion (CaseDone scene history) (cases_from t scene.policy trees (takes_of ways))
+-- what holds of the cases of each tree holds of all
+pub all-cases : (scene : Scene) (history : History) (s : State) (P : Case → Type 0) → ((t : ℕ) (tree : Tree) (way : Way) → (h : WayHolds scene history s t tree way) → AllByRecursion P h.done) → (t : ℕ) (trees : Trace) (ways : List Way) → EachWay (WayHolds scene history s) t trees ways → AllByRecursion IsDone ways → AllByRecursion P (cases_from t scene.policy trees (takes_of ways))
 unfolding cases_from
-all-cases scene history p t [] [] h done = tt
-all-cases scene history p t [] (way ∷ ways) h done = absurd h
-all-cases scene history p t (tree ∷ trees) [] h done = absurd h
-all-cases scene history p t (tree ∷ trees) (way ∷ ways) h done =
-    let pids = done-pids scene history p t tree way h.0 done.0 in
+all-cases scene history s P f t [] [] h done = tt
+all-cases scene history s P f t [] (way ∷ ways) h done = absurd h
+all-cases scene history s P f t (tree ∷ trees) [] h done = absurd h
+all-cases scene history s P f t (tree ∷ trees) (way ∷ ways) h done =
+    let pids = done-pids scene history s t tree way h.0 done.0 in
     let long : length (do_pids tree.records) ≡ length way.takes = sym (ap length pids) ∙ length-map way.takes (λ (k : Take). k.pid) in
     let later : drop (length (do_pids tree.records)) (way.takes ++ takes_of ways) ≡ takes_of ways = rw long (drop-front way.takes (takes_of ways)) in
-    All-append (CaseDone scene history) (tree_cases t (at_start scene.policy tree) tree.records (take (length (do_pids tree.records)) (way.takes ++ takes_of ways))) (cases_from (suc t) scene.policy trees (drop (length (do_pids tree.records)) (way.takes ++ takes_of ways)))
-    (done-cases scene history p t tree way (takes_of ways) h.0 done.0)
-    (rw later (all-cases scene history p (suc t) trees ways h.1 done.1))
+    All-append P (tree_cases t (at_start scene.policy tree) tree.records (take (length (do_pids tree.records)) (way.takes ++ takes_of ways))) (cases_from (suc t) scene.policy trees (drop (length (do_pids tree.records)) (way.takes ++ takes_of ways)))
+    (done-cases scene history s P t tree way (takes_of ways) h.0 done.0 (f t tree way h.0))
+    (rw later (all-cases scene history s P f (suc t) trees ways h.1 done.1))
 
-pub all-pids : (scene : Scene) (history : History) (p : Policy) (t : ℕ) (trees : Trace) (ways : List Way) → EachWay (WayHolds scene history p) t trees ways → AllByRecursion IsDone ways → map (λ (k : Take). k.pid) (takes_of ways) ≡ all_do_pids trees
-all-pids scene history p t [] [] h done = refl
-all-pids scene history p t [] (way ∷ ways) h done = absurd h
-all-pids scene history p t (tree ∷ trees) [] h done = absurd h
-all-pids scene history p t (tree ∷ trees) (way ∷ ways) h done =
-    rw (map-append (λ (k : Take). k.pid) way.takes (takes_of ways), done-pids scene history p t tree way h.0 done.0, all-pids scene history p (suc t) trees ways h.1 done.1) refl
+pub all-pids : (scene : Scene) (history : History) (s : State) (t : ℕ) (trees : Trace) (ways : List Way) → EachWay (WayHolds scene history s) t trees ways → AllByRecursion IsDone ways → map (λ (k : Take). k.pid) (takes_of ways) ≡ all_do_pids trees
+all-pids scene history s t [] [] h done = refl
+all-pids scene history s t [] (way ∷ ways) h done = absurd h
+all-pids scene history s t (tree ∷ trees) [] h done = absurd h
+all-pids scene history s t (tree ∷ trees) (way ∷ ways) h done =
+    rw (map-append (λ (k : Take). k.pid) way.takes (takes_of ways), done-pids scene history s t tree way h.0 done.0, all-pids scene history s (suc t) trees ways h.1 done.1) refl
 
 All-taken : (scene : Scene) (history : History) (P : Take → Type 0) → ((c : Case) → CaseDone scene history c → P c.taken) → (done : List Case) → AllByRecursion (CaseDone scene history) done → AllByRecursion P (map (λ (c : Case). c.taken) done)
 All-taken scene history P f [] h = tt
 All-taken scene history P f (c ∷ done) h = (f c h.0, All-taken scene history P f done h.1)
 
-pub all-takes : (scene : Scene) (history : History) (p : Policy) (P : Take → Type 0) → ((c : Case) → CaseDone scene history c → P c.taken) → (t : ℕ) (trees : Trace) (ways : List Way) → EachWay (WayHolds scene history p) t trees ways → AllByRecursion P (takes_of ways)
-all-takes scene history p P f t [] [] h = tt
-all-takes scene history p P f t [] (way ∷ ways) h = absurd h
-all-takes scene history p P f t (tree ∷ trees) [] h = absurd h
-all-takes scene history p P f t (tree ∷ trees) (way ∷ ways) h =
-    All-append P way.takes (takes_of ways) (subst (AllByRecursion P) h.0.taken (All-taken scene history P f h.0.done h.0.ended)) (all-takes scene history p P f (suc t) trees ways h.1)
+pub all-takes : (scene : Scene) (history : History) (s : State) (P : Take → Type 0) → ((c : Case) → CaseDone scene history c → P c.taken) → (t : ℕ) (trees : Trace) (ways : List Way) → EachWay (WayHolds scene history s) t trees ways → AllByRecursion P (takes_of ways)
+all-takes scene history s P f t [] [] h = tt
+all-takes scene history s P f t [] (way ∷ ways) h = absurd h
+all-takes scene history s P f t (tree ∷ trees) [] h = absurd h
+all-takes scene history s P f t (tree ∷ trees) (way ∷ ways) h =
+    All-append P way.takes (takes_of ways) (subst (AllByRecursion P) h.0.taken (All-taken scene history P f h.0.done h.0.ended)) (all-takes scene history s P f (suc t) trees ways h.1)
 
 pub all-own : (n : ℕ) (ways : List Way) → AllByRecursion IsDone ways → times n (own_numbers (takes_of ways)) ≡ count_own n ways
 all-own n [] done = refl
 all-own n (way ∷ ways) done =
     rw (flat_map-append (λ (k : Take). flat_map (λ (look : Look). look.own) k.looks) way.takes (takes_of ways), times-append n (own_numbers way.takes) (own_numbers (takes_of ways)), times-append n (way_own way) (flat_map way_own ways), done.0.idle, times-append n (own_numbers way.takes) [], all-own n ways done.1) (omega arith)
 
--- own steps are none of the supervisor's
-own-alone : (step : Step) → is_own step ≡ true → is_of_supervisor step ≡ false
-own-alone (Step.Learn d entry) e = refl
-own-alone (Step.Make d name) e = refl
-own-alone (Step.Fail d) e = refl
-own-alone (Step.Ask d retry line) e = refl
-own-alone (Step.Answer serial code) e = absurd (true≢false (sym e))
-own-alone Step.Attach e = absurd (true≢false (sym e))
-own-alone Step.Detach e = absurd (true≢false (sym e))
-own-alone (Step.Edit e file line) is = absurd (true≢false (sym is))
-own-alone (Step.End t) e = absurd (true≢false (sym e))
+-- Trees that have ended
 
-pub no-places : (n : ℕ) (history : History) → AllByRecursion (λ (pair : Step × Reply). is_own pair.0 ≡ true) history → places_from n is_of_supervisor history ≡ []
-no-places n [] h = refl
-no-places n (pair ∷ history) h = rw (own-alone pair.0 h.0) (no-places (suc n) history h.1)
+-- the way of a tree
+pub tree-at : (P : ℕ → Tree → Way → Type 0) (t : ℕ) (trees : Trace) (ways : List Way) (n : ℕ) (tree : Tree) → EachWay P t trees ways → slice_get trees n ≡ Some tree → (way : Way) × (slice_get ways n ≡ Some way) × P (t + n) tree way
+tree-at P t [] [] n tree h at = absurd cc
+tree-at P t [] (w ∷ ways) n tree h at = absurd h
+tree-at P t (x ∷ trees) [] n tree h at = absurd h
+tree-at P t (x ∷ trees) (w ∷ ways) zero tree h at =
+    let same : x ≡ tree = cc in
+    let number : t + 0 ≡ t = omega arith in
+    (w, refl, rw number (subst (λ y. P t y w) same h.0))
+tree-at P t (x ∷ trees) (w ∷ ways) (suc n) tree h at =
+    let rest = tree-at P (suc t) trees ways n tree h.1 at in
+    let number : t + suc n ≡ suc t + n = omega arith in
+    (rest.0, rest.1, rw number rest.2)
+
+-- the end of a tree that has ended
+pub record Ended (t : ℕ) (history : History) (done : List Case) : Type 0 where
+  pub end : ℕ
+  pub once : places (is_end t) history ≡ end ∷ []
+  pub above : AllByRecursion (λ (c : Case). AllByRecursion (λ version. version < end) (flat_map seen c.taken.looks)) done
+
+pub ended-of : (scene : Scene) (history : History) (s : State) (t : ℕ) (tree : Tree) (way : Way) → (h : WayHolds scene history s t tree way) → is_over t s.ended ≡ true → Ended t history h.done
+ended-of scene history s t tree way h over = go (is_over t s.ended) over h.over
+  where
+    go : (b : Bool) → b ≡ true → EndsAs t history h.done way.items way.begun b → Ended t history h.done
+    go true e (end, once, above, idle, empty) = record { end = end; once = once; above = above }
+    go false e held = absurd (true≢false (sym e))
+
+-- all that a tree's takes have seen lies below its end
+abbrev pub Below : ℕ → ℕ → Case → Type 0
+Below t end c = c.tree ≡ t → AllByRecursion (λ version. version < end) (flat_map seen c.taken.looks)
+
+pub below-done : (scene : Scene) (history : History) (s : State) (t end : ℕ) → places (is_end t) history ≡ end ∷ [] → is_over t s.ended ≡ true → (m : ℕ) (tree : Tree) (way : Way) → (h : WayHolds scene history s m tree way) → AllByRecursion (Below t end) h.done
+below-done scene history s t end once over m tree way h = go h.done h.numbered_so above
+  where
+    above : m ≡ t → AllByRecursion (λ (c : Case). AllByRecursion (λ version. version < end) (flat_map seen c.taken.looks)) h.done
+    above same =
+        let e = ended-of scene history s m tree way h (subst (λ k. is_over k s.ended ≡ true) (sym same) over) in
+        let both : e.end ∷ [] ≡ end ∷ [] = sym e.once ∙ ap (λ k. places (is_end k) history) same ∙ once in
+        let equal : e.end ≡ end = cc in
+        subst (λ n. AllByRecursion (λ (c : Case). AllByRecursion (λ version. version < n) (flat_map seen c.taken.looks)) h.done) equal e.above
+
+    go : (done : List Case) → AllByRecursion (λ (c : Case). c.tree ≡ m) done → (m ≡ t → AllByRecursion (λ (c : Case). AllByRecursion (λ version. version < end) (flat_map seen c.taken.looks)) done) → AllByRecursion (Below t end) done
+    go [] tree_is all = tt
+    go (c ∷ done) tree_is all = ((λ is. (all (sym tree_is.0 ∙ is)).0), go done tree_is.1 (λ same. (all same).1))
+
+pub seen-below : (t end : ℕ) (cases : List Case) → AllByRecursion (Below t end) cases → AllByRecursion (λ version. version < end) (flat_map (λ (c : Case). if c.tree == t then flat_map seen c.taken.looks else []) cases)
+seen-below t end [] all = tt
+seen-below t end (c ∷ cases) all =
+    All-append (λ version. version < end) (if c.tree == t then flat_map seen c.taken.looks else []) (flat_map (λ (d : Case). if d.tree == t then flat_map seen d.taken.looks else []) cases) (go (c.tree == t) refl) (seen-below t end cases all.1)
+  where
+    go : (b : Bool) → (c.tree == t) ≡ b → AllByRecursion (λ version. version < end) (if b then flat_map seen c.taken.looks else [])
+    go true e = all.0 (eqb-true c.tree t e)
+    go false e = tt

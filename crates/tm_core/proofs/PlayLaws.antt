@@ -6,9 +6,10 @@ use Rattle.std.proofs.lemmas.Bool.{cases_lt}
 use Rattle.tm_types.specs.declared.step.Turn.{Turn}
 use Rattle.tm_types.specs.declared.step.Run.{Run}
 use Rattle.tm_core.specs.Legal.{Scene, Legal}
-use Rattle.tm_core.specs.Play.{Player, start_of, run_of, event, turn, turns, everybody, rounds, NobodyCanMove, Plays, CanPlay, IsAlone, EveryLonePlayIsLegal, EveryLonePlayEnds, EveryLoneStopIsFinished, EveryLoneEventIsWork, work_left}
+use Rattle.tm_core.specs.Play.{Player, start_of, run_of, event, turn, turns, everybody, rounds, NobodyCanMove, Plays, CanPlay, EveryPlayIsLegal, EveryPlayEnds, EveryStopIsFinished, EveryEventIsWork, EveryLonePlayIsLegal, EveryLonePlayEnds, EveryLoneStopIsFinished, EveryLoneEventIsWork, retries_of, left_with, play_left}
 use Rattle.tm_core.proofs.Players.{PlayHolds}
-use Rattle.tm_core.proofs.LonePlays.{EventMoves, start-holds, event-moves, turns-hold, rounds-hold, stops, finished, nobody-moves, legal}
+use Rattle.tm_core.proofs.AllPlays.{EventMoves, start-holds, event-moves, turns-hold, rounds-hold, stops}
+use Rattle.tm_core.proofs.Stops.{finished, nobody-moves, legal}
 
 -- Turns and rounds, of any scene
 
@@ -73,43 +74,65 @@ plays_once scene schedule run other a b = go (cases_lt a.number_of_rounds b.numb
     go (inl lt) = a.run_is ∙ ap run_of (sym (same a.number_of_rounds b.number_of_rounds (omega arith) a.over)) ∙ sym b.run_is
     go (inr le) = a.run_is ∙ ap run_of (same b.number_of_rounds a.number_of_rounds le b.over) ∙ sym b.run_is
 
--- Without editors and without a supervisor
+-- Every scene that can be played
 
 -- every player that some turns have led to
-pub reached_holds : (scene : Scene) (list : List Turn) → IsAlone scene → CanPlay scene → PlayHolds scene (turns scene (start_of scene) list)
-reached_holds scene list alone can = (turns-hold scene alone can (start_of scene) list (start-holds scene alone can)).0
+pub reached_holds : (scene : Scene) (list : List Turn) → CanPlay scene → PlayHolds scene (turns scene (start_of scene) list)
+reached_holds scene list can = (turns-hold scene can (start_of scene) list (start-holds scene can)).0
 
-pub every_lone_play_is_legal : EveryLonePlayIsLegal
-every_lone_play_is_legal scene schedule run alone can plays =
-    let holds = rounds-hold scene alone can (turns scene (start_of scene) schedule) plays.number_of_rounds (reached_holds scene schedule alone can) in
-    subst (Legal scene) (sym plays.run_is) (legal scene alone can (rounds scene (turns scene (start_of scene) schedule) plays.number_of_rounds) holds plays.over)
+-- every play is legal
+pub every_play_is_legal : EveryPlayIsLegal
+every_play_is_legal scene schedule run can plays =
+    let holds = rounds-hold scene can (turns scene (start_of scene) schedule) plays.number_of_rounds (reached_holds scene schedule can) in
+    subst (Legal scene) (sym plays.run_is) (legal scene can (rounds scene (turns scene (start_of scene) schedule) plays.number_of_rounds) holds plays.over)
 
-pub every_lone_play_ends : EveryLonePlayEnds
-every_lone_play_ends scene schedule alone can =
+-- for every schedule there is a play
+pub every_play_ends : EveryPlayEnds
+every_play_ends scene schedule can =
     let player : Player = turns scene (start_of scene) schedule in
-    let end = stops scene alone can (work_left player) player (reached_holds scene schedule alone can) (le_refl (work_left player)) in
-    (run_of (rounds scene player end.0), rounds_play scene schedule end.0 end.1)
+    let end = stops scene can (play_left scene player) player (reached_holds scene schedule can) (le_refl (play_left scene player)) in (run_of (rounds scene player end.0), rounds_play scene schedule end.0 end.1)
 
-pub every_lone_stop_is_finished : EveryLoneStopIsFinished
-every_lone_stop_is_finished scene list alone can none = finished scene alone can (turns scene (start_of scene) list) (reached_holds scene list alone can) none
+-- where nobody can move, nothing is left to do
+pub every_stop_is_finished : EveryStopIsFinished
+every_stop_is_finished scene schedule n can none =
+    finished scene can (rounds scene (turns scene (start_of scene) schedule) n) (rounds-hold scene can (turns scene (start_of scene) schedule) n (reached_holds scene schedule can)) none
 
-pub every_lone_event_is_work : EveryLoneEventIsWork
-every_lone_event_is_work scene list who next alone can is = go (event-moves scene alone can player who (reached_holds scene list alone can))
+-- each event leaves less to do
+pub every_event_is_work : EveryEventIsWork
+every_event_is_work scene list who next can is = go (event-moves scene can player who (reached_holds scene list can))
   where
     player : Player
     player = turns scene (start_of scene) list
 
-    go : EventMoves scene player (event scene player who) → work_left next < work_left player
-    go (inl moved) = subst (λ (q : Player). work_left q < work_left player) (let both : Some moved.next ≡ Some next = sym moved.is ∙ is in let same : moved.next ≡ next = cc in same) moved.less
+    go : EventMoves scene player (event scene player who) → play_left scene next < play_left scene player
+    go (inl moved) = subst (λ (q : Player). play_left scene q < play_left scene player) (let both : Some moved.next ≡ Some next = sym moved.is ∙ is in let same : moved.next ≡ next = cc in same) moved.less
     go (inr none) = absurd (let both : Some next ≡ None = sym is ∙ none in cc)
 
--- where nobody can move, no turn has an event, and turns change nothing
-pub lone_nobody_moves : (scene : Scene) (list : List Turn) (who : Turn) → IsAlone scene → CanPlay scene → NobodyCanMove scene (turns scene (start_of scene) list) → event scene (turns scene (start_of scene) list) who ≡ None
-lone_nobody_moves scene list who alone can none = nobody-moves scene alone can (turns scene (start_of scene) list) (reached_holds scene list alone can) none who
+-- where nobody can move, no turn has an event
+pub nobody_moves : (scene : Scene) (list : List Turn) (who : Turn) → CanPlay scene → NobodyCanMove scene (turns scene (start_of scene) list) → event scene (turns scene (start_of scene) list) who ≡ None
+nobody_moves scene list who can none = nobody-moves scene can (turns scene (start_of scene) list) (reached_holds scene list can) none who
 
 All-any : {A : Type 0} (P : A → Type 0) → ((x : A) → P x) → (xs : List A) → AllByRecursion P xs
 All-any P f [] = tt
 All-any P f (x ∷ xs) = (f x, All-any P f xs)
 
-pub lone_turns_still : (scene : Scene) (list more : List Turn) → IsAlone scene → CanPlay scene → NobodyCanMove scene (turns scene (start_of scene) list) → turns scene (turns scene (start_of scene) list) more ≡ turns scene (start_of scene) list
-lone_turns_still scene list more alone can none = turns-still scene (turns scene (start_of scene) list) more (All-any (λ who. event scene (turns scene (start_of scene) list) who ≡ None) (λ who. lone_nobody_moves scene list who alone can none) more)
+-- and further turns change nothing
+pub turns_still : (scene : Scene) (list more : List Turn) → CanPlay scene → NobodyCanMove scene (turns scene (start_of scene) list) → turns scene (turns scene (start_of scene) list) more ≡ turns scene (start_of scene) list
+turns_still scene list more can none =
+    turns-still scene (turns scene (start_of scene) list) more (All-any (λ who. event scene (turns scene (start_of scene) list) who ≡ None) (λ who. nobody_moves scene list who can none) more)
+
+-- Without editors and without a supervisor
+
+pub every_lone_play_is_legal : EveryLonePlayIsLegal
+every_lone_play_is_legal scene schedule run alone can plays = every_play_is_legal scene schedule run can plays
+
+pub every_lone_play_ends : EveryLonePlayEnds
+every_lone_play_ends scene schedule alone can = every_play_ends scene schedule can
+
+pub every_lone_stop_is_finished : EveryLoneStopIsFinished
+every_lone_stop_is_finished scene list alone can none = finished scene can (turns scene (start_of scene) list) (reached_holds scene list can) none
+
+pub every_lone_event_is_work : EveryLoneEventIsWork
+every_lone_event_is_work scene list who next alone can is =
+    let player : Player = turns scene (start_of scene) list in
+    subst (λ (most : ℕ). left_with most next < left_with most player) (ap retries_of alone.book) (every_event_is_work scene list who next can is)

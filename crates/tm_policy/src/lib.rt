@@ -3,9 +3,11 @@
 //! Promises that a search finds the first entry that grants, and that a change is the defined one or, for want of memory, none.
 #![tactic(auto)]
 
+mod editing;
 mod lines;
 mod rep;
 mod searching;
 
+pub use editing::{apply_line, new_policy, set_opened};
 pub use lines::read_line;
 pub use rep::Rep;

@@ -12,6 +12,7 @@ ghost use Rattle.tm_rules.specs.Search.{args_grant, grants, aggregated, path_of,
 ghost use Rattle.tm_policy.specs.Searching.{asked_as, place_in, found_in, acl_entries};
 
 use tm_cond::holds;
+use tm_domain::namespace;
 use tm_except::aggregated;
 use tm_file::{file_args_match, path_args_match};
 use tm_list::{Map, Seq};
@@ -20,7 +21,7 @@ use tm_rules::{bytes_equal, is_execute};
 use tm_types::entry::{Args, Entry};
 use tm_types::policy::{Domain, Namespace, Policy};
 use tm_types::request::{Proc, Request};
-use tm_types::unions::{DomainName, Groups, NamePlace};
+use tm_types::unions::{Groups, NamePlace};
 use tm_types::verdict::{EntryPlace, Found};
 use tm_word::Word;
 
@@ -310,17 +311,6 @@ fn find_namespace<'a>(namespaces: &'a [Namespace], name: &[u8]) -> Option<&'a Na
     None
 }
 
-// The first word of a domain name.
-fn namespace_word(name: &DomainName) -> &[u8]
-    ensures { result.now ≡ namespace_word name.now }
-{
-    let bytes = name.bytes();
-    match bytes.iter().position(|byte| *byte == b' ') {
-        Some(end) => &bytes[..end],
-        None => bytes,
-    }
-}
-
 /// The first entry that grants the request of a process in the domain of this number: the domain's own entries in order, then those
 /// of its ACL groups by rising number. The path of an execute is looked up by its aggregated name. None exactly where no entry
 /// grants the request, or the domain isn't there. Takes no memory.
@@ -345,7 +335,7 @@ fn search_domain(
     requires own { IsShort domain.now.entries }
     ensures { result ≡ option_map found_of (first (namespace_of policy.now domain.now) domain.now process.now request.now) }
 {
-    match find_namespace(policy.namespaces.as_slice(), namespace_word(&domain.name)) {
+    match find_namespace(policy.namespaces.as_slice(), namespace(&domain.name)) {
         Some(namespace) => search_in(namespace, domain, process, request),
         None => {
             let groups = Groups {

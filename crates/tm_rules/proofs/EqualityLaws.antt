@@ -795,6 +795,7 @@ is_test test decides false x y h = go (test x y) refl
     go : (c : Bool) → test x y ≡ c → false ≡ test x y
     go false e = sym e
     go true e = let q : IsTrue false = h.1 (decides.sound x y e) in absurd cc
+
 pub texts_are_same : (r : Bool) (x y : Text) → IsTrue r ↔ (x ≡ y) → r ≡ texts_equal x y
 texts_are_same r x y h = is_test texts_equal same_texts r x y h
 

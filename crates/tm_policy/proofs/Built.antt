@@ -1,0 +1,79 @@
+-- What is read is built.
+use Rattle.std.proofs.Common.{◌≡◌, ℕ, Bool, true, false, List, [], ◌∷◌, refl, subst}
+use Rattle.std.specs.Prelude.{Result, Ok, Err, if◌then◌else◌, codes}
+use Rattle.tm_word.specs.Words.{Text}
+use Rattle.tm_word.specs.Spelling.{words_of}
+use Rattle.tm_types.specs.declared.entry.LineKind.{LineKind}
+use Rattle.tm_types.specs.declared.policy.PolicyLine.{PolicyLine}
+use Rattle.tm_types.specs.declared.policy.ProfileEffect.{ProfileEffect}
+use Rattle.tm_types.specs.declared.policy.DomainRule.{DomainRule}
+use Rattle.tm_types.specs.declared.step.FileKind.{FileKind}
+use Rattle.tm_rules.specs.Equality.{texts_equal}
+use Rattle.tm_rules.specs.Policy.{kernel}
+use Rattle.tm_policy.specs.Lines.{◌>>=◌, word_at, keyword_at, at_end, config_number, mode_word, perms_word, name_word, profile_number, kernel_profile, silent, path_entry, config_line, profile_line, use_profile_line, file_line, domain_line, read_words, read_line, is_built}
+
+-- the line that this gives is built
+abbrev Builds : Result PolicyLine LineKind → Type 0
+Builds read = (line : PolicyLine) → read ≡ Ok line → is_built line ≡ true
+
+failed : (kind : LineKind) → Builds (Err kind)
+failed kind line e = absurd cc
+
+-- a step before it does no harm
+after : {A : Type 0} (read : Result A LineKind) (f : A → Result PolicyLine LineKind) → ((x : A) → Builds (f x)) → Builds (read >>= f)
+after (Ok x) f each = each x
+after (Err kind) f each = failed kind
+
+either : (b : Bool) (x y : Result PolicyLine LineKind) → Builds x → Builds y → Builds (if b then x else y)
+either true x y h k = h
+either false x y h k = k
+
+ending : (read : PolicyLine) (words : List Text) → is_built read ≡ true → Builds (at_end read words)
+ending read [] h line e = subst (λ l. is_built l ≡ true) (let same : read ≡ line = cc in same) h
+ending read (word ∷ words) h line e = absurd cc
+
+config-built : (words : List Text) → Builds (config_line words)
+unfolding config_line
+config-built words =
+    after (word_at config_number words) _ (λ number.
+    after (word_at mode_word number.1) _ (λ mode.
+    after (keyword_at (codes "grant_log=no") mode.1) _ (λ grant.
+    after (keyword_at (codes "reject_log=no") grant) _ (λ reject.
+    after (keyword_at (codes "}") reject) _ (λ rest. ending (kernel_profile (ProfileEffect.Config number.0 (silent mode.0))) rest refl)))))
+
+profile-built : (word : Text) (words : List Text) → Builds (profile_line word words)
+unfolding profile_line
+profile-built word words =
+    either (texts_equal word (codes "PROFILE_VERSION=20150505")) (at_end (kernel_profile ProfileEffect.Version) words) (config_line (word ∷ words)) (ending (kernel_profile ProfileEffect.Version) words refl) (config-built (word ∷ words))
+
+use-built : (words : List Text) → Builds (use_profile_line words)
+unfolding use_profile_line
+use-built words = after (word_at profile_number words) _ (λ number. ending (PolicyLine.Domain (DomainRule.UseProfile number.0)) number.1 refl)
+
+file-built : (words : List Text) → Builds (file_line words)
+unfolding file_line
+file-built words =
+    after (word_at perms_word words) _ (λ perms.
+    after (word_at name_word perms.1) _ (λ name. ending (PolicyLine.Domain (DomainRule.Acl false (path_entry name.0 perms.0))) name.1 refl))
+
+domain-built : (word : Text) (words : List Text) → Builds (domain_line word words)
+unfolding domain_line
+domain-built word words =
+    let files = either (texts_equal word (codes "file")) (file_line words) (Err LineKind.Keyword) (file-built words) (failed LineKind.Keyword) in
+    let uses = either (texts_equal word (codes "use_profile")) (use_profile_line words) (if texts_equal word (codes "file") then file_line words else Err LineKind.Keyword) (use-built words) files in
+    either (texts_equal word kernel) (at_end (PolicyLine.Domain (DomainRule.Choose kernel)) words)
+      (if texts_equal word (codes "use_profile") then use_profile_line words else (if texts_equal word (codes "file") then file_line words else Err LineKind.Keyword))
+      (ending (PolicyLine.Domain (DomainRule.Choose kernel)) words refl) uses
+
+words-built : (file : FileKind) (words : List Text) → Builds (read_words file words)
+unfolding read_words
+words-built file [] = ending PolicyLine.Nothing [] refl
+words-built FileKind.Profile (word ∷ words) = profile-built word words
+words-built FileKind.Exception (word ∷ words) = failed LineKind.Keyword
+words-built FileKind.Domain (word ∷ words) = domain-built word words
+words-built FileKind.Manager (word ∷ words) = failed LineKind.Keyword
+
+-- each line that is read is built
+pub read_built : (file : FileKind) (text : Text) (line : PolicyLine) → read_line file text ≡ Ok line → is_built line ≡ true
+unfolding read_line
+read_built file text line e = words-built file (words_of text) line e

@@ -1,0 +1,64 @@
+-- What a search in a domain finds, and the definition.
+use Rattle.std.proofs.Common.{◌≡◌, ℕ, true, false, List, [], ◌∷◌, ◌++◌, refl, sym, ap, ◌∙◌, append-nil}
+use Rattle.std.specs.Prelude.{Option, Some, None, option_map, unwrap_or, slice_get}
+use Rattle.std.specs.List.{find}
+use Rattle.std.specs.Option.{option_and_then}
+use Rattle.tm_word.specs.Words.{Word, Text}
+use Rattle.tm_types.specs.declared.unions.Groups.{Groups}
+use Rattle.tm_types.specs.declared.policy.Namespace.{Namespace}
+use Rattle.tm_types.specs.declared.policy.Domain.{Domain}
+use Rattle.tm_types.specs.declared.policy.Policy.{Policy}
+use Rattle.tm_types.specs.declared.verdict.EntryPlace.{EntryPlace}
+use Rattle.tm_types.specs.declared.verdict.Found.{Found}
+use Rattle.tm_types.specs.declared.request.Proc.{Proc}
+use Rattle.tm_types.specs.declared.request.Request.{Request}
+use Rattle.tm_rules.specs.Equality.{texts_equal}
+use Rattle.tm_rules.specs.Condition.{is_execute}
+use Rattle.tm_rules.specs.Policy.{empty_namespace, namespace_word, namespace_named, namespace_of, domain_at}
+use Rattle.tm_rules.specs.Search.{aggregated, path_of, entries_of, placed, first, found, found_of}
+use Rattle.tm_policy.specs.Searching.{asked_as, found_in, acl_entries}
+use Rattle.tm_policy.proofs.Lists.{no_groups}
+
+-- an execute is searched for by its aggregated name
+pub found_execute : (ns : Namespace) (domain : Domain) (process : Proc) (request : Request) (name : Word) → is_execute request ≡ true → name ≡ aggregated ns (path_of request)
+    → found_in ns.groups process (asked_as request (Some name)) (placed EntryPlace.Own 0 domain.entries ++ acl_entries ns.acl_groups domain.groups) ≡ option_map found_of (first ns domain process request)
+unfolding first entries_of
+found_execute ns domain process request name h e = rw (e, h) refl
+
+-- every other request as it is
+pub found_plain : (ns : Namespace) (domain : Domain) (process : Proc) (request : Request) → is_execute request ≡ false
+    → found_in ns.groups process request (placed EntryPlace.Own 0 domain.entries ++ acl_entries ns.acl_groups domain.groups) ≡ option_map found_of (first ns domain process request)
+unfolding first entries_of
+found_plain ns domain process request h = rw h refl
+
+abbrev no_members : Groups
+no_members = record { paths = []; numbers = []; addrs = [] }
+
+-- the same in a namespace without lines
+pub alone_execute : (name : Text) (domain : Domain) (process : Proc) (request : Request) (path : Option Word) → is_execute request ≡ true → path ≡ Some (path_of request)
+    → found_in no_members process (asked_as request path) (placed EntryPlace.Own 0 domain.entries) ≡ option_map found_of (first (empty_namespace name) domain process request)
+unfolding first entries_of aggregated
+alone_execute name domain process request path h e = rw (e, h, no_groups domain.groups, append-nil (placed EntryPlace.Own 0 domain.entries)) refl
+
+pub alone_plain : (name : Text) (domain : Domain) (process : Proc) (request : Request) → is_execute request ≡ false
+    → found_in no_members process request (placed EntryPlace.Own 0 domain.entries) ≡ option_map found_of (first (empty_namespace name) domain process request)
+unfolding first entries_of
+alone_plain name domain process request h = rw (h, no_groups domain.groups, append-nil (placed EntryPlace.Own 0 domain.entries)) refl
+
+-- the namespace of a domain: the one of that name that has a line, else an empty one
+pub namespace-found : (policy : Policy) (domain : Domain) (ns : Namespace) → find (λ (n : Namespace). texts_equal n.name (namespace_word domain.name)) policy.namespaces ≡ Some ns → namespace_of policy domain ≡ ns
+unfolding namespace_named
+namespace-found policy domain ns e = ap (λ o. unwrap_or o (empty_namespace (namespace_word domain.name))) e
+
+pub namespace-none : (policy : Policy) (domain : Domain) → find (λ (n : Namespace). texts_equal n.name (namespace_word domain.name)) policy.namespaces ≡ None → namespace_of policy domain ≡ empty_namespace (namespace_word domain.name)
+unfolding namespace_named
+namespace-none policy domain e = ap (λ o. unwrap_or o (empty_namespace (namespace_word domain.name))) e
+
+-- what is found in the domain that is there
+pub found-there : (policy : Policy) (d : ℕ) (process : Proc) (request : Request) (domain : Domain) → domain_at policy d ≡ Some domain → found policy d process request ≡ option_map found_of (first (namespace_of policy domain) domain process request)
+unfolding found
+found-there policy d process request domain e = rw e refl
+
+pub found-nowhere : (policy : Policy) (d : ℕ) (process : Proc) (request : Request) → domain_at policy d ≡ None → found policy d process request ≡ None
+unfolding found
+found-nowhere policy d process request e = rw e refl

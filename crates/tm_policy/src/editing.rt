@@ -1,0 +1,450 @@
+//! What a line of a policy file does to a policy.
+ghost use Rattle.std.specs.Prelude.{◌≡◌, ◌<◌, ℕ, List, [], true, false, Some, None, length, unwrap_or, option_map, is_some, IfOk, IfSome, OnOk, OnErr};
+ghost use Rattle.std.specs.List.{AllByRecursion, position_from};
+ghost use Rattle.tm_types.specs.declared.policy.Domain.{Domain};
+ghost use Rattle.tm_types.specs.declared.policy.Namespace.{Namespace};
+ghost use Rattle.tm_types.specs.declared.policy.DomainRule.{DomainRule};
+ghost use Rattle.tm_types.specs.declared.policy.ProfileEffect.{ProfileEffect};
+ghost use Rattle.tm_rules.specs.Equality.{texts_equal};
+ghost use Rattle.tm_rules.specs.Few.{IsShort, IsFewHere, IsFew};
+ghost use Rattle.tm_rules.specs.Policy.{at_key, namespace_word, empty_namespace, profile_numbered, live_domain, with_domain, adding, same_line};
+ghost use Rattle.tm_rules.specs.Edit.{Edited, new_domain, new_profile, set_config, profile_line, in_namespace, chosen, domain_line, apply_read, apply_parsed};
+ghost use Rattle.tm_rules.specs.Load.{new_policy, wants_profile};
+ghost use Rattle.tm_policy.specs.Lines.{read_line, is_built_effect, is_built_rule, is_built};
+
+use crate::lines::read_line;
+use std::alloc::{AllocError, Global};
+use tm_domain::namespace;
+use tm_list::{Copied, Map, NoMemory, Seq};
+use tm_rules::{bytes_equal, same_line, texts_equal};
+use tm_types::entry::Entry;
+use tm_types::policy::{Config, Cursor, Domain, DomainRule, Logs, Mode, Namespace, Policy, PolicyLine, Profile, ProfileEffect, ProfileLine, Profiles, Setting};
+use tm_types::step::{EditReply, FileKind, LineFault};
+use tm_types::unions::{DomainName, Groups};
+use tm_word::Text;
+
+// A live domain without flags and entries.
+fn new_domain(alloc: Global, name: DomainName) -> Domain
+    ensures { result ≡ new_domain name 0 [] }
+{
+    Domain {
+        name,
+        live: true,
+        profile: 0,
+        groups: Map::new(alloc),
+        quota_exceeded: false,
+        transition_failed: false,
+        entries: Seq::new(alloc),
+    }
+}
+
+/// The policy of which nothing is written yet: the domain `<kernel>` alone, with profile 0, not opened. Errors: want of memory.
+pub fn new_policy(alloc: Global) -> Result<Policy, NoMemory>
+    ensures { IfOk result (λ policy. policy ≡ new_policy) }
+{
+    let name = Seq::from_bytes(alloc, b"<kernel>")?;
+    let mut domains = Seq::new(alloc);
+    domains.push(new_domain(alloc, name))?;
+    Ok(Policy {
+        namespaces: Seq::new(alloc),
+        domains,
+        by_non_root: false,
+        managers: Seq::new(alloc),
+        opened: false,
+    })
+}
+
+/// Opens a policy in which each live domain has its profile. Takes no memory.
+pub fn set_opened(policy: &mut Policy)
+    requires { position_from (wants_profile policy.old) 0 policy.old.domains ≡ None }
+    ensures { policy.new ≡ record policy.old { opened = true } }
+{
+    policy.opened = true;
+}
+
+// A profile of which nothing was written.
+fn new_profile(alloc: Global) -> Profile
+    ensures { result ≡ new_profile }
+{
+    Profile {
+        comment: Seq::new(alloc),
+        max_audit_log: 1024,
+        max_learning_entry: 2048,
+        config: Config {
+            mode: Mode::Disabled,
+            logs: Logs {
+                grant: true,
+                reject: true,
+            },
+        },
+        slots: Map::new(alloc),
+    }
+}
+
+// A log that isn't written keeps its value.
+fn set_config(setting: &Setting, logs: Logs) -> Config
+    ensures { result ≡ set_config setting.now logs }
+{
+    Config {
+        mode: setting.mode,
+        logs: Logs {
+            grant: setting.grant.unwrap_or(logs.grant),
+            reject: setting.reject.unwrap_or(logs.reject),
+        },
+    }
+}
+
+// A copy of the profile of this number, or a new one.
+fn profile_or_new(alloc: Global, profiles: &Profiles, number: u8) -> Result<Profile, NoMemory>
+    ensures { IfOk result (λ made. made ≡ unwrap_or (at_key profiles.now number) new_profile) }
+{
+    match profiles.get(&number) {
+        Some(profile) => profile.copy(alloc),
+        None => Ok(new_profile(alloc)),
+    }
+}
+
+// The namespace with the mode and the logs of this profile set.
+#[tactic(auto, unfolding(tm_rules::specs::Edit::profile_line))]
+fn with_config(
+    alloc: Global,
+    mut namespace: Namespace,
+    number: u8,
+    setting: &Setting,
+) -> Result<Namespace, NoMemory>
+    ensures { IfOk result (λ made. made ≡ profile_line (ProfileEffect.Config number setting.now) namespace) }
+{
+    let mut profile = profile_or_new(alloc, &namespace.profiles, number)?;
+    profile.config = set_config(setting, profile.config.logs);
+    namespace.profiles.put(number, profile)?;
+    Ok(namespace)
+}
+
+// The namespace after a profile line.
+#[tactic(auto, unfolding(tm_rules::specs::Edit::profile_line))]
+fn profile_line(
+    alloc: Global,
+    effect: &ProfileEffect,
+    namespace: Namespace,
+) -> Result<Namespace, NoMemory>
+    requires { is_built_effect effect.now ≡ true }
+    ensures { IfOk result (λ made. made ≡ profile_line effect.now namespace) }
+{
+    match effect {
+        ProfileEffect::Version => Ok(namespace),
+        ProfileEffect::Config(number, setting) => with_config(alloc, namespace, *number, setting),
+        ProfileEffect::Comment(_, _) => unreachable!(),
+        ProfileEffect::Preference(_, _, _) => unreachable!(),
+        ProfileEffect::Slot(_, _, _) => unreachable!(),
+    }
+}
+
+// A namespace of which nothing was written.
+fn empty_namespace(alloc: Global, name: Text) -> Namespace
+    ensures { result ≡ empty_namespace name }
+{
+    Namespace {
+        name,
+        profiles: Map::new(alloc),
+        groups: Groups {
+            paths: Seq::new(alloc),
+            numbers: Seq::new(alloc),
+            addrs: Seq::new(alloc),
+        },
+        aggregators: Seq::new(alloc),
+        controls: Seq::new(alloc),
+        acl_groups: Map::new(alloc),
+    }
+}
+
+// Where the namespace of that name stands.
+fn namespace_place(namespaces: &[Namespace], name: &Text) -> Option<usize>
+    ensures found { result ≡ position_from (λ (ns : Namespace). texts_equal ns.name name.now) 0 namespaces.now }
+    ensures within { IfSome result (λ place. place < length namespaces.now) }
+{
+    for (place, namespace) in namespaces.iter().enumerate() {
+        if texts_equal(&namespace.name, name) {
+            return Some(place);
+        }
+    }
+    None
+}
+
+// The namespaces after a profile line of the namespace of that name.
+fn in_namespace(
+    alloc: Global,
+    namespaces: &mut Seq<Namespace>,
+    line: ProfileLine,
+) -> Result<(), NoMemory>
+    requires { is_built_effect line.effect ≡ true }
+    ensures done { OnOk result (namespaces.new ≡ in_namespace line.namespace (profile_line line.effect) namespaces.old) }
+    ensures kept { OnErr result (namespaces.new ≡ namespaces.old) }
+    ensures few { AllByRecursion IsFewHere namespaces.old → AllByRecursion IsFewHere namespaces.new }
+{
+    match namespace_place(namespaces.as_slice(), &line.namespace) {
+        Some(place) => {
+            let namespace = namespaces.as_slice()[place].copy(alloc)?;
+            let changed = profile_line(alloc, &line.effect, namespace)?;
+            namespaces.set(place, changed);
+            Ok(())
+        }
+        None => {
+            let namespace = empty_namespace(alloc, line.namespace);
+            namespaces.push(profile_line(alloc, &line.effect, namespace)?)
+        }
+    }
+}
+
+// Where the entry stands that a line shares.
+fn entry_place(entries: &[Entry], line: &Entry) -> Option<usize>
+    ensures found { result ≡ position_from (λ (entry : Entry). same_line entry line.now) 0 entries.now }
+    ensures within { IfSome result (λ place. place < length entries.now) }
+{
+    for (place, entry) in entries.iter().enumerate() {
+        if same_line(entry, line) {
+            return Some(place);
+        }
+    }
+    None
+}
+
+// The entries with a line added.
+fn adding(mut entries: Vec<Entry>, line: Entry) -> Result<Seq<Entry>, NoMemory>
+    ensures done { IfOk result (λ made. made ≡ adding line entries.items) }
+    ensures short { IfOk result (λ made. IsShort entries.items → IsShort made) }
+{
+    match entry_place(entries.as_slice(), &line) {
+        Some(place) => {
+            entries[place].perms.bits |= line.perms.bits;
+            Ok(Seq::from_vec(entries))
+        }
+        None => {
+            if entries.len() >= 4294967295 {
+                return Err(AllocError);
+            }
+            entries.push(line)?;
+            Ok(Seq::from_vec(entries))
+        }
+    }
+}
+
+// Whether a namespace has a profile of this number.
+#[tactic(auto, unfolding(tm_rules::specs::Policy::namespace_named))]
+fn has_profile(policy: &Policy, name: &[u8], number: u8) -> bool
+    ensures { result ≡ is_some (profile_numbered policy.now name.now number) }
+{
+    for namespace in policy.namespaces.as_slice() {
+        if bytes_equal(namespace.name.bytes(), name) {
+            return namespace.profiles.get(&number).is_some();
+        }
+    }
+    false
+}
+
+// The number of the live domain of that name.
+#[tactic(auto, unfolding(tm_rules::specs::Policy::live_domain))]
+fn live_domain(policy: &Policy, name: &DomainName) -> Option<u32>
+    requires { IsShort policy.now.domains }
+    ensures { result ≡ live_domain policy.now name.now }
+{
+    for (place, domain) in policy.domains.as_slice().iter().enumerate() {
+        if domain.live && texts_equal(&domain.name, name) {
+            return Some(place as u32);
+        }
+    }
+    None
+}
+
+// The chosen domain, where it is live.
+#[tactic(auto, using(crate::proofs::Few::short_entries))]
+fn chosen(policy: &Policy, cursor: Cursor) -> Option<(u32, &Domain)>
+    ensures found { option_map (λ (pair : _). (pair.0, pair.1.now)) result ≡ chosen policy.now cursor }
+    ensures within { IfSome result (λ pair. pair.0 < length policy.now.domains) }
+    ensures short { IfSome result (λ pair. IsFew policy.now → IsShort pair.1.now.entries) }
+{
+    match cursor {
+        Some(number) => match policy.domains.get(number as usize) {
+            Some(domain) => {
+                if domain.live {
+                    Some((number, domain))
+                } else {
+                    None
+                }
+            }
+            None => None,
+        },
+        None => None,
+    }
+}
+
+// Puts another domain in the place of this number.
+#[tactic(auto, using(crate::proofs::Edits::set_changed, crate::proofs::Edits::each_set))]
+fn put_domain(policy: &mut Policy, number: u32, domain: Domain)
+    requires { number < length policy.old.domains }
+    ensures done { policy.new ≡ with_domain policy.old number domain }
+    ensures few { IsFew policy.old → IsShort domain.entries → IsFew policy.new }
+{
+    policy.domains.set(number as usize, domain);
+}
+
+// Gives the chosen domain a profile.
+#[tactic(auto, unfolding(tm_rules::specs::Edit::domain_line))]
+fn use_profile(
+    alloc: Global,
+    policy: &mut Policy,
+    cursor: Cursor,
+    number: u8,
+) -> Result<EditReply, NoMemory>
+    ensures done { IfOk result (λ reply. domain_line policy.old cursor (DomainRule.UseProfile number) ≡ record { policy = policy.new; cursor = cursor; reply = reply }) }
+    ensures kept { OnErr result (policy.new ≡ policy.old) }
+    ensures few { IsFew policy.old → IsFew policy.new }
+{
+    match chosen(policy, cursor) {
+        Some((place, domain)) => {
+            if !has_profile(policy, namespace(&domain.name), number) {
+                return Ok(EditReply::NoProfile);
+            }
+            let mut changed = domain.copy(alloc)?;
+            changed.profile = number;
+            put_domain(policy, place, changed);
+            Ok(EditReply::Done)
+        }
+        None => Ok(EditReply::NoDomain),
+    }
+}
+
+// A domain with a line added to its entries.
+fn with_entry(alloc: Global, domain: &Domain, line: Entry) -> Result<Domain, NoMemory>
+    ensures done { IfOk result (λ made. made ≡ record domain.now { entries = adding line domain.now.entries }) }
+    ensures short { IfOk result (λ made. IsShort domain.now.entries → IsShort made.entries) }
+{
+    let mut changed = domain.copy(alloc)?;
+    let entries = changed.entries.take();
+    changed.entries = adding(entries, line)?;
+    Ok(changed)
+}
+
+// Adds a line to the entries of the chosen domain.
+#[tactic(auto, unfolding(tm_rules::specs::Edit::domain_line))]
+fn add_entry(
+    alloc: Global,
+    policy: &mut Policy,
+    cursor: Cursor,
+    line: Entry,
+) -> Result<EditReply, NoMemory>
+    ensures done { IfOk result (λ reply. domain_line policy.old cursor (DomainRule.Acl false line) ≡ record { policy = policy.new; cursor = cursor; reply = reply }) }
+    ensures kept { OnErr result (policy.new ≡ policy.old) }
+    ensures few { IsFew policy.old → IsFew policy.new }
+{
+    match chosen(policy, cursor) {
+        Some((place, domain)) => {
+            let changed = with_entry(alloc, domain, line)?;
+            put_domain(policy, place, changed);
+            Ok(EditReply::Done)
+        }
+        None => Ok(EditReply::NoDomain),
+    }
+}
+
+// Chooses the live domain of a name, or makes one.
+#[tactic(auto, using(crate::proofs::Few::few_with_domain), unfolding(tm_rules::specs::Edit::domain_line))]
+fn choose(
+    alloc: Global,
+    policy: &mut Policy,
+    cursor: &mut Cursor,
+    name: DomainName,
+) -> Result<EditReply, NoMemory>
+    requires { IsShort policy.old.domains }
+    ensures done { IfOk result (λ reply. domain_line policy.old cursor.old (DomainRule.Choose name) ≡ record { policy = policy.new; cursor = cursor.new; reply = reply }) }
+    ensures kept { OnErr result ((policy.new ≡ policy.old) × (cursor.new ≡ cursor.old)) }
+    ensures few { IsFew policy.old → IsFew policy.new }
+{
+    if let Some(place) = live_domain(policy, &name) {
+        *cursor = Some(place);
+        return Ok(EditReply::Done);
+    }
+    if policy.opened && !has_profile(policy, namespace(&name), 0) {
+        return Ok(EditReply::NoProfile);
+    }
+    let place = policy.domains.len();
+    if place >= 4294967295 {
+        return Err(AllocError);
+    }
+    policy.domains.push(new_domain(alloc, name))?;
+    *cursor = Some(place as u32);
+    Ok(EditReply::Done)
+}
+
+// What a line of a domain does.
+fn apply_rule(
+    alloc: Global,
+    policy: &mut Policy,
+    cursor: &mut Cursor,
+    rule: DomainRule,
+) -> Result<EditReply, NoMemory>
+    requires built { is_built_rule rule ≡ true }
+    requires short { IsShort policy.old.domains }
+    ensures done { IfOk result (λ reply. domain_line policy.old cursor.old rule ≡ record { policy = policy.new; cursor = cursor.new; reply = reply }) }
+    ensures kept { OnErr result ((policy.new ≡ policy.old) × (cursor.new ≡ cursor.old)) }
+    ensures few { IsFew policy.old → IsFew policy.new }
+{
+    match rule {
+        DomainRule::Choose(name) => choose(alloc, policy, cursor, name),
+        DomainRule::UseProfile(number) => use_profile(alloc, policy, *cursor, number),
+        DomainRule::Acl(false, line) => add_entry(alloc, policy, *cursor, line),
+        DomainRule::Acl(true, _) => unreachable!(),
+        DomainRule::Select(_) => unreachable!(),
+        DomainRule::Delete(_) => unreachable!(),
+        DomainRule::UseGroup(_, _) => unreachable!(),
+        DomainRule::QuotaExceeded(_) => unreachable!(),
+        DomainRule::TransitionFailed(_) => unreachable!(),
+    }
+}
+
+// What a line that was read does.
+#[tactic(auto, using(crate::proofs::Few::few_with_namespaces), unfolding(tm_rules::specs::Edit::apply_read))]
+fn apply_read(
+    alloc: Global,
+    policy: &mut Policy,
+    cursor: &mut Cursor,
+    line: PolicyLine,
+) -> Result<EditReply, NoMemory>
+    requires built { is_built line ≡ true }
+    requires short { IsShort policy.old.domains }
+    ensures done { IfOk result (λ reply. apply_read policy.old cursor.old line ≡ record { policy = policy.new; cursor = cursor.new; reply = reply }) }
+    ensures kept { OnErr result ((policy.new ≡ policy.old) × (cursor.new ≡ cursor.old)) }
+    ensures few { IsFew policy.old → IsFew policy.new }
+{
+    match line {
+        PolicyLine::Nothing => Ok(EditReply::Done),
+        PolicyLine::Profile(line) => {
+            in_namespace(alloc, &mut policy.namespaces, line)?;
+            Ok(EditReply::Done)
+        }
+        PolicyLine::Domain(rule) => apply_rule(alloc, policy, cursor, rule),
+        PolicyLine::Exception(_) => unreachable!(),
+        PolicyLine::Group(_) => unreachable!(),
+        PolicyLine::Manager(_, _) => unreachable!(),
+    }
+}
+
+/// Does a line of a policy file, with the cursor of that file: after want of memory policy and cursor are as before.
+#[tactic(auto, using(crate::proofs::Built::read_built))]
+pub fn apply_line(
+    alloc: Global,
+    policy: &mut Policy,
+    file: FileKind,
+    cursor: &mut Cursor,
+    line: &[u8],
+) -> Result<EditReply, NoMemory>
+    requires { IsShort policy.old.domains }
+    ensures done { IfOk result (λ reply. apply_parsed policy.old cursor.old (read_line file line.now) ≡ record { policy = policy.new; cursor = cursor.new; reply = reply }) }
+    ensures kept { OnErr result ((policy.new ≡ policy.old) × (cursor.new ≡ cursor.old)) }
+    ensures few { IsFew policy.old → IsFew policy.new }
+{
+    match read_line(alloc, file, line) {
+        Ok(read) => apply_read(alloc, policy, cursor, read),
+        Err(LineFault::Kind(kind)) => Ok(EditReply::BadLine(kind)),
+        Err(LineFault::NoMemory) => Err(AllocError),
+    }
+}
