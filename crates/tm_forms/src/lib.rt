@@ -5,7 +5,6 @@
 
 mod lines;
 mod opening;
-mod stub;
 mod trace;
 
 pub use lines::FormFault;

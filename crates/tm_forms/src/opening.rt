@@ -7,10 +7,9 @@ ghost use Rattle.tm_rules.specs.Edit.{apply_parsed};
 ghost use Rattle.tm_forms.specs.Opening.{file_of, may_end, after_stage, is_built_mode, is_off, is_built_setting, effect_fits, is_kernel, is_use_profile, is_entry, rule_fits, line_fits, stage_after, stage_at, edited_as, load_line, load_from, profile_opening, domain_opening};
 
 use crate::lines::{FormFault, text_lines};
-use crate::stub::apply_line;
 use std::alloc::Global;
 use tm_list::{Map, NoMemory, Seq};
-use tm_policy::read_line;
+use tm_policy::{apply_line, read_line};
 use tm_rules::bytes_equal;
 use tm_types::policy::{Cursor, Domain, DomainRule, Mode, Policy, PolicyLine, ProfileEffect, Setting};
 use tm_types::step::{EditReply, FileKind, LineFault};
