@@ -1,0 +1,183 @@
+-- The policy that the two policy files of the first path give.
+use Rattle.std.specs.Prelude.{◌≡◌, ℕ, suc, Bool, true, false, ◌&&◌, not, List, [], ◌∷◌, Option, Some, None, Result, Ok, Err, if◌then◌else◌}
+use Rattle.tm_word.specs.Words.{Text}
+use Rattle.tm_types.specs.declared.entry.LineKind.{LineKind}
+use Rattle.tm_types.specs.declared.policy.Mode.{Mode}
+use Rattle.tm_types.specs.declared.policy.Setting.{Setting}
+use Rattle.tm_types.specs.declared.policy.ProfileEffect.{ProfileEffect}
+use Rattle.tm_types.specs.declared.policy.DomainRule.{DomainRule}
+use Rattle.tm_types.specs.declared.policy.PolicyLine.{PolicyLine}
+use Rattle.tm_types.specs.declared.policy.Policy.{Policy}
+use Rattle.tm_types.specs.declared.step.FileKind.{FileKind}
+use Rattle.tm_rules.specs.Equality.{texts_equal}
+use Rattle.tm_rules.specs.Policy.{kernel}
+use Rattle.tm_rules.specs.Edit.{Edited, apply_parsed}
+use Rattle.tm_rules.specs.Load.{new_policy, is_done}
+use Rattle.tm_policy.specs.Lines.{read_line}
+use Rattle.tm_forms.specs.declared.opening.Stage.{Stage}
+use Rattle.tm_forms.specs.declared.opening.Loading.{Loading}
+use Rattle.tm_forms.specs.Lines.{◌>>=◌, text_lines}
+
+-- Which line may stand where
+
+-- the file that is being read
+abbrev pub file_of : Stage → FileKind
+file_of Stage.Version = FileKind.Profile
+file_of Stage.Configs = FileKind.Profile
+file_of Stage.Kernel = FileKind.Domain
+file_of Stage.UseProfile = FileKind.Domain
+file_of Stage.Files = FileKind.Domain
+
+-- the file may end here
+abbrev pub may_end : Stage → Bool
+may_end Stage.Version = false
+may_end Stage.Configs = true
+may_end Stage.Kernel = false
+may_end Stage.UseProfile = false
+may_end Stage.Files = true
+
+-- what comes after a line that fits
+abbrev pub after_stage : Stage → Stage
+after_stage Stage.Version = Stage.Configs
+after_stage Stage.Configs = Stage.Configs
+after_stage Stage.Kernel = Stage.UseProfile
+after_stage Stage.UseProfile = Stage.Files
+after_stage Stage.Files = Stage.Files
+
+-- a mode that is played
+abbrev pub is_built_mode : Mode → Bool
+is_built_mode Mode.Disabled = true
+is_built_mode Mode.Learning = false
+is_built_mode Mode.Permissive = false
+is_built_mode Mode.Enforcing = true
+
+-- a log is written off
+abbrev pub is_off : Option Bool → Bool
+is_off None = false
+is_off (Some log) = not log
+
+-- a mode that is played, and both logs off
+abbrev pub is_built_setting : Setting → Bool
+is_built_setting setting = is_built_mode setting.mode && is_off setting.grant && is_off setting.reject
+
+-- the version stands first, and every later line is a CONFIG
+abbrev pub effect_fits : Stage → ProfileEffect → Bool
+effect_fits Stage.Version ProfileEffect.Version = true
+effect_fits Stage.Version (ProfileEffect.Comment n text) = false
+effect_fits Stage.Version (ProfileEffect.Preference n audit learning) = false
+effect_fits Stage.Version (ProfileEffect.Config n setting) = false
+effect_fits Stage.Version (ProfileEffect.Slot n name setting) = false
+effect_fits Stage.Configs ProfileEffect.Version = false
+effect_fits Stage.Configs (ProfileEffect.Comment n text) = false
+effect_fits Stage.Configs (ProfileEffect.Preference n audit learning) = false
+effect_fits Stage.Configs (ProfileEffect.Config n setting) = is_built_setting setting
+effect_fits Stage.Configs (ProfileEffect.Slot n name setting) = false
+effect_fits Stage.Kernel effect = false
+effect_fits Stage.UseProfile effect = false
+effect_fits Stage.Files effect = false
+
+-- `<kernel>`
+abbrev pub is_kernel : DomainRule → Bool
+is_kernel (DomainRule.Choose name) = texts_equal name kernel
+is_kernel (DomainRule.Select name) = false
+is_kernel (DomainRule.Delete name) = false
+is_kernel (DomainRule.UseProfile n) = false
+is_kernel (DomainRule.UseGroup delete n) = false
+is_kernel (DomainRule.QuotaExceeded delete) = false
+is_kernel (DomainRule.TransitionFailed delete) = false
+is_kernel (DomainRule.Acl delete entry) = false
+
+-- `use_profile N`
+abbrev pub is_use_profile : DomainRule → Bool
+is_use_profile (DomainRule.Choose name) = false
+is_use_profile (DomainRule.Select name) = false
+is_use_profile (DomainRule.Delete name) = false
+is_use_profile (DomainRule.UseProfile n) = true
+is_use_profile (DomainRule.UseGroup delete n) = false
+is_use_profile (DomainRule.QuotaExceeded delete) = false
+is_use_profile (DomainRule.TransitionFailed delete) = false
+is_use_profile (DomainRule.Acl delete entry) = false
+
+-- an entry that is added
+abbrev pub is_entry : DomainRule → Bool
+is_entry (DomainRule.Choose name) = false
+is_entry (DomainRule.Select name) = false
+is_entry (DomainRule.Delete name) = false
+is_entry (DomainRule.UseProfile n) = false
+is_entry (DomainRule.UseGroup delete n) = false
+is_entry (DomainRule.QuotaExceeded delete) = false
+is_entry (DomainRule.TransitionFailed delete) = false
+is_entry (DomainRule.Acl delete entry) = not delete
+
+-- `<kernel>` stands first, then its profile, and every later line is an entry
+abbrev pub rule_fits : Stage → DomainRule → Bool
+rule_fits Stage.Version rule = false
+rule_fits Stage.Configs rule = false
+rule_fits Stage.Kernel rule = is_kernel rule
+rule_fits Stage.UseProfile rule = is_use_profile rule
+rule_fits Stage.Files rule = is_entry rule
+
+-- the line may stand here
+unfoldable pub line_fits : Stage → PolicyLine → Bool
+line_fits stage PolicyLine.Nothing = true
+line_fits stage (PolicyLine.Profile line) = texts_equal line.namespace kernel && effect_fits stage line.effect
+line_fits stage (PolicyLine.Exception line) = false
+line_fits stage (PolicyLine.Group line) = false
+line_fits stage (PolicyLine.Domain rule) = rule_fits stage rule
+line_fits stage (PolicyLine.Manager delete rule) = false
+
+-- a line without words changes nothing
+abbrev pub stage_after : Stage → PolicyLine → Stage
+stage_after stage PolicyLine.Nothing = stage
+stage_after stage (PolicyLine.Profile line) = after_stage stage
+stage_after stage (PolicyLine.Exception line) = after_stage stage
+stage_after stage (PolicyLine.Group line) = after_stage stage
+stage_after stage (PolicyLine.Domain rule) = after_stage stage
+stage_after stage (PolicyLine.Manager delete rule) = after_stage stage
+
+-- the stage after a line that was read, where it may stand here
+unfoldable pub stage_at : ℕ → Stage → Result PolicyLine LineKind → Result Stage ℕ
+stage_at number stage (Err kind) = Err number
+stage_at number stage (Ok line) = if line_fits stage line then Ok (stage_after stage line) else Err number
+
+-- What the lines give
+
+-- what a line has left, where it was done
+abbrev pub edited_as : ℕ → Stage → Edited → Result Loading ℕ
+edited_as number stage done = if is_done done.reply then Ok (record { stage = stage; policy = done.policy; cursor = done.cursor }) else Err number
+
+-- a line that may stand here does what a line of a policy file does, and has to be done
+unfoldable pub load_line : ℕ → Loading → Text → Result Loading ℕ
+load_line number s line =
+    stage_at number s.stage (read_line (file_of s.stage) line) >>= (λ stage. edited_as number stage (apply_parsed s.policy s.cursor (read_line (file_of s.stage) line)))
+
+-- all lines of a file, the first with this number; where it ends too early, the line past the last is at fault
+unfoldable pub load_lines : ℕ → Loading → List Text → Result Policy ℕ
+load_lines number s [] = if may_end s.stage then Ok s.policy else Err number
+load_lines number s (line ∷ lines) = load_line number s line >>= (λ next. load_lines (suc number) next lines)
+
+-- a file begins at this stage, with no domain chosen
+abbrev pub load_from : Stage → Policy → Text → Result Policy ℕ
+load_from stage policy text = load_lines 1 (record { stage = stage; policy = policy; cursor = None }) (text_lines text)
+
+-- the version and the profiles, in a new policy
+unfoldable pub profile_opening : Text → Result Policy ℕ
+profile_opening profile = load_from Stage.Version new_policy profile
+
+-- domain `<kernel>`, its profile and its entries
+unfoldable pub domain_opening : Policy → Text → Result Policy ℕ
+domain_opening policy domain_policy = load_from Stage.Kernel policy domain_policy
+
+-- the policy is opened, unless a line of a file is at fault
+abbrev pub opened_or_fault : FileKind → Result Policy ℕ → Result Policy (FileKind × ℕ)
+opened_or_fault file (Ok policy) = Ok (record policy { opened = true })
+opened_or_fault file (Err line) = Err (file, line)
+
+-- what the domain policy makes of the profiles
+abbrev pub with_domains : Text → Result Policy ℕ → Result Policy (FileKind × ℕ)
+with_domains domain_policy (Ok policy) = opened_or_fault FileKind.Domain (domain_opening policy domain_policy)
+with_domains domain_policy (Err line) = Err (FileKind.Profile, line)
+
+-- the opening that `profile` and `domain_policy` give, or the first file and its first line outside the forms
+unfoldable pub opening_of : Text → Text → Result Policy (FileKind × ℕ)
+opening_of profile domain_policy = with_domains domain_policy (profile_opening profile)

@@ -1,0 +1,372 @@
+//! The policy that the two policy files of the first path give.
+ghost use Rattle.std.specs.Prelude.{◌≡◌, Ok, IfOk};
+ghost use Rattle.tm_rules.specs.Load.{new_policy, is_done};
+ghost use Rattle.tm_forms.specs.Lines.{Gives};
+ghost use Rattle.tm_policy.specs.Lines.{read_line};
+ghost use Rattle.tm_rules.specs.Edit.{apply_parsed};
+ghost use Rattle.tm_forms.specs.Opening.{file_of, may_end, after_stage, is_built_mode, is_off, is_built_setting, effect_fits, is_kernel, is_use_profile, is_entry, rule_fits, line_fits, stage_after, stage_at, edited_as, load_line, load_from, profile_opening, domain_opening};
+
+use crate::lines::{FormFault, text_lines};
+use std::alloc::Global;
+use tm_list::{Map, NoMemory, Seq};
+use tm_policy::{apply_line, read_line};
+use tm_rules::bytes_equal;
+use tm_types::policy::{Cursor, Domain, DomainRule, Mode, Policy, PolicyLine, ProfileEffect, Setting};
+use tm_types::step::{EditReply, FileKind, LineFault};
+
+/// Which line of a policy file has to come.
+#[derive(Clone, Copy, PartialEq, Eq, Debug)]
+enum Stage {
+    /// The version of the profiles.
+    Version,
+    /// A profile, or the end.
+    Configs,
+    /// The name of the domain.
+    Kernel,
+    /// The domain's profile.
+    UseProfile,
+    /// An entry of the domain, or the end.
+    Files,
+}
+
+/// What the lines so far have given.
+#[derive(Drop)]
+struct Loading {
+    stage: Stage,
+    policy: Policy,
+    cursor: Cursor,
+}
+
+/// The file that is being read.
+fn file_of(stage: Stage) -> FileKind
+    ensures { result ≡ file_of stage }
+{
+    match stage {
+        Stage::Version | Stage::Configs => FileKind::Profile,
+        Stage::Kernel | Stage::UseProfile | Stage::Files => FileKind::Domain,
+    }
+}
+
+/// Whether the file may end here.
+fn may_end(stage: Stage) -> bool
+    ensures { result ≡ may_end stage }
+{
+    match stage {
+        Stage::Configs | Stage::Files => true,
+        Stage::Version | Stage::Kernel | Stage::UseProfile => false,
+    }
+}
+
+/// What comes after a line that fits.
+fn after_stage(stage: Stage) -> Stage
+    ensures { result ≡ after_stage stage }
+{
+    match stage {
+        Stage::Version | Stage::Configs => Stage::Configs,
+        Stage::Kernel => Stage::UseProfile,
+        Stage::UseProfile | Stage::Files => Stage::Files,
+    }
+}
+
+/// Whether a mode is played.
+fn is_built_mode(mode: Mode) -> bool
+    ensures { result ≡ is_built_mode mode }
+{
+    match mode {
+        Mode::Disabled | Mode::Enforcing => true,
+        Mode::Learning | Mode::Permissive => false,
+    }
+}
+
+/// Whether a log is written off.
+fn is_off(log: Option<bool>) -> bool
+    ensures { result ≡ is_off log }
+{
+    match log {
+        None => false,
+        Some(log) => !log,
+    }
+}
+
+/// Whether a setting has a mode that is played and both logs off.
+fn is_built_setting(setting: &Setting) -> bool
+    ensures { result ≡ is_built_setting setting.now }
+{
+    is_built_mode(setting.mode) && is_off(setting.grant) && is_off(setting.reject)
+}
+
+/// Whether a profile line may stand here.
+fn effect_fits(stage: Stage, effect: &ProfileEffect) -> bool
+    ensures { result ≡ effect_fits stage effect.now }
+{
+    match stage {
+        Stage::Version => match effect {
+            ProfileEffect::Version => true,
+            ProfileEffect::Comment(_, _) => false,
+            ProfileEffect::Preference(_, _, _) => false,
+            ProfileEffect::Config(_, _) => false,
+            ProfileEffect::Slot(_, _, _) => false,
+        },
+        Stage::Configs => match effect {
+            ProfileEffect::Version => false,
+            ProfileEffect::Comment(_, _) => false,
+            ProfileEffect::Preference(_, _, _) => false,
+            ProfileEffect::Config(_, setting) => is_built_setting(setting),
+            ProfileEffect::Slot(_, _, _) => false,
+        },
+        Stage::Kernel | Stage::UseProfile | Stage::Files => false,
+    }
+}
+
+/// Whether a rule is `<kernel>`.
+fn is_kernel(rule: &DomainRule) -> bool
+    ensures { result ≡ is_kernel rule.now }
+{
+    match rule {
+        DomainRule::Choose(name) => bytes_equal(name.bytes(), b"<kernel>"),
+        DomainRule::Select(_)
+        | DomainRule::Delete(_)
+        | DomainRule::UseProfile(_)
+        | DomainRule::UseGroup(_, _)
+        | DomainRule::QuotaExceeded(_)
+        | DomainRule::TransitionFailed(_)
+        | DomainRule::Acl(_, _) => false,
+    }
+}
+
+/// Whether a rule is `use_profile N`.
+fn is_use_profile(rule: &DomainRule) -> bool
+    ensures { result ≡ is_use_profile rule.now }
+{
+    match rule {
+        DomainRule::UseProfile(_) => true,
+        DomainRule::Choose(_)
+        | DomainRule::Select(_)
+        | DomainRule::Delete(_)
+        | DomainRule::UseGroup(_, _)
+        | DomainRule::QuotaExceeded(_)
+        | DomainRule::TransitionFailed(_)
+        | DomainRule::Acl(_, _) => false,
+    }
+}
+
+/// Whether a rule adds an entry.
+fn is_entry(rule: &DomainRule) -> bool
+    ensures { result ≡ is_entry rule.now }
+{
+    match rule {
+        DomainRule::Acl(delete, _) => !*delete,
+        DomainRule::Choose(_)
+        | DomainRule::Select(_)
+        | DomainRule::Delete(_)
+        | DomainRule::UseProfile(_)
+        | DomainRule::UseGroup(_, _)
+        | DomainRule::QuotaExceeded(_)
+        | DomainRule::TransitionFailed(_) => false,
+    }
+}
+
+/// Whether a line of the domain policy may stand here.
+fn rule_fits(stage: Stage, rule: &DomainRule) -> bool
+    ensures { result ≡ rule_fits stage rule.now }
+{
+    match stage {
+        Stage::Version | Stage::Configs => false,
+        Stage::Kernel => is_kernel(rule),
+        Stage::UseProfile => is_use_profile(rule),
+        Stage::Files => is_entry(rule),
+    }
+}
+
+/// Whether a line may stand here.
+#[tactic(auto, unfolding(crate::specs::Opening::line_fits))]
+fn line_fits(stage: Stage, line: &PolicyLine) -> bool
+    ensures { result ≡ line_fits stage line.now }
+{
+    match line {
+        PolicyLine::Nothing => true,
+        PolicyLine::Profile(line) => {
+            bytes_equal(line.namespace.bytes(), b"<kernel>") && effect_fits(stage, &line.effect)
+        }
+        PolicyLine::Exception(_) => false,
+        PolicyLine::Group(_) => false,
+        PolicyLine::Domain(rule) => rule_fits(stage, rule),
+        PolicyLine::Manager(_, _) => false,
+    }
+}
+
+/// The stage after a line.
+fn stage_after(stage: Stage, line: &PolicyLine) -> Stage
+    ensures { result ≡ stage_after stage line.now }
+{
+    match line {
+        PolicyLine::Nothing => stage,
+        PolicyLine::Profile(_) => after_stage(stage),
+        PolicyLine::Exception(_) => after_stage(stage),
+        PolicyLine::Group(_) => after_stage(stage),
+        PolicyLine::Domain(_) => after_stage(stage),
+        PolicyLine::Manager(_, _) => after_stage(stage),
+    }
+}
+
+/// The stage after a line that may stand here.
+#[tactic(auto, unfolding(crate::specs::Opening::stage_at))]
+fn next_stage(number: u64, stage: Stage, line: &PolicyLine) -> Result<Stage, FormFault>
+    ensures { Gives result (stage_at number stage (Ok line.now)) }
+{
+    if line_fits(stage, line) {
+        Ok(stage_after(stage, line))
+    } else {
+        Err(FormFault::Line(number))
+    }
+}
+
+/// The stage after a line of this text, where it may stand here.
+#[tactic(auto, unfolding(crate::specs::Opening::stage_at))]
+fn stage_at(alloc: Global, number: u64, stage: Stage, text: &[u8]) -> Result<Stage, FormFault>
+    ensures { Gives result (stage_at number stage (read_line (file_of stage) text.now)) }
+{
+    match read_line(alloc, file_of(stage), text) {
+        Ok(line) => next_stage(number, stage, &line),
+        Err(LineFault::NoMemory) => Err(FormFault::NoMemory),
+        Err(LineFault::Kind(_)) => Err(FormFault::Line(number)),
+    }
+}
+
+/// Whether a line was done.
+fn is_done(reply: EditReply) -> bool
+    ensures { result ≡ is_done reply }
+{
+    match reply {
+        EditReply::Done => true,
+        EditReply::NotManager => false,
+        EditReply::BadLine(_) => false,
+        EditReply::NoDomain => false,
+        EditReply::NoProfile => false,
+        EditReply::NoSuchLine => false,
+    }
+}
+
+/// Does a line of a file, which has to be done.
+fn edit_line(
+    alloc: Global,
+    number: u64,
+    file: FileKind,
+    next: Stage,
+    state: Loading,
+    text: &[u8],
+) -> Result<Loading, FormFault>
+    ensures { Gives result (edited_as number next (apply_parsed state.policy state.cursor (read_line file text.now))) }
+{
+    let Loading {
+        mut policy,
+        mut cursor,
+        ..
+    } = state;
+    // The places of domains are u32; a policy that is loaded here has one domain.
+    if policy.domains.len() > u32::MAX as usize {
+        return Err(FormFault::NoMemory);
+    }
+    let reply = apply_line(alloc, &mut policy, file, &mut cursor, text)?;
+    if is_done(reply) {
+        Ok(Loading {
+            stage: next,
+            policy,
+            cursor,
+        })
+    } else {
+        Err(FormFault::Line(number))
+    }
+}
+
+/// Does a line that may stand here.
+#[tactic(auto, unfolding(crate::specs::Opening::load_line))]
+fn load_line(
+    alloc: Global,
+    number: u64,
+    state: Loading,
+    text: &[u8],
+) -> Result<Loading, FormFault>
+    ensures { Gives result (load_line number state text.now) }
+{
+    let stage = state.stage;
+    let next = stage_at(alloc, number, stage, text)?;
+    edit_line(alloc, number, file_of(stage), next, state, text)
+}
+
+/// Does all lines of a file that begins at this stage.
+#[tactic(auto, unfolding(crate::specs::Opening::load_lines))]
+fn load_from(
+    alloc: Global,
+    stage: Stage,
+    policy: Policy,
+    text: &[u8],
+) -> Result<Policy, FormFault>
+    ensures { Gives result (load_from stage policy text.now) }
+{
+    let lines = text_lines(alloc, text)?;
+    let mut state = Loading {
+        stage,
+        policy,
+        cursor: None,
+    };
+    for (place, line) in lines.iter().enumerate() {
+        state = load_line(alloc, place as u64 + 1, state, line.bytes())?;
+    }
+    if may_end(state.stage) {
+        let Loading { policy, .. } = state;
+        Ok(policy)
+    } else {
+        Err(FormFault::Line(lines.len() as u64 + 1))
+    }
+}
+
+/// Domain `<kernel>` alone.
+fn new_policy(alloc: Global) -> Result<Policy, NoMemory>
+    ensures { IfOk result (λ policy. policy ≡ new_policy) }
+{
+    let mut domains = Seq::new(alloc);
+    domains.push(Domain {
+        name: Seq::from_bytes(alloc, b"<kernel>")?,
+        live: true,
+        profile: 0,
+        groups: Map::new(alloc),
+        quota_exceeded: false,
+        transition_failed: false,
+        entries: Seq::new(alloc),
+    })?;
+    Ok(Policy {
+        namespaces: Seq::new(alloc),
+        domains,
+        by_non_root: false,
+        managers: Seq::new(alloc),
+        opened: false,
+    })
+}
+
+/// Reads `profile`: `PROFILE_VERSION=20150505`, then lines `N-CONFIG={ mode=M grant_log=no reject_log=no }` with mode `disabled`
+/// or `enforcing`. Lines without words count and are skipped.
+///
+/// Errors: the first line outside these forms, one past the last where the version is missing, or want of memory.
+#[tactic(auto, unfolding(crate::specs::Opening::profile_opening))]
+pub fn read_profile(alloc: Global, profile: &[u8]) -> Result<Policy, FormFault>
+    ensures { Gives result (profile_opening profile.now) }
+{
+    let policy = new_policy(alloc)?;
+    load_from(alloc, Stage::Version, policy, profile)
+}
+
+/// Reads `domain_policy` into a policy: `<kernel>`, `use_profile N` with a profile that is defined, then lines `file P NAME` with a
+/// literal name. Lines without words count and are skipped.
+///
+/// Errors: the first line outside these forms, one past the last where one of the first two is missing, or want of memory.
+#[tactic(auto, unfolding(crate::specs::Opening::domain_opening))]
+pub fn read_domains(
+    alloc: Global,
+    policy: Policy,
+    domain_policy: &[u8],
+) -> Result<Policy, FormFault>
+    ensures { Gives result (domain_opening policy domain_policy.now) }
+{
+    load_from(alloc, Stage::Kernel, policy, domain_policy)
+}
