@@ -1,7 +1,7 @@
 pub mod Built
 pub mod Edits
 pub mod Executes
-pub mod Few
+pub mod ShortLists
 pub mod Lists
 pub mod Finds
 pub mod FewLaws

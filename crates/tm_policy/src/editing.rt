@@ -261,7 +261,7 @@ fn live_domain(policy: &Policy, name: &DomainName) -> Option<u32>
 }
 
 // The chosen domain, where it is live.
-#[tactic(auto, using(crate::proofs::Few::short_entries))]
+#[tactic(auto, using(crate::proofs::ShortLists::short_entries))]
 fn chosen(policy: &Policy, cursor: Cursor) -> Option<(u32, &Domain)>
     ensures found { option_map (λ (pair : _). (pair.0, pair.1.now)) result ≡ chosen policy.now cursor }
     ensures within { IfSome result (λ pair. pair.0 < length policy.now.domains) }
@@ -352,7 +352,7 @@ fn add_entry(
 }
 
 // Chooses the live domain of a name, or makes one.
-#[tactic(auto, using(crate::proofs::Few::few_with_domain), unfolding(tm_rules::specs::Edit::domain_line))]
+#[tactic(auto, using(crate::proofs::ShortLists::few_with_domain), unfolding(tm_rules::specs::Edit::domain_line))]
 fn choose(
     alloc: Global,
     policy: &mut Policy,
@@ -407,7 +407,7 @@ fn apply_rule(
 }
 
 // What a line that was read does.
-#[tactic(auto, using(crate::proofs::Few::few_with_namespaces), unfolding(tm_rules::specs::Edit::apply_read))]
+#[tactic(auto, using(crate::proofs::ShortLists::few_with_namespaces), unfolding(tm_rules::specs::Edit::apply_read))]
 fn apply_read(
     alloc: Global,
     policy: &mut Policy,

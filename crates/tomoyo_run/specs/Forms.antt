@@ -1,5 +1,10 @@
 -- The lines that this program doesn't play yet.
-use Rattle.std.specs.Prelude.{ℕ, ◌+◌, ◌==◌, List, [], ◌∷◌, Option, Some, None, if◌then◌else◌}
+use Rattle.std.specs.Prelude.{◌≡◌, ℕ, ◌+◌, ◌==◌, List, [], ◌∷◌, Option, Some, None, Ok, Err, Result, if◌then◌else◌}
+use Rattle.tm_types.specs.declared.policy.Policy.{Policy}
+use Rattle.tm_rules.specs.Words.{Trace}
+use Rattle.tm_forms.specs.Opening.{profile_opening, domain_opening}
+use Rattle.tm_forms.specs.Trace.{trace_of}
+use Rattle.tomoyo_run.specs.declared.forms.Loaded.{Loaded}
 use Rattle.tm_io.specs.declared.names.FileName.{FileName}
 use Rattle.tm_word.specs.Spelling.{is_separator}
 use Rattle.tomoyo_run.specs.Fetches.{Texts, content}
@@ -52,3 +57,10 @@ first_not_built texts =
     (line_of FileName.Edits (first_line_with_words (content texts FileName.Edits))
     (line_of FileName.Answers (first_line_with_words (content texts FileName.Answers))
     (line_of FileName.Schedule (first_line_with_words (content texts FileName.Schedule)) None)))))))
+
+-- what was loaded: the domain policy's effect on the profiles, and the trace
+pub record IsLoaded (texts : Texts) (loaded : Loaded) : Type 0 where
+  pub profiles : Policy
+  pub profiles_are : profile_opening (content texts FileName.Profile) ≡ Ok profiles
+  pub domains_are : domain_opening profiles (content texts FileName.DomainPolicy) ≡ Ok loaded.policy
+  pub trace_is : trace_of (content texts FileName.Trace) ≡ Ok loaded.trace

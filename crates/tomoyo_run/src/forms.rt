@@ -1,9 +1,23 @@
-ghost use Rattle.std.specs.Prelude.{◌≡◌};
-ghost use Rattle.tomoyo_run.specs.Forms.{first_line_with_words, first_not_built, profile_not_built, domain_policy_not_built, trace_not_built};
+//! What the files load to, and their first line that isn't built.
+ghost use Rattle.std.specs.Prelude.{◌≡◌, IfOk, IfErr, None};
 ghost use Rattle.tm_word.specs.Spelling.{is_separator};
+ghost use Rattle.tomoyo_run.specs.Forms.{first_line_with_words, IsLoaded};
+ghost use Rattle.tomoyo_run.specs.Play.{refusal_of, Refuses};
 
 use crate::fetches::text_at;
+use crate::status::Status;
+use std::alloc::Global;
+use tm_forms::{FormFault, read_domains, read_profile, read_trace};
 use tm_io::{FileList, FileName};
+use tm_types::policy::Policy;
+use tm_types::request::Trace;
+
+/// What the files load to: the policy, not opened yet, and the trace.
+#[derive(Drop)]
+pub struct Loaded {
+    pub policy: Policy,
+    pub trace: Trace,
+}
 
 // Whether a byte stands between words.
 fn is_separator(byte: u8) -> bool
@@ -27,56 +41,42 @@ pub fn first_line_with_words(text: &[u8]) -> Option<u64>
     None
 }
 
-// STUB: a profile without a line.
-fn profile_not_built(profile: &[u8]) -> Option<u64>
-    ensures { result ≡ profile_not_built profile.now }
+/// Loads the three files of the first path, after which the other five have no line; or names the first file, in the order of the
+/// fetches, with a line that isn't built, and its first such line.
+#[tactic(auto, unfolding(crate::specs::Play::refusal_of, crate::specs::Forms::first_not_built))]
+pub fn load(alloc: Global, texts: &FileList) -> Result<Loaded, Status>
+    ensures loaded { IfOk result (λ loaded. (refusal_of texts.now ≡ None) × IsLoaded texts.now loaded) }
+    ensures refused { IfErr result (Refuses texts.now) }
 {
-    first_line_with_words(profile)
-}
-
-// STUB: a domain policy without a line.
-fn domain_policy_not_built(_profile: &[u8], domain_policy: &[u8]) -> Option<u64>
-    ensures { result ≡ domain_policy_not_built _profile.now domain_policy.now }
-{
-    first_line_with_words(domain_policy)
-}
-
-// STUB: a trace without a line.
-fn trace_not_built(trace: &[u8]) -> Option<u64>
-    ensures { result ≡ trace_not_built trace.now }
-{
-    first_line_with_words(trace)
-}
-
-/// The first file with a line that isn't built, and its first such line.
-#[tactic(auto, unfolding(crate::specs::Forms::first_not_built))]
-pub fn first_not_built(texts: &FileList) -> Option<(FileName, u64)>
-    ensures { result ≡ first_not_built texts.now }
-{
-    let profile = text_at(texts, FileName::Profile);
-    if let Some(line) = profile_not_built(profile) {
-        return Some((FileName::Profile, line));
-    }
+    let profiles = match read_profile(alloc, text_at(texts, FileName::Profile)) {
+        Ok(profiles) => profiles,
+        Err(FormFault::Line(line)) => return Err(Status::NotBuilt(FileName::Profile, line)),
+        Err(FormFault::NoMemory) => return Err(Status::OutOfMemory),
+    };
     if let Some(line) = first_line_with_words(text_at(texts, FileName::ExceptionPolicy)) {
-        return Some((FileName::ExceptionPolicy, line));
+        return Err(Status::NotBuilt(FileName::ExceptionPolicy, line));
     }
-    if let Some(line) = domain_policy_not_built(profile, text_at(texts, FileName::DomainPolicy)) {
-        return Some((FileName::DomainPolicy, line));
-    }
+    let policy = match read_domains(alloc, profiles, text_at(texts, FileName::DomainPolicy)) {
+        Ok(policy) => policy,
+        Err(FormFault::Line(line)) => return Err(Status::NotBuilt(FileName::DomainPolicy, line)),
+        Err(FormFault::NoMemory) => return Err(Status::OutOfMemory),
+    };
     if let Some(line) = first_line_with_words(text_at(texts, FileName::Manager)) {
-        return Some((FileName::Manager, line));
+        return Err(Status::NotBuilt(FileName::Manager, line));
     }
-    if let Some(line) = trace_not_built(text_at(texts, FileName::Trace)) {
-        return Some((FileName::Trace, line));
-    }
+    let trace = match read_trace(alloc, text_at(texts, FileName::Trace)) {
+        Ok(trace) => trace,
+        Err(FormFault::Line(line)) => return Err(Status::NotBuilt(FileName::Trace, line)),
+        Err(FormFault::NoMemory) => return Err(Status::OutOfMemory),
+    };
     if let Some(line) = first_line_with_words(text_at(texts, FileName::Edits)) {
-        return Some((FileName::Edits, line));
+        return Err(Status::NotBuilt(FileName::Edits, line));
     }
     if let Some(line) = first_line_with_words(text_at(texts, FileName::Answers)) {
-        return Some((FileName::Answers, line));
+        return Err(Status::NotBuilt(FileName::Answers, line));
     }
     if let Some(line) = first_line_with_words(text_at(texts, FileName::Schedule)) {
-        return Some((FileName::Schedule, line));
+        return Err(Status::NotBuilt(FileName::Schedule, line));
     }
-    None
+    Ok(Loaded { policy, trace })
 }

@@ -265,14 +265,26 @@ audit -\n";
 fn forms_that_are_not_built_are_told_with_their_line(rt: HostRuntime) -> Result<(), Fail> {
     let alloc = rt.alloc();
     let rows: [(FileName, &[u8], u64); 8] = [
-        (FileName::DomainPolicy, b"<kernel>\nuse_profile 1\nfile unlink /a\n", 3),
+        (
+            FileName::DomainPolicy,
+            b"<kernel>\nuse_profile 1\nfile unlink /a\n",
+            3,
+        ),
         (FileName::DomainPolicy, b"<kernel>\nuse_profile 9\n", 2),
         (FileName::DomainPolicy, b"<kernel>\n", 2),
         (FileName::DomainPolicy, b"", 1),
-        (FileName::Profile, b"\nPROFILE_VERSION=20150505\n0-CONFIG={ mode=odd }\n", 3),
+        (
+            FileName::Profile,
+            b"\nPROFILE_VERSION=20150505\n0-CONFIG={ mode=odd }\n",
+            3,
+        ),
         (FileName::Trace, b"tree 7 <kernel>\ndo 8 file read /a\n", 2),
         (FileName::Trace, b"tree 0 <kernel>\n", 1),
-        (FileName::Trace, b"tree 7 <kernel>\ndo 7 file read /\\*\n", 2),
+        (
+            FileName::Trace,
+            b"tree 7 <kernel>\ndo 7 file read /\\*\n",
+            2,
+        ),
     ];
     for (name, bytes, line) in rows {
         let texts = files(alloc, name, bytes)?;

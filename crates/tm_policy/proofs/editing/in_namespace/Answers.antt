@@ -5,7 +5,7 @@ use Rattle.tm_types.specs.declared.policy.Namespace.{Namespace}
 use Rattle.tm_rules.specs.Equality.{texts_equal}
 use Rattle.tm_rules.specs.Edit.{profile_line}
 use Rattle.tm_policy.proofs.Edits.{namespace_last, namespace_at}
-use Rattle.tm_policy.proofs.Few.{few_namespaces, few_after}
+use Rattle.tm_policy.proofs.ShortLists.{few_namespaces, few_after}
 use Rattle.tm_policy.proofs.editing.in_namespace.Goals as goal
 
 pub returns-in_ok-changed-in-Some-clause-done : goal.returns-in_ok-changed-in-Some-clause-done
