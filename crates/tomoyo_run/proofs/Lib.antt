@@ -6,3 +6,4 @@ pub mod Refusals
 pub mod Causes
 pub mod Exact
 pub mod Headline
+pub mod Openings

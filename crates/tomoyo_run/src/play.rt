@@ -13,3 +13,14 @@ pub struct Played {
     pub run: Text,
     pub summary: Text,
 }
+
+/// Plays what was read, or refuses it.
+pub fn play_of(alloc: Global, texts: &FileList) -> Result<Played, Status>
+    ensures played { IfOk result (λ played. (refusal_of texts.now ≡ None) × Plays texts.now played) }
+    ensures refused { IfErr result (Refuses texts.now) }
+{
+    match load(alloc, texts) {
+        Ok(_loaded) => Err(Status::OutOfMemory),
+        Err(status) => Err(status),
+    }
+}
