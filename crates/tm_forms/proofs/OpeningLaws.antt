@@ -62,11 +62,11 @@ slots_none n (pair ∷ pairs) all = go (pair.0 == n) (slots_none n pairs all.1)
 
 config_first : (setting : Setting) (p : Profile) → is_built_setting setting ≡ true → p.slots ≡ [] → IsFirstProfile (record p { config = set_config setting p.config.logs })
 config_first setting p h none =
-    let parts = both (is_built_mode setting.mode) (is_off setting.grant && is_off setting.reject) h in
-    let offs = both (is_off setting.grant) (is_off setting.reject) parts.1 in
+    let parts = both (is_built_mode setting.mode && is_off setting.grant) (is_off setting.reject) h in
+    let first = both (is_built_mode setting.mode) (is_off setting.grant) parts.0 in
     record {
-      mode = parts.0;
-      logs = rw (off_is setting.grant p.config.logs.grant offs.0, off_is setting.reject p.config.logs.reject offs.1) refl;
+      mode = first.0;
+      logs = rw (off_is setting.grant p.config.logs.grant first.1, off_is setting.reject p.config.logs.reject parts.1) refl;
       slots = none;
     }
 
@@ -170,19 +170,27 @@ Leaves stage done = is_done done.reply ≡ true → Fits stage done.policy
 
 -- only domain 0 can be chosen
 chosen_leaves : (stage : Stage) (p : Policy) (cursor : Cursor) (d : Domain) (change : ℕ → Domain → Edited) → p.domains ≡ d ∷ [] → Leaves stage (change 0 d) → Leaves stage (on_chosen p cursor change)
-chosen_leaves stage p None d change one yes = λ h. absurd cc
-chosen_leaves stage p (Some k) d change one yes = rw one (at k)
+chosen_leaves stage p None d change one does = λ h. absurd cc
+chosen_leaves stage p (Some k) d change one does = subst Left (sym one) (at k)
   where
+    -- with these domains
+    Left : List Domain → Type 0
+    Left domains = Leaves stage (option_map_or (λ (pair : ℕ × Domain). change pair.0 pair.1) (option_and_then (λ (domain : Domain). if domain.live then Some (k, domain) else None) (slice_get domains k)) (refused p (Some k) EditReply.NoDomain))
+
     live_at : (b : Bool) → Leaves stage (option_map_or (λ (pair : ℕ × Domain). change pair.0 pair.1) (if b then Some (0, d) else None) (refused p (Some 0) EditReply.NoDomain))
-    live_at true = yes
+    live_at true = does
     live_at false = λ h. absurd cc
 
     at : (k : ℕ) → Leaves stage (option_map_or (λ (pair : ℕ × Domain). change pair.0 pair.1) (option_and_then (λ (domain : Domain). if domain.live then Some (k, domain) else None) (slice_get (d ∷ []) k)) (refused p (Some k) EditReply.NoDomain))
     at zero = live_at d.live
     at (suc k) = λ h. absurd cc
 
+kernel_found : (p : Policy) (name : DomainName) → Fits Stage.Kernel p → texts_equal name kernel ≡ true → live_domain p name ≡ Some 0
+unfolding live_domain
+kernel_found p name fits h = rw (fits.domains, fits.live, fits.name, same_texts.sound name kernel h) refl
+
 choose_step : (p : Policy) (cursor : Cursor) (name : DomainName) → Fits Stage.Kernel p → texts_equal name kernel ≡ true → Leaves Stage.UseProfile (choosing p cursor name)
-choose_step p cursor name fits h = rw found (λ done. record {
+choose_step p cursor name fits h = rw (kernel_found p name fits h) (λ done. record {
       domain = fits.domain;
       domains = fits.domains;
       name = fits.name;
@@ -192,20 +200,12 @@ choose_step p cursor name fits h = rw found (λ done. record {
       silent = fits.silent;
       namespaces = fits.namespaces;
     })
-  where
-    found : live_domain p name ≡ Some 0
-    unfolding live_domain
-    found = rw (fits.domains, fits.live, fits.name, same_texts.sound name kernel h, same_texts.full kernel) refl
 
 use_step : (p : Policy) (cursor : Cursor) (n : ℕ) → Fits Stage.UseProfile p → Leaves Stage.Files (domain_line p cursor (DomainRule.UseProfile n))
-unfolding domain_line
+unfolding domain_line namespace_named
 use_step p cursor n fits = chosen_leaves Stage.Files p cursor fits.domain _ fits.domains (go (is_some (profile_numbered p (namespace_word fits.domain.name) n)) refl)
   where
-    after : Domain
-    after = record fits.domain { profile = n }
-
     go : (b : Bool) → is_some (profile_numbered p (namespace_word fits.domain.name) n) ≡ b → Leaves Stage.Files (if b then changed_domain p cursor 0 (record fits.domain { profile = n }) else refused p cursor EditReply.NoProfile)
-    unfolding namespace_named
     go true e = λ done. record {
           domain = record fits.domain { profile = n };
           domains = rw fits.domains refl;
@@ -302,10 +302,7 @@ line_step : (number : ℕ) (s : Loading) (line : Text) (next : Loading) → Good
 unfolding load_line
 line_step number s line next fits e = parsed_step number s (read_line (file_of s.stage) line) next fits e
 
--- the stages at which a file that began there may end
-abbrev OfFile : FileKind → Stage → Type 0
-OfFile file stage = file_of stage ≡ file
-
+-- the file stays the same
 after_file : (stage : Stage) → file_of (after_stage stage) ≡ file_of stage
 after_file Stage.Version = refl
 after_file Stage.Configs = refl
