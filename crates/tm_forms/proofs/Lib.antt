@@ -1,1 +1,2 @@
 pub mod TraceLaws
+pub mod OpeningLaws

@@ -22,17 +22,17 @@ use Rattle.tm_forms.specs.TraceForms.{IsPlain, IsPlainItem, IsPlainTree, IsPlain
 
 -- Steps that went well
 
-abbrev done : {A : Type 0} → A → Result A ℕ
+abbrev pub done : {A : Type 0} → A → Result A ℕ
 done x = Ok x
 
-ok_is : {A : Type 0} (x y : A) → done x ≡ done y → x ≡ y
+pub ok_is : {A : Type 0} (x y : A) → done x ≡ done y → x ≡ y
 ok_is x y e = cc
 
-bind_ok : {A B : Type 0} (r : Result A ℕ) (f : A → Result B ℕ) (y : B) → (r >>= f) ≡ Ok y → (x : A) × (r ≡ Ok x) × (f x ≡ Ok y)
+pub bind_ok : {A B : Type 0} (r : Result A ℕ) (f : A → Result B ℕ) (y : B) → (r >>= f) ≡ Ok y → (x : A) × (r ≡ Ok x) × (f x ≡ Ok y)
 bind_ok (Ok x) f y e = (x, refl, e)
 bind_ok (Err line) f y e = absurd cc
 
-if_ok : {A : Type 0} (test : Bool) (r : Result A ℕ) (line : ℕ) (y : A) → (if test then r else Err line) ≡ Ok y → r ≡ Ok y
+pub if_ok : {A : Type 0} (test : Bool) (r : Result A ℕ) (line : ℕ) (y : A) → (if test then r else Err line) ≡ Ok y → r ≡ Ok y
 if_ok true r line y e = e
 if_ok false r line y e = absurd cc
 

@@ -1,5 +1,5 @@
 -- The policy that the two policy files of the first path give.
-use Rattle.std.specs.Prelude.{◌≡◌, ℕ, suc, Bool, true, false, ◌&&◌, not, List, [], ◌∷◌, Option, Some, None, Result, Ok, Err, if◌then◌else◌}
+use Rattle.std.specs.Prelude.{◌≡◌, ℕ, suc, Bool, true, false, ◌&&◌, not, List, [], ◌∷◌, Option, Some, None, Result, Ok, Err, if◌then◌else◌, is_some}
 use Rattle.tm_word.specs.Words.{Text}
 use Rattle.tm_types.specs.declared.entry.LineKind.{LineKind}
 use Rattle.tm_types.specs.declared.policy.Mode.{Mode}
@@ -98,7 +98,7 @@ is_use_profile (DomainRule.QuotaExceeded delete) = false
 is_use_profile (DomainRule.TransitionFailed delete) = false
 is_use_profile (DomainRule.Acl delete entry) = false
 
--- an entry that is added
+-- an entry that is added, which says nothing of logs
 abbrev pub is_entry : DomainRule → Bool
 is_entry (DomainRule.Choose name) = false
 is_entry (DomainRule.Select name) = false
@@ -107,7 +107,7 @@ is_entry (DomainRule.UseProfile n) = false
 is_entry (DomainRule.UseGroup delete n) = false
 is_entry (DomainRule.QuotaExceeded delete) = false
 is_entry (DomainRule.TransitionFailed delete) = false
-is_entry (DomainRule.Acl delete entry) = not delete
+is_entry (DomainRule.Acl delete entry) = not delete && not (is_some entry.cond.grant_log)
 
 -- `<kernel>` stands first, then its profile, and every later line is an entry
 abbrev pub rule_fits : Stage → DomainRule → Bool

@@ -8,5 +8,5 @@ mod opening;
 mod trace;
 
 pub use lines::FormFault;
-pub use opening::{read_domains, read_profile};
+pub use opening::{first_openings, read_domains, read_profile};
 pub use trace::{plain_traces, read_trace};

@@ -2,6 +2,7 @@
 ghost use Rattle.std.specs.Prelude.{◌≡◌, Ok, IfOk};
 ghost use Rattle.tm_rules.specs.Load.{new_policy, is_done};
 ghost use Rattle.tm_forms.specs.Lines.{Gives};
+ghost use Rattle.tm_forms.specs.Opened.{EveryOpeningIsFirst};
 ghost use Rattle.tm_policy.specs.Lines.{read_line};
 ghost use Rattle.tm_rules.specs.Edit.{apply_parsed};
 ghost use Rattle.tm_forms.specs.Opening.{file_of, may_end, after_stage, is_built_mode, is_off, is_built_setting, effect_fits, is_kernel, is_use_profile, is_entry, rule_fits, line_fits, stage_after, stage_at, edited_as, load_line, load_from, profile_opening, domain_opening};
@@ -150,12 +151,12 @@ fn is_use_profile(rule: &DomainRule) -> bool
     }
 }
 
-/// Whether a rule adds an entry.
+/// Whether a rule adds an entry, which says nothing of logs.
 fn is_entry(rule: &DomainRule) -> bool
     ensures { result ≡ is_entry rule.now }
 {
     match rule {
-        DomainRule::Acl(delete, _) => !*delete,
+        DomainRule::Acl(delete, entry) => !*delete && entry.cond.grant_log.is_none(),
         DomainRule::Choose(_)
         | DomainRule::Select(_)
         | DomainRule::Delete(_)
@@ -370,3 +371,9 @@ pub fn read_domains(
 {
     load_from(alloc, Stage::Kernel, policy, domain_policy)
 }
+
+/// A law, nothing to run: every opening has domain `<kernel>` alone, with a profile that is defined, no log that is written, and
+/// modes that are played.
+pub fn first_openings()
+    ensures { EveryOpeningIsFirst }
+{}
