@@ -191,15 +191,15 @@ kernel_found p name fits h = rw (fits.domains, fits.live, fits.name, same_texts.
 
 choose_step : (p : Policy) (cursor : Cursor) (name : DomainName) → Fits Stage.Kernel p → texts_equal name kernel ≡ true → Leaves Stage.UseProfile (choosing p cursor name)
 choose_step p cursor name fits h = rw (kernel_found p name fits h) (λ done. record {
-      domain = fits.domain;
-      domains = fits.domains;
-      name = fits.name;
-      live = fits.live;
-      groups = fits.groups;
-      profile = tt;
-      silent = fits.silent;
-      namespaces = fits.namespaces;
-    })
+  domain = fits.domain;
+  domains = fits.domains;
+  name = fits.name;
+  live = fits.live;
+  groups = fits.groups;
+  profile = tt;
+  silent = fits.silent;
+  namespaces = fits.namespaces;
+})
 
 use_step : (p : Policy) (cursor : Cursor) (n : ℕ) → Fits Stage.UseProfile p → Leaves Stage.Files (domain_line p cursor (DomainRule.UseProfile n))
 unfolding domain_line namespace_named
@@ -207,29 +207,29 @@ use_step p cursor n fits = chosen_leaves Stage.Files p cursor fits.domain _ fits
   where
     go : (b : Bool) → is_some (profile_numbered p (namespace_word fits.domain.name) n) ≡ b → Leaves Stage.Files (if b then changed_domain p cursor 0 (record fits.domain { profile = n }) else refused p cursor EditReply.NoProfile)
     go true e = λ done. record {
-          domain = record fits.domain { profile = n };
-          domains = rw fits.domains refl;
-          name = fits.name;
-          live = fits.live;
-          groups = fits.groups;
-          profile = e;
-          silent = fits.silent;
-          namespaces = fits.namespaces;
-        }
+      domain = record fits.domain { profile = n };
+      domains = rw fits.domains refl;
+      name = fits.name;
+      live = fits.live;
+      groups = fits.groups;
+      profile = e;
+      silent = fits.silent;
+      namespaces = fits.namespaces;
+    }
     go false e = λ done. absurd cc
 
 entry_step : (p : Policy) (cursor : Cursor) (entry : Entry) → Fits Stage.Files p → IsSilent entry → Leaves Stage.Files (domain_line p cursor (DomainRule.Acl false entry))
 unfolding domain_line namespace_named
 entry_step p cursor entry fits h = chosen_leaves Stage.Files p cursor fits.domain _ fits.domains (λ done. record {
-      domain = record fits.domain { entries = adding entry fits.domain.entries };
-      domains = rw fits.domains refl;
-      name = fits.name;
-      live = fits.live;
-      groups = fits.groups;
-      profile = fits.profile;
-      silent = adding_silent entry fits.domain.entries h fits.silent;
-      namespaces = fits.namespaces;
-    })
+  domain = record fits.domain { entries = adding entry fits.domain.entries };
+  domains = rw fits.domains refl;
+  name = fits.name;
+  live = fits.live;
+  groups = fits.groups;
+  profile = fits.profile;
+  silent = adding_silent entry fits.domain.entries h fits.silent;
+  namespaces = fits.namespaces;
+})
 
 acl_step : (p : Policy) (cursor : Cursor) (delete : Bool) (entry : Entry) → Fits Stage.Files p → (not delete && not (is_some entry.cond.grant_log)) ≡ true → Leaves Stage.Files (domain_line p cursor (DomainRule.Acl delete entry))
 acl_step p cursor true entry fits h = absurd cc

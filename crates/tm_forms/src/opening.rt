@@ -12,7 +12,9 @@ use std::alloc::Global;
 use tm_list::{Map, NoMemory, Seq};
 use tm_policy::{apply_line, read_line};
 use tm_rules::bytes_equal;
-use tm_types::policy::{Cursor, Domain, DomainRule, Mode, Policy, PolicyLine, ProfileEffect, Setting};
+use tm_types::policy::{
+    Cursor, Domain, DomainRule, Mode, Policy, PolicyLine, ProfileEffect, Setting,
+};
 use tm_types::step::{EditReply, FileKind, LineFault};
 
 /// Which line of a policy file has to come.
@@ -282,12 +284,7 @@ fn edit_line(
 
 /// Does a line that may stand here.
 #[tactic(auto, unfolding(crate::specs::Opening::load_line))]
-fn load_line(
-    alloc: Global,
-    number: u64,
-    state: Loading,
-    text: &[u8],
-) -> Result<Loading, FormFault>
+fn load_line(alloc: Global, number: u64, state: Loading, text: &[u8]) -> Result<Loading, FormFault>
     ensures { Gives result (load_line number state text.now) }
 {
     let stage = state.stage;
@@ -297,12 +294,7 @@ fn load_line(
 
 /// Does all lines of a file that begins at this stage.
 #[tactic(auto, unfolding(crate::specs::Opening::load_lines))]
-fn load_from(
-    alloc: Global,
-    stage: Stage,
-    policy: Policy,
-    text: &[u8],
-) -> Result<Policy, FormFault>
+fn load_from(alloc: Global, stage: Stage, policy: Policy, text: &[u8]) -> Result<Policy, FormFault>
     ensures { Gives result (load_from stage policy text.now) }
 {
     let lines = text_lines(alloc, text)?;

@@ -92,7 +92,7 @@ asked_item is_path own (Item.Ids pid ids) h = refl
 asked_item is_path own (Item.Fork pid child) h = refl
 
 is_true : (b : Bool) → b ≡ true → IsTrue b
-is_true b h = sym h
+is_true b h = h
 
 kernel_lives : (policy : Policy) → IsFirst policy → IsSome (live_domain policy kernel)
 unfolding live_domain
@@ -100,7 +100,7 @@ kernel_lives policy first =
     let found : position_from (λ (domain : Domain). domain.live && texts_equal domain.name kernel) 0 policy.domains ≡ Some 0 =
     ap (λ xs. position_from (λ (domain : Domain). domain.live && texts_equal domain.name kernel) 0 xs) first.domains
     ∙ rw (first.live, subst (λ name. texts_equal name kernel ≡ true) (sym first.name) (same_texts.full kernel)) refl in
-    subst (λ o. IsSome o) (sym found) tt
+    subst (λ o. IsSome o) (sym found) refl
 
 pub can_play : (g : Grammar) (policy : Policy) (trace : Trace) → IsGrammar g → IsFirst policy → IsPlainTrace g.is_path trace → CanPlay (alone g policy trace)
 can_play g policy trace grammar first plain =
