@@ -1,9 +1,0 @@
-pub mod Steps
-pub mod Carried
-pub mod Told
-pub mod Others
-pub mod Refusals
-pub mod Causes
-pub mod Exact
-pub mod Headline
-pub mod Openings
