@@ -14,10 +14,10 @@ use Rattle.tm_core.specs.Play.{IsGrammar, IsOpened, CanPlay}
 use Rattle.tm_core.proofs.Examples.{computed, «<kernel>», kernel_namespace, domain, policy_of, read, tree}
 
 -- no line is in this grammar, and all that is learned can be written
-abbrev bare : Grammar
+abbrev pub bare : Grammar
 bare = record { read_line = λ file line. Err LineKind.Keyword; is_path = λ text. true; print_entry = λ entry. []; can_write = λ entry. true; print_request = λ request. []; print_attributes = λ request. [] }
 
-bare-is : IsGrammar bare
+pub bare-is : IsGrammar bare
 bare-is = record { learned = λ request name is path. refl; aggregators = λ file line ns first second e. absurd cc; quiet = λ file line rule q e. absurd cc; kernel_stays = λ file line e. absurd cc }
 
 abbrev one_domain : Policy

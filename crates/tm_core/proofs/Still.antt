@@ -182,11 +182,11 @@ module _ (g : Grammar) where
       now.domain)
 
 -- what a way keeps: no take waits, and the records that are left have plain requests
-abbrev StillWay : Way → Type 0
+abbrev pub StillWay : Way → Type 0
 StillWay way = (way.begun ≡ None) × (list_all is_plain_item way.items ≡ true)
 
 -- what a player keeps
-record Kept (scene : Scene) (p : Player) : Type 0 where
+pub record Kept (scene : Scene) (p : Player) : Type 0 where
   pub steps : p.steps ≡ []
   pub state : p.state ≡ opening_of scene
   pub ways : AllByRecursion StillWay p.ways
@@ -252,7 +252,7 @@ module _ (scene : Scene) (alone : IsAlone scene) (still : is_still_policy scene.
   unfolding turn
   turn-kept p who h = unwrap-holds (Kept scene) (event scene p who) p (event-kept p who h) h
 
-  turns-kept : (p : Player) (list : List Turn) → Kept scene p → Kept scene (turns scene p list)
+  pub turns-kept : (p : Player) (list : List Turn) → Kept scene p → Kept scene (turns scene p list)
   unfolding turns
   turns-kept p [] h = h
   turns-kept p (who ∷ list) h = turns-kept (turn scene p who) list (turn-kept p who h)
@@ -268,7 +268,7 @@ module _ (scene : Scene) (alone : IsAlone scene) (still : is_still_policy scene.
       let both = and_parts (list_all is_plain_item tree.records) (is_plain_trace trees) h in
       ((refl, both.0), start-ways-kept trees both.1)
 
-  start-kept : is_plain_trace scene.trace ≡ true → Kept scene (start_of scene)
+  pub start-kept : is_plain_trace scene.trace ≡ true → Kept scene (start_of scene)
   start-kept plain = record { steps = refl; state = refl; ways = start-ways-kept scene.trace plain; scripts = ap (map (λ (editor : Editor). editor.lines)) alone.editors }
 
 begun-none : (ways : List Way) → AllByRecursion StillWay ways → AllByRecursion (λ (way : Way). way.begun ≡ None) ways

@@ -1,0 +1,8 @@
+use Rattle.std.proofs.Common.{◌≡◌, map}
+use Rattle.std.specs.Prelude.{flat_map}
+use Rattle.tm_core.specs.Play.{Way}
+use Rattle.tm_core.specs.Stands.{way_of}
+use Rattle.tm_core.proofs.play.all_takes.Given as goal
+
+abbrev pub invariant-loop-walk : goal.invariant-loop-walk
+invariant-loop-walk l = l.all ≡ flat_map (λ (way : Way). way.takes) (map way_of l.yielded)

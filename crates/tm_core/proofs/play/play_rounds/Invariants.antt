@@ -1,0 +1,14 @@
+use Rattle.std.proofs.Common.{◌≡◌, ℕ}
+use Rattle.tm_core.specs.Legal.{Scene}
+use Rattle.tm_core.specs.Play.{rounds}
+use Rattle.tm_core.specs.Stands.{player_of, requests_left, IsReached}
+use Rattle.tm_core.proofs.play.play_rounds.Given as goal
+
+abbrev pub invariant-loop : goal.invariant-loop
+invariant-loop g l =
+    ((scene : Scene) × IsReached scene (player_of l.player.machine l.player.walks.items))
+    × ((scene : Scene) → IsReached scene (player_of l.initial.player.machine l.initial.player.walks.items) → (n : ℕ) × IsReached scene (player_of l.player.machine l.player.walks.items)
+    × (player_of l.player.machine l.player.walks.items ≡ rounds scene (player_of l.initial.player.machine l.initial.player.walks.items) n))
+
+abbrev pub decreases-loop : goal.decreases-loop
+decreases-loop g l = requests_left l.player.walks.items

@@ -1,0 +1,11 @@
+use Rattle.std.proofs.Common.{◌≡◌, drop}
+use Rattle.tm_core.specs.Legal.{Scene}
+use Rattle.tm_core.specs.Play.{turns}
+use Rattle.tm_core.specs.Stands.{player_of, IsReached}
+use Rattle.tm_core.proofs.play.play_turns.Given as goal
+
+abbrev pub invariant-loop-turn : goal.invariant-loop-turn
+invariant-loop-turn g l =
+    ((scene : Scene) × IsReached scene (player_of l.player.machine l.player.walks.items))
+    × ((scene : Scene) → IsReached scene (player_of l.initial.player.machine l.initial.player.walks.items) → IsReached scene (player_of l.player.machine l.player.walks.items)
+    × (turns scene (player_of l.initial.player.machine l.initial.player.walks.items) l.schedule ≡ turns scene (player_of l.player.machine l.player.walks.items) (drop l.turn-index l.schedule)))

@@ -1,0 +1,12 @@
+use Rattle.std.proofs.Common.{◌≡◌, length}
+use Rattle.tm_rules.specs.Grammar.{Grammar}
+use Rattle.tm_core.specs.Run.{do_pids}
+use Rattle.tm_core.specs.Play.{passed}
+use Rattle.tm_core.specs.Stands.{situations}
+use Rattle.tm_core.proofs.walk.pass.Given as goal
+
+abbrev pub invariant-loop-item : goal.invariant-loop-item
+invariant-loop-item l = ((g : Grammar) → passed g (situations l.spots) l.lines ≡ passed g (situations l.initial.spots) l.initial.lines) × (do_pids l.lines ≡ do_pids l.initial.lines)
+
+abbrev pub decreases-loop-item : goal.decreases-loop-item
+decreases-loop-item l = length l.lines

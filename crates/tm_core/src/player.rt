@@ -1,0 +1,116 @@
+//! A machine and a trace at play: one event at a time, by turns.
+ghost use Rattle.std.specs.Prelude.{◌≡◌, ◌<◌, ◌≤◌, ◌+◌, [], suc, length, if◌then◌else◌, IfOk, OnOk, map};
+ghost use Rattle.tm_rules.specs.Few.{IsShort};
+ghost use Rattle.tm_core.specs.Legal.{Scene};
+ghost use Rattle.tm_core.specs.Play.{start_of, event, IsAlone};
+ghost use Rattle.tm_core.specs.Stands.{Answers, IsReached, player_of, requests_left, way_of, way_at_start};
+
+use crate::lines::Lines;
+use crate::looks::first_look;
+use crate::machine::Machine;
+use crate::profiles::live_domain;
+use crate::situations::Spots;
+use crate::walk::Walk;
+use std::alloc::Global;
+use tm_list::{NoMemory, Seq};
+use tm_policy::Rep;
+use tm_types::policy::Policy;
+use tm_types::request::{Trace, Tree};
+use tm_types::step::Turn;
+
+/// All activities of a play: the machine, and each tree on its way.
+#[derive(Drop)]
+pub struct Player<R: Rep> {
+    pub(crate) machine: Machine<R>,
+    pub(crate) walks: Vec<Walk>,
+}
+
+/// A tree at its beginning: all its lines are left, and its processes stand in the live domain of its name.
+fn begin_walk(alloc: Global, policy: &Policy, tree: Tree) -> Walk
+    requires { IsShort policy.now.domains }
+    ensures { way_of result ≡ way_at_start policy.now tree }
+{
+    let home = live_domain(policy, &tree.start);
+    Walk {
+        spots: Spots::new(alloc, home),
+        lines: Lines::new(tree.records),
+        begun: Seq::new(alloc),
+        takes: Seq::new(alloc),
+    }
+}
+
+/// Every tree at its beginning.
+fn begin_walks(alloc: Global, policy: &Policy, trees: Vec<Tree>) -> Result<Vec<Walk>, NoMemory>
+    requires { IsShort policy.now.domains }
+    ensures { IfOk result (λ walks. map way_of walks.items ≡ map (way_at_start policy.now) trees.items) }
+{
+    let mut walks = Vec::new(alloc);
+    for tree in trees {
+        walks.push(begin_walk(alloc, policy, tree))?;
+    }
+    Ok(walks)
+}
+
+/// Every activity of a machine at version 0 and of this trace at its beginning.
+pub fn start_play<R: Rep>(
+    alloc: Global,
+    machine: Machine<R>,
+    trace: Trace,
+) -> Result<Player<R>, NoMemory>
+    requires { machine.made ≡ [] }
+    ensures { IfOk result (λ player. (scene : Scene) → IsAlone scene → scene.policy ≡ machine.policy → scene.trace ≡ trace → player_of player.machine player.walks.items ≡ start_of scene) }
+{
+    let walks = begin_walks(alloc, machine.policy(), trace.into_vec())?;
+    Ok(Player { machine, walks })
+}
+
+/// One event of the tree at this place, from 0: true, or false with nothing changed where it can't move.
+pub(crate) fn step_place<R: Rep>(
+    alloc: Global,
+    player: &mut Player<R>,
+    place: usize,
+) -> Result<bool, NoMemory>
+    requires reached { (scene : Scene) × IsReached scene (player_of player.old.machine player.old.walks.items) }
+    requires there { place < length player.old.walks.items }
+    ensures event { IfOk result (λ moved. (scene : Scene) → IsReached scene (player_of player.old.machine player.old.walks.items) → Answers moved (event scene (player_of player.old.machine player.old.walks.items) (Turn.Tree (suc place))) (player_of player.new.machine player.new.walks.items) (player_of player.old.machine player.old.walks.items)) }
+    ensures less { IfOk result (λ moved. (if moved then 1 else 0) + requests_left player.new.walks.items ≤ requests_left player.old.walks.items) }
+    ensures trees { length player.new.walks.items ≡ length player.old.walks.items }
+{
+    first_look(alloc, &player.machine, &mut player.walks[place])
+}
+
+/// One event of the tree of this number, from 1: true, or false with nothing changed where it can't move.
+fn step_tree<R: Rep>(alloc: Global, player: &mut Player<R>, number: u32) -> Result<bool, NoMemory>
+    requires { (scene : Scene) × IsReached scene (player_of player.old.machine player.old.walks.items) }
+    ensures { IfOk result (λ moved. (scene : Scene) → IsReached scene (player_of player.old.machine player.old.walks.items) → Answers moved (event scene (player_of player.old.machine player.old.walks.items) (Turn.Tree number)) (player_of player.new.machine player.new.walks.items) (player_of player.old.machine player.old.walks.items)) }
+{
+    if number == 0 {
+        return Ok(false);
+    }
+    let place = number as usize - 1;
+    if place >= player.walks.len() {
+        return Ok(false);
+    }
+    step_place(alloc, player, place)
+}
+
+/// One event of the activity whose turn it is: true, or false with nothing changed where it can't move now. A turn `Desk` is none of
+/// the player's. After want of memory the player isn't used again.
+pub fn step_alone<R: Rep>(
+    alloc: Global,
+    player: &mut Player<R>,
+    turn: Turn,
+) -> Result<bool, NoMemory>
+    requires { (scene : Scene) × IsReached scene (player_of player.old.machine player.old.walks.items) }
+    ensures event { IfOk result (λ moved. (scene : Scene) → IsReached scene (player_of player.old.machine player.old.walks.items) → Answers moved (event scene (player_of player.old.machine player.old.walks.items) turn) (player_of player.new.machine player.new.walks.items) (player_of player.old.machine player.old.walks.items)) }
+    ensures led { OnOk result ((scene : Scene) → IsReached scene (player_of player.old.machine player.old.walks.items) → IsReached scene (player_of player.new.machine player.new.walks.items)) }
+{
+    match turn {
+        Turn::Tree(number) => step_tree(alloc, player, number),
+        Turn::Editor(_) => Ok(false),
+        Turn::Desk => Ok(false),
+        Turn::Attach => Ok(false),
+        Turn::Answer(_, _) => Ok(false),
+        Turn::Detach => Ok(false),
+    }
+}

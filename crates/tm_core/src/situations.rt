@@ -1,0 +1,104 @@
+//! The processes of a tree by pid: who each is, and the domain that it is in.
+ghost use Rattle.std.specs.Prelude.{◌≡◌, OnOk, Some};
+ghost use Rattle.tm_core.specs.Run.{with_situation, with_ids, forked};
+ghost use Rattle.tm_core.specs.Stands.{first_situation, situation_of, situations};
+
+use std::alloc::Global;
+use std::collections::BTreeMap;
+use tm_list::NoMemory;
+use tm_types::request::{Ids, Proc};
+
+/// A process, and the number of the domain that it is in.
+#[derive(Clone, Copy, PartialEq, Eq, Debug)]
+pub(crate) struct Spot {
+    pub process: Proc,
+    pub domain: Option<u32>,
+}
+
+/// The processes of a tree. One that no line has changed yet stands in the tree's first domain, without ids and parent.
+#[derive(Drop)]
+pub(crate) struct Spots {
+    home: Option<u32>,
+    changed: BTreeMap<u32, Spot>,
+}
+
+/// The process of that pid as a tree begins with it.
+fn first_spot(home: Option<u32>, pid: u32) -> Spot
+    ensures { situation_of result ≡ first_situation home pid }
+{
+    let ids = Ids {
+        uid: 0,
+        euid: 0,
+        suid: 0,
+        fsuid: 0,
+        gid: 0,
+        egid: 0,
+        sgid: 0,
+        fsgid: 0,
+    };
+    Spot {
+        process: Proc { pid, ppid: 0, ids },
+        domain: home,
+    }
+}
+
+impl Spots {
+    /// Every process stands in this domain.
+    pub(crate) fn new(alloc: Global, home: Option<u32>) -> Spots
+        ensures { situations result ≡ first_situation home }
+    {
+        Spots {
+            home,
+            changed: BTreeMap::new(alloc),
+        }
+    }
+
+    /// The process of that pid.
+    pub(crate) fn at(&self, pid: u32) -> Spot
+        ensures { situation_of result ≡ situations self.now pid }
+    {
+        match self.changed.get(&pid) {
+            Some(spot) => *spot,
+            None => first_spot(self.home, pid),
+        }
+    }
+
+    /// Puts another process in the place of that pid; the others stay.
+    pub(crate) fn put(&mut self, pid: u32, spot: Spot) -> Result<(), NoMemory>
+        ensures { OnOk result (situations self.new ≡ with_situation (situations self.old) pid (situation_of spot)) }
+    {
+        self.changed.insert(pid, spot)?;
+        Ok(())
+    }
+
+    /// An `ids` line: the process has these ids from now on.
+    pub(crate) fn set_ids(&mut self, pid: u32, ids: Ids) -> Result<(), NoMemory>
+        ensures { OnOk result (situations self.new ≡ with_situation (situations self.old) pid (with_ids (situations self.old pid) ids)) }
+    {
+        let Spot { process, domain } = self.at(pid);
+        let process = Proc { ids, ..process };
+        self.put(pid, Spot { process, domain })
+    }
+
+    /// A `fork` line: the child has its parent's ids and domain.
+    pub(crate) fn fork(&mut self, pid: u32, child: u32) -> Result<(), NoMemory>
+        ensures { OnOk result (situations self.new ≡ with_situation (situations self.old) child (forked (situations self.old pid) child)) }
+    {
+        let Spot { process, domain } = self.at(pid);
+        let process = Proc {
+            pid: child,
+            ppid: process.pid,
+            ids: process.ids,
+        };
+        self.put(child, Spot { process, domain })
+    }
+
+    /// After a take the process is in that domain.
+    pub(crate) fn move_to(&mut self, pid: u32, domain: u32) -> Result<(), NoMemory>
+        ensures { OnOk result (situations self.new ≡ with_situation (situations self.old) pid (record (situations self.old pid) { domain = Some domain })) }
+    {
+        let Spot { process, .. } = self.at(pid);
+        let domain = Some(domain);
+        self.put(pid, Spot { process, domain })
+    }
+}

@@ -1,0 +1,128 @@
+//! What is learned of a request: its line.
+//! Stands on tm_rules, whose definitions it computes, and on tm_pattern for literal patterns.
+//! Promises that the line is the defined one: literal values, one permission, and the conditions of its kind.
+#![tactic(auto)]
+
+ghost use Rattle.std.specs.Prelude.{◌≡◌, ◌<◌, ◌++◌, IfOk, OnOk, slice_get};
+ghost use Rattle.std.specs.Option.{option_copied};
+ghost use Rattle.tm_word.specs.Printing.{literal};
+ghost use Rattle.tm_types.specs.declared.entry.Attr.{Attr};
+ghost use Rattle.tm_rules.specs.Policy.{permission};
+ghost use Rattle.tm_rules.specs.Condition.{is_execute};
+ghost use Rattle.tm_rules.specs.Learned.{is_word, learned_line};
+
+use std::alloc::Global;
+use tm_list::{Copied, NoMemory, Seq};
+use tm_pattern::literal;
+use tm_types::entry::{Args, Attr, Clause, Cond, Entry, Perms, Right};
+use tm_types::request::Request;
+use tm_types::unions::NameUnion;
+use tm_word::Word;
+
+/// Whether a request is an execute: its line has a path, and its permission is the first.
+pub fn is_execute(request: &Request) -> bool
+    ensures { result ≡ is_execute request.now }
+{
+    match request.args() {
+        Args::Path(_) => request.perm() == 0,
+        Args::PathNumber(_, _)
+        | Args::Device(_, _, _, _)
+        | Args::Path2(_, _)
+        | Args::Mount(_, _, _, _)
+        | Args::Inet(_, _, _)
+        | Args::Unix(_, _)
+        | Args::Env(_)
+        | Args::Manual(_)
+        | Args::Execute(_, _) => false,
+    }
+}
+
+/// The permission at a place of its row.
+fn permission(place: u8) -> Perms
+    requires { place < 16 }
+    ensures { result.bits ≡ permission place }
+{
+    Perms { bits: 1 << place }
+}
+
+/// Appends the condition that an attribute is this very word, where the request has one.
+fn push_word(
+    alloc: Global,
+    attr: Attr,
+    word: Option<&Word>,
+    clauses: &mut Seq<Clause>,
+) -> Result<(), NoMemory>
+    ensures { OnOk result (clauses.new ≡ clauses.old ++ is_word attr (option_copied word.entry)) }
+{
+    match word {
+        Some(word) => clauses.push(Clause {
+            left: attr,
+            equal: true,
+            right: Right::Name(NameUnion::One(literal(alloc, word)?)),
+        }),
+        None => Ok(()),
+    }
+}
+
+/// The conditions of an execute: its real path and its first argument.
+fn execute_clauses(alloc: Global, request: &Request) -> Result<Seq<Clause>, NoMemory>
+    ensures { IfOk result (λ clauses. clauses ≡ is_word Attr.RealPath request.now.attributes.real_path ++ is_word (Attr.Argv 0) (slice_get request.now.attributes.argv 0)) }
+{
+    let mut clauses = Seq::new(alloc);
+    push_word(
+        alloc,
+        Attr::RealPath,
+        request.attributes().real_path.as_ref(),
+        &mut clauses,
+    )?;
+    push_word(
+        alloc,
+        Attr::Argv(0),
+        request.attributes().argv.get(0),
+        &mut clauses,
+    )?;
+    Ok(clauses)
+}
+
+/// The condition of every other request: the target of a symlink.
+fn target_clauses(alloc: Global, request: &Request) -> Result<Seq<Clause>, NoMemory>
+    ensures { IfOk result (λ clauses. clauses ≡ is_word Attr.Target request.now.attributes.target) }
+{
+    let mut clauses = Seq::new(alloc);
+    push_word(
+        alloc,
+        Attr::Target,
+        request.attributes().target.as_ref(),
+        &mut clauses,
+    )?;
+    Ok(clauses)
+}
+
+/// The line that is learned for a request: its own literal values and its permission, without `grant_log`. `name` stands for the
+/// path of an execute, whose real path and first argument become conditions; so does a symlink's target.
+#[tactic(auto, unfolding(tm_rules::specs::Learned::learned_line))]
+pub fn learned_line(alloc: Global, request: &Request, name: &Word) -> Result<Entry, NoMemory>
+    requires { request.now.perm < 16 }
+    ensures { IfOk result (λ entry. entry ≡ learned_line request.now name.now) }
+{
+    let perms = permission(request.perm());
+    if is_execute(request) {
+        Ok(Entry {
+            args: Args::Path(NameUnion::One(literal(alloc, name)?)),
+            perms,
+            cond: Cond {
+                clauses: execute_clauses(alloc, request)?,
+                grant_log: None,
+            },
+        })
+    } else {
+        Ok(Entry {
+            args: request.args().copy(alloc)?,
+            perms,
+            cond: Cond {
+                clauses: target_clauses(alloc, request)?,
+                grant_log: None,
+            },
+        })
+    }
+}
