@@ -1,0 +1,76 @@
+-- What a play of the files gives, and what it refuses.
+use Rattle.std.specs.Prelude.{◌≡◌, ℕ, ⊤, true, [], Option, Some, None, Ok}
+use Rattle.std.specs.List.{position_from}
+use Rattle.tm_types.specs.declared.policy.Policy.{Policy}
+use Rattle.tm_types.specs.declared.step.Run.{Run}
+use Rattle.tm_rules.specs.Words.{Trace}
+use Rattle.tm_rules.specs.Grammar.{Grammar}
+use Rattle.tm_rules.specs.Load.{wants_profile}
+use Rattle.tm_core.specs.Legal.{Scene, Legal, final_policy}
+use Rattle.tm_core.specs.Play.{IsGrammar}
+use Rattle.tm_core.specs.Play as core
+use Rattle.tm_core.specs.Stands.{IsBuilt}
+use Rattle.tm_run.specs.RunText.{run_text}
+use Rattle.tm_rerun.specs.Summary.{summary_text}
+use Rattle.tm_forms.specs.Opening.{opening_of}
+use Rattle.tm_forms.specs.Trace.{trace_of}
+use Rattle.tm_io.specs.declared.names.FileName.{FileName}
+use Rattle.tomoyo_run.specs.declared.status.Status.{Status}
+use Rattle.tomoyo_run.specs.declared.play.Played.{Played}
+use Rattle.tomoyo_run.specs.Fetches.{Texts, content}
+use Rattle.tomoyo_run.specs.Forms.{first_not_built}
+
+abbrev pub not_built_at : Option (FileName × ℕ) → Option Status
+not_built_at None = None
+not_built_at (Some place) = Some (Status.NotBuilt place.0 place.1)
+
+-- the refusal of what was read: a line that isn't built
+unfoldable pub refusal_of : Texts → Option Status
+refusal_of texts = not_built_at (first_not_built texts)
+
+-- a refusal of what was read; want of memory is free
+abbrev pub Refuses : Texts → Status → Type 0
+Refuses texts Status.OutOfMemory = ⊤
+Refuses texts status = refusal_of texts ≡ Some status
+
+-- a policy and a trace, without editors and without a supervisor
+abbrev pub alone : Grammar → Policy → Trace → Scene
+alone g policy trace = record { grammar = g; policy = policy; trace = trace; editors = []; book = None }
+
+-- the run that the policy and the trace play by the default order, and it is legal: whatever the grammar of the lines that come later
+pub record IsPlayOf (policy : Policy) (trace : Trace) (run : Run) : Type 0 where
+  pub plays : (g : Grammar) → IsGrammar g → core.Plays (alone g policy trace) [] run
+  pub is_legal : (g : Grammar) → IsGrammar g → Legal (alone g policy trace) run
+
+-- the policy, opened
+abbrev pub opened : Policy → Policy
+opened policy = record policy { opened = true }
+
+-- a policy and a trace that can be opened and played: each live domain has its profile, and the scene is of the kind that is played so far
+pub record CanBePlayed (policy : Policy) (trace : Trace) : Type 0 where
+  pub profiles : position_from (wants_profile policy) 0 policy.domains ≡ None
+  pub built : (g : Grammar) → IsGrammar g → IsBuilt (alone g (opened policy) trace)
+
+-- a run that an opening and a trace play, with the policy as it was
+pub record PlaysOn (policy : Policy) (trace : Trace) (run : Run) : Type 0 where
+  pub is_play : IsPlayOf policy trace run
+  pub no_step : run.steps ≡ []
+  pub kept : (g : Grammar) → IsGrammar g → final_policy (alone g policy trace) run ≡ policy
+
+-- what was played are the texts of a run that an opening and a trace play
+pub record PlaysLoaded (policy : Policy) (trace : Trace) (played : Played) : Type 0 where
+  pub run : Run
+  pub plays : PlaysOn policy trace run
+  pub run_is : played.run ≡ run_text run
+  pub summary_is : played.summary ≡ summary_text run policy policy
+
+-- the files load to an opening and spell a trace, and what was played are the texts of the run that these play
+pub record Plays (texts : Texts) (played : Played) : Type 0 where
+  pub opening : Policy
+  pub trace : Trace
+  pub run : Run
+  pub loads : opening_of (content texts FileName.Profile) (content texts FileName.DomainPolicy) ≡ Ok opening
+  pub spells : trace_of (content texts FileName.Trace) ≡ Ok trace
+  pub is_play : IsPlayOf opening trace run
+  pub run_is : played.run ≡ run_text run
+  pub summary_is : (g : Grammar) → IsGrammar g → played.summary ≡ summary_text run opening (final_policy (alone g opening trace) run)

@@ -1,0 +1,82 @@
+//! What the files load to, and their first line that isn't built.
+ghost use Rattle.std.specs.Prelude.{◌≡◌, IfOk, IfErr, None};
+ghost use Rattle.tm_word.specs.Spelling.{is_separator};
+ghost use Rattle.tomoyo_run.specs.Forms.{first_line_with_words, IsLoaded};
+ghost use Rattle.tomoyo_run.specs.Play.{refusal_of, Refuses};
+
+use crate::fetches::text_at;
+use crate::status::Status;
+use std::alloc::Global;
+use tm_forms::{FormFault, read_domains, read_profile, read_trace};
+use tm_io::{FileList, FileName};
+use tm_types::policy::Policy;
+use tm_types::request::Trace;
+
+/// What the files load to: the policy, not opened yet, and the trace.
+#[derive(Drop)]
+pub struct Loaded {
+    pub policy: Policy,
+    pub trace: Trace,
+}
+
+// Whether a byte stands between words.
+fn is_separator(byte: u8) -> bool
+    ensures { result ≡ is_separator byte }
+{
+    byte <= 32 || byte >= 127
+}
+
+/// The first line that isn't empty, counted from 1.
+pub fn first_line_with_words(text: &[u8]) -> Option<u64>
+    ensures { result ≡ first_line_with_words text.now }
+{
+    let mut line = 1;
+    for byte in text {
+        if *byte == b'\n' {
+            line += 1;
+        } else if !is_separator(*byte) {
+            return Some(line);
+        }
+    }
+    None
+}
+
+/// Loads the three files of the first path, after which the other five have no line; or names the first file, in the order of the
+/// fetches, with a line that isn't built, and its first such line.
+#[tactic(auto, unfolding(crate::specs::Play::refusal_of, crate::specs::Forms::first_not_built))]
+pub fn load(alloc: Global, texts: &FileList) -> Result<Loaded, Status>
+    ensures loaded { IfOk result (λ loaded. (refusal_of texts.now ≡ None) × IsLoaded texts.now loaded) }
+    ensures refused { IfErr result (Refuses texts.now) }
+{
+    let profiles = match read_profile(alloc, text_at(texts, FileName::Profile)) {
+        Ok(profiles) => profiles,
+        Err(FormFault::Line(line)) => return Err(Status::NotBuilt(FileName::Profile, line)),
+        Err(FormFault::NoMemory) => return Err(Status::OutOfMemory),
+    };
+    if let Some(line) = first_line_with_words(text_at(texts, FileName::ExceptionPolicy)) {
+        return Err(Status::NotBuilt(FileName::ExceptionPolicy, line));
+    }
+    let policy = match read_domains(alloc, profiles, text_at(texts, FileName::DomainPolicy)) {
+        Ok(policy) => policy,
+        Err(FormFault::Line(line)) => return Err(Status::NotBuilt(FileName::DomainPolicy, line)),
+        Err(FormFault::NoMemory) => return Err(Status::OutOfMemory),
+    };
+    if let Some(line) = first_line_with_words(text_at(texts, FileName::Manager)) {
+        return Err(Status::NotBuilt(FileName::Manager, line));
+    }
+    let trace = match read_trace(alloc, text_at(texts, FileName::Trace)) {
+        Ok(trace) => trace,
+        Err(FormFault::Line(line)) => return Err(Status::NotBuilt(FileName::Trace, line)),
+        Err(FormFault::NoMemory) => return Err(Status::OutOfMemory),
+    };
+    if let Some(line) = first_line_with_words(text_at(texts, FileName::Edits)) {
+        return Err(Status::NotBuilt(FileName::Edits, line));
+    }
+    if let Some(line) = first_line_with_words(text_at(texts, FileName::Answers)) {
+        return Err(Status::NotBuilt(FileName::Answers, line));
+    }
+    if let Some(line) = first_line_with_words(text_at(texts, FileName::Schedule)) {
+        return Err(Status::NotBuilt(FileName::Schedule, line));
+    }
+    Ok(Loaded { policy, trace })
+}

@@ -1,0 +1,115 @@
+ghost use Rattle.std.specs.Prelude.{◌≡◌, ◌≤◌, IfOk, IfErr, map, string_bytes};
+ghost use Rattle.tm_io.specs.Causes.{Rose};
+ghost use Rattle.tm_io.specs.Files.{SameFiles};
+ghost use Rattle.tomoyo_run.specs.Fetches.{AllGiven, FetchStops};
+ghost use Rattle.tomoyo_run.specs.Ends.{outside, Ends};
+ghost use Rattle.tomoyo_run.specs.Play.{Refuses};
+ghost use Rattle.tomoyo_run.specs.Words.{read_words};
+ghost use Rattle.tomoyo_run.specs.Call.{wants_of, outcome_of, Allows, CallEnds, HasCause, IsExact, IsComplete, KeepsOthers, HasPlayed};
+
+use crate::carry::{Outcome, carry_out};
+use crate::fetches::{Want, fetch_all};
+use crate::play::{Played, play_of};
+use crate::status::Status;
+use crate::words::{Command, read_command};
+use std::alloc::Global;
+use tm_io::{FileList, FileName, Shelf, Sink};
+use tm_list::NoMemory;
+
+// Fetches what a command reads.
+fn fetch_for<S: Shelf>(alloc: Global, command: Command, shelf: &mut S) -> Result<FileList, Status>
+    ensures texts { IfOk result (λ texts. AllGiven (S.file shelf.old) (wants_of command) texts) }
+    ensures stops { IfErr result (FetchStops (S.file shelf.old) (wants_of command) (Rose (S.faults shelf.old) (S.faults shelf.new))) }
+    ensures kept { SameFiles (S.file shelf.old) (S.file shelf.new) }
+    ensures counts { S.faults shelf.old ≤ S.faults shelf.new }
+{
+    match command {
+        Command::Step => {
+            let wants = [
+                Want::needed(FileName::Profile),
+                Want::optional(FileName::ExceptionPolicy),
+                Want::needed(FileName::DomainPolicy),
+                Want::optional(FileName::Manager),
+                Want::needed(FileName::Trace),
+                Want::optional(FileName::Edits),
+                Want::optional(FileName::Answers),
+                Want::optional(FileName::Schedule),
+            ];
+            fetch_all(alloc, shelf, &wants)
+        }
+    }
+}
+
+// What a command stores and puts of what was played.
+fn outcome_of(alloc: Global, command: Command, played: Played) -> Result<Outcome, NoMemory>
+    ensures { IfOk result (λ outcome. outcome ≡ outcome_of command played) }
+{
+    match command {
+        Command::Step => {
+            let mut stores = FileList::new(alloc);
+            stores.push((FileName::Run, played.run))?;
+            Ok(Outcome {
+                stores,
+                line: played.summary,
+            })
+        }
+    }
+}
+
+// What a command makes of what was read, or its refusal.
+fn make(alloc: Global, command: Command, texts: &FileList) -> Result<Outcome, Status>
+    ensures made { IfOk result (Allows command texts.now) }
+    ensures refused { IfErr result (Refuses texts.now) }
+{
+    match play_of(alloc, texts) {
+        Err(status) => Err(status),
+        Ok(played) => match outcome_of(alloc, command, played) {
+            Ok(outcome) => Ok(outcome),
+            Err(_) => Err(Status::OutOfMemory),
+        },
+    }
+}
+
+// Does a command.
+fn perform<S: Shelf, K: Sink>(alloc: Global, command: Command, shelf: &mut S, out: &mut K) -> Status
+    ensures { Ends (wants_of command) Refuses (Allows command)
+        (outside (S.file shelf.old) (S.faults shelf.old) (K.written out.old) (K.faults out.old))
+        (outside (S.file shelf.new) (S.faults shelf.new) (K.written out.new) (K.faults out.new)) result }
+{
+    match fetch_for(alloc, command, shelf) {
+        Err(status) => status,
+        Ok(texts) => match make(alloc, command, &texts) {
+            Err(status) => status,
+            Ok(outcome) => carry_out(&outcome, shelf, out),
+        },
+    }
+}
+
+/// Does the command that the words name, over any shelf and sink, and answers how it ended. `step` plays the trace
+/// under the policy and stores `run`; nothing is stored before all is read and played.
+pub fn run_alone<S: Shelf, K: Sink>(
+    alloc: Global,
+    words: &[String],
+    shelf: &mut S,
+    out: &mut K,
+) -> Status
+    ensures headline { HasPlayed (read_words (map string_bytes words.now))
+        (outside (S.file shelf.old) (S.faults shelf.old) (K.written out.old) (K.faults out.old))
+        (outside (S.file shelf.new) (S.faults shelf.new) (K.written out.new) (K.faults out.new)) result }
+    ensures kept { KeepsOthers (read_words (map string_bytes words.now)) (S.file shelf.old) (S.file shelf.new) }
+    ensures causes { HasCause (read_words (map string_bytes words.now))
+        (outside (S.file shelf.old) (S.faults shelf.old) (K.written out.old) (K.faults out.old))
+        (outside (S.file shelf.new) (S.faults shelf.new) (K.written out.new) (K.faults out.new)) result }
+    ensures exact { IsExact (read_words (map string_bytes words.now)) (S.file shelf.old) result }
+    ensures complete { IsComplete (read_words (map string_bytes words.now))
+        (outside (S.file shelf.old) (S.faults shelf.old) (K.written out.old) (K.faults out.old))
+        (outside (S.file shelf.new) (S.faults shelf.new) (K.written out.new) (K.faults out.new)) result }
+    ensures ends { CallEnds (read_words (map string_bytes words.now))
+        (outside (S.file shelf.old) (S.faults shelf.old) (K.written out.old) (K.faults out.old))
+        (outside (S.file shelf.new) (S.faults shelf.new) (K.written out.new) (K.faults out.new)) result }
+{
+    match read_command(words) {
+        Err(place) => Status::BadWords(place),
+        Ok(command) => perform(alloc, command, shelf, out),
+    }
+}
