@@ -1,20 +1,24 @@
 //! What is learned of a request: its line.
 //! Stands on tm_rules, whose definitions it computes, and on tm_pattern for literal patterns.
-//! Promises that the line is the defined one: literal values, one permission, and the conditions of its kind.
+//! Promises that the line is the defined one: literal values, one permission, and the conditions of its kind; and counts permissions.
 #![tactic(auto)]
 
-ghost use Rattle.std.specs.Prelude.{◌≡◌, ◌<◌, ◌++◌, IfOk, OnOk, slice_get};
+ghost use Rattle.std.specs.Prelude.{◌≡◌, ◌<◌, ◌≤◌, ◌++◌, IfOk, OnOk, slice_get, sum_by};
 ghost use Rattle.std.specs.Option.{option_copied};
 ghost use Rattle.tm_word.specs.Printing.{literal};
 ghost use Rattle.tm_types.specs.declared.entry.Attr.{Attr};
 ghost use Rattle.tm_rules.specs.Policy.{permission};
 ghost use Rattle.tm_rules.specs.Condition.{is_execute};
 ghost use Rattle.tm_rules.specs.Learned.{is_word, learned_line};
+ghost use Rattle.tm_rules.specs.Changes.{count, is_task};
+ghost use Rattle.tm_learn.specs.Counting.{permissions_of};
+ghost use Rattle.tm_rules.specs.Few.{IsShort};
 
 use std::alloc::Global;
 use tm_list::{Copied, NoMemory, Seq};
 use tm_pattern::literal;
 use tm_types::entry::{Args, Attr, Clause, Cond, Entry, Perms, Right};
+use tm_types::policy::Domain;
 use tm_types::request::Request;
 use tm_types::unions::NameUnion;
 use tm_word::Word;
@@ -125,4 +129,48 @@ pub fn learned_line(alloc: Global, request: &Request, name: &Word) -> Result<Ent
             },
         })
     }
+}
+
+/// Whether the line of these arguments is a `task` line.
+fn is_task(args: &Args) -> bool
+    ensures { result ≡ is_task args.now }
+{
+    match args {
+        Args::Manual(_) => true,
+        Args::Path(_) => false,
+        Args::Execute(_, _) => false,
+        Args::PathNumber(_, _) => false,
+        Args::Device(_, _, _, _) => false,
+        Args::Path2(_, _) => false,
+        Args::Mount(_, _, _, _) => false,
+        Args::Inet(_, _, _) => false,
+        Args::Unix(_, _) => false,
+        Args::Env(_) => false,
+    }
+}
+
+/// How many permissions an entry has that count for `max_learning_entry`; those of a `task` line don't. Takes no memory.
+pub fn permissions_of(entry: &Entry) -> u64
+    ensures exact { result ≡ permissions_of entry.now }
+    ensures few { result ≤ 65535 }
+{
+    if is_task(&entry.args) {
+        0
+    } else {
+        u64::from(entry.perms.bits.count_ones())
+    }
+}
+
+/// How many permissions the own entries of a domain have, which `max_learning_entry` bounds; those of `task` lines don't count. Takes
+/// no memory.
+#[tactic(auto, unfolding(tm_rules::specs::Changes::count))]
+pub fn count(domain: &Domain) -> u64
+    requires { IsShort domain.now.entries }
+    ensures { result ≡ count domain.now }
+{
+    let mut permissions: u64 = 0;
+    for entry in domain.entries.as_slice() {
+        permissions += permissions_of(entry);
+    }
+    permissions
 }

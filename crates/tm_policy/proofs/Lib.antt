@@ -1,5 +1,8 @@
 pub mod Built
 pub mod Edits
+pub mod Domains
+pub mod Places
+pub mod LearnLaws
 pub mod Executes
 pub mod ShortLists
 pub mod Lists

@@ -12,7 +12,9 @@ ghost use Rattle.tm_rules.specs.Edit.{Edited, new_domain, new_profile, set_confi
 ghost use Rattle.tm_rules.specs.Load.{new_policy, wants_profile};
 ghost use Rattle.tm_policy.specs.Lines.{read_line, is_built_effect, is_built_rule, is_built};
 
+use crate::finding::{live_domain, profile_numbered};
 use crate::lines::read_line;
+use crate::placing::{add_line, put_domain};
 use std::alloc::{AllocError, Global};
 use tm_domain::namespace;
 use tm_list::{Copied, Map, NoMemory, Seq};
@@ -200,64 +202,11 @@ fn in_namespace(
     }
 }
 
-// Where the entry stands that a line shares.
-fn entry_place(entries: &[Entry], line: &Entry) -> Option<usize>
-    ensures found { result ≡ position_from (λ (entry : Entry). same_line entry line.now) 0 entries.now }
-    ensures within { IfSome result (λ place. place < length entries.now) }
-{
-    for (place, entry) in entries.iter().enumerate() {
-        if same_line(entry, line) {
-            return Some(place);
-        }
-    }
-    None
-}
-
-// The entries with a line added.
-fn adding(mut entries: Vec<Entry>, line: Entry) -> Result<Seq<Entry>, NoMemory>
-    ensures done { IfOk result (λ made. made ≡ adding line entries.items) }
-    ensures short { IfOk result (λ made. IsShort entries.items → IsShort made) }
-{
-    match entry_place(entries.as_slice(), &line) {
-        Some(place) => {
-            entries[place].perms.bits |= line.perms.bits;
-            Ok(Seq::from_vec(entries))
-        }
-        None => {
-            if entries.len() >= 4294967295 {
-                return Err(AllocError);
-            }
-            entries.push(line)?;
-            Ok(Seq::from_vec(entries))
-        }
-    }
-}
-
 // Whether a namespace has a profile of this number.
-#[tactic(auto, unfolding(tm_rules::specs::Policy::namespace_named))]
 fn has_profile(policy: &Policy, name: &[u8], number: u8) -> bool
     ensures { result ≡ is_some (profile_numbered policy.now name.now number) }
 {
-    for namespace in policy.namespaces.as_slice() {
-        if bytes_equal(namespace.name.bytes(), name) {
-            return namespace.profiles.get(&number).is_some();
-        }
-    }
-    false
-}
-
-// The number of the live domain of that name.
-#[tactic(auto, unfolding(tm_rules::specs::Policy::live_domain))]
-fn live_domain(policy: &Policy, name: &DomainName) -> Option<u32>
-    requires { IsShort policy.now.domains }
-    ensures { result ≡ live_domain policy.now name.now }
-{
-    for (place, domain) in policy.domains.as_slice().iter().enumerate() {
-        if domain.live && texts_equal(&domain.name, name) {
-            return Some(place as u32);
-        }
-    }
-    None
+    profile_numbered(policy, name, number).is_some()
 }
 
 // The chosen domain, where it is live.
@@ -280,16 +229,6 @@ fn chosen(policy: &Policy, cursor: Cursor) -> Option<(u32, &Domain)>
         },
         None => None,
     }
-}
-
-// Puts another domain in the place of this number.
-#[tactic(auto, using(crate::proofs::Edits::set_changed, crate::proofs::Edits::each_set))]
-fn put_domain(policy: &mut Policy, number: u32, domain: Domain)
-    requires { number < length policy.old.domains }
-    ensures done { policy.new ≡ with_domain policy.old number domain }
-    ensures few { IsFew policy.old → IsShort domain.entries → IsFew policy.new }
-{
-    policy.domains.set(number as usize, domain);
 }
 
 // Gives the chosen domain a profile.
@@ -318,21 +257,9 @@ fn use_profile(
     }
 }
 
-// A domain with a line added to its entries.
-fn with_entry(alloc: Global, domain: &Domain, line: Entry) -> Result<Domain, NoMemory>
-    ensures done { IfOk result (λ made. made ≡ record domain.now { entries = adding line domain.now.entries }) }
-    ensures short { IfOk result (λ made. IsShort domain.now.entries → IsShort made.entries) }
-{
-    let mut changed = domain.copy(alloc)?;
-    let entries = changed.entries.take();
-    changed.entries = adding(entries, line)?;
-    Ok(changed)
-}
-
 // Adds a line to the entries of the chosen domain.
 #[tactic(auto, unfolding(tm_rules::specs::Edit::domain_line))]
 fn add_entry(
-    alloc: Global,
     policy: &mut Policy,
     cursor: Cursor,
     line: Entry,
@@ -342,9 +269,8 @@ fn add_entry(
     ensures few { IsFew policy.old → IsFew policy.new }
 {
     match chosen(policy, cursor) {
-        Some((place, domain)) => {
-            let changed = with_entry(alloc, domain, line)?;
-            put_domain(policy, place, changed);
+        Some((place, _)) => {
+            add_line(policy, place, line)?;
             Ok(EditReply::Done)
         }
         None => Ok(EditReply::NoDomain),
@@ -396,7 +322,7 @@ fn apply_rule(
     match rule {
         DomainRule::Choose(name) => choose(alloc, policy, cursor, name),
         DomainRule::UseProfile(number) => use_profile(alloc, policy, *cursor, number),
-        DomainRule::Acl(false, line) => add_entry(alloc, policy, *cursor, line),
+        DomainRule::Acl(false, line) => add_entry(policy, *cursor, line),
         DomainRule::Acl(true, _) => unreachable!(),
         DomainRule::Select(_) => unreachable!(),
         DomainRule::Delete(_) => unreachable!(),

@@ -5,13 +5,18 @@
 
 mod editing;
 mod few;
+mod finding;
+mod learning;
 mod lines;
+mod placing;
 mod plain;
 mod rep;
 mod searching;
 
 pub use editing::{apply_line, new_policy, set_opened};
 pub use few::is_few;
+pub use finding::{domain_at, live_domain, profile_of};
+pub use learning::apply_learn;
 pub use lines::read_line;
 pub use plain::Plain;
 pub use rep::Rep;

@@ -11,6 +11,7 @@ ghost use Rattle.tm_rules.specs.Policy.{at_key, has_permission, namespace_word, 
 ghost use Rattle.tm_rules.specs.Search.{args_grant, grants, aggregated, path_of, placed, first, found, found_of};
 ghost use Rattle.tm_policy.specs.Searching.{asked_as, place_in, found_in, acl_entries};
 
+use crate::finding::find_namespace;
 use tm_cond::holds;
 use tm_domain::namespace;
 use tm_except::aggregated;
@@ -26,7 +27,7 @@ use tm_types::verdict::{EntryPlace, Found};
 use tm_word::Word;
 
 // Whether the permission at a place, from 0, of its row is among these.
-fn has_permission(bits: u16, place: u8) -> bool
+pub(crate) fn has_permission(bits: u16, place: u8) -> bool
     ensures { result ≡ has_permission bits place }
 {
     if place < 16 {
@@ -297,18 +298,6 @@ fn search_alone(
             domain.entries.as_slice(),
         )
     }
-}
-
-// The namespace of that name, where it has a line.
-fn find_namespace<'a>(namespaces: &'a [Namespace], name: &[u8]) -> Option<&'a Namespace>
-    ensures { option_copied result ≡ find (λ (ns : Namespace). texts_equal ns.name name.now) namespaces.now }
-{
-    for namespace in namespaces {
-        if bytes_equal(namespace.name.bytes(), name) {
-            return Some(namespace);
-        }
-    }
-    None
 }
 
 /// The first entry that grants the request of a process in the domain of this number: the domain's own entries in order, then those
