@@ -2,7 +2,7 @@
 use Rattle.std.proofs.Common.{◌≡◌, ℕ, zero, suc, List, [], ◌∷◌, ◌++◌, length, map, Bool, true, false, ◌+◌, ◌<◌, ◌≤◌, slice_index_or, arith, refl, sym, ap, ◌∙◌, subst, inl, inr}
 use Rattle.std.specs.Prelude.{Option, Some, None, IsSome, option_map, not, if◌then◌else◌, slice_get, slice_set, is_some}
 use Rattle.std.specs.List.{AllByRecursion, list_all}
-use Rattle.std.specs.Option.{option_and_then}
+use Rattle.std.specs.Option.{option_and_then, IfSome}
 use Rattle.std.proofs.lemmas.Bool.{and_parts}
 use Rattle.tm_types.specs.declared.request.Item.{Item}
 use Rattle.tm_types.specs.declared.request.Request.{Request}
@@ -20,19 +20,25 @@ use Rattle.tm_core.specs.Verdict.{verdict}
 use Rattle.tm_core.specs.Run.{Situation, Situations, do_pids}
 use Rattle.tm_core.specs.Legal.{Scene}
 use Rattle.tm_core.specs.Queries.{first_query}
-use Rattle.tm_core.specs.Play.{Player, Way, Begun, passed, going_on, look_at, end_tree, first_look, tree_event, player_event, event, turn, turns, on_way, start_of, entered, Stage}
+use Rattle.tm_core.specs.Play.{Player, Way, Begun, passed, going_on, look_at, end_tree, first_look, stage_event, tree_event, player_event, event, turn, turns, on_way, start_of, entered, Stage, Settled, settle, after_step, work_left}
 use Rattle.tm_core.specs.Audit.{audit_text}
 use Rattle.tm_core.specs.Judging.{IsOther}
 use Rattle.tm_core.specs.Machine.{Course, history_of}
+use Rattle.tm_core.specs.Owing.{OwesLearn, OwesStep, MakesStep}
+use Rattle.tm_core.specs.Steps.{fits_entry}
+use Rattle.tm_rules.specs.Changes.{learn}
+use Rattle.tm_types.specs.declared.entry.Entry.{Entry}
+use Rattle.tm_types.specs.declared.policy.Policy.{Policy}
+use Rattle.tm_types.specs.declared.step.LearnReply.{LearnReply}
 use Rattle.tm_core.specs.Silent.{IsSilent}
 use Rattle.tm_core.specs.Still.{is_plain_request, is_plain_item}
-use Rattle.tm_core.specs.Stands.{begun_of, begun_with, asked_of, way_of, looked, ItemIsOther, CanLook, FirstLooks, LooksFirst, player_of, requests_left, IsReached, Answers}
+use Rattle.tm_core.specs.Stands.{begun_of, begun_with, asked_of, way_of, looked, ItemIsOther, CanLook, FirstLooks, LooksFirst, player_of, IsReached, Answers}
 use Rattle.tm_core.proofs.SilentLaws.{all_get, audit_silent}
-use Rattle.tm_core.proofs.Still.{Kept, StillWay, turns-kept, start-kept}
+use Rattle.tm_core.proofs.Learns.{Learning, LearnWay, IsLearnt, learnt, learn_settles, turns-learn, start-learns}
 use Rattle.tm_core.proofs.Players.{PlayHolds, passed-next, passed-pids, Next}
 use Rattle.tm_core.proofs.Trees.{TreeMoves}
 use Rattle.tm_core.proofs.TakeEvents.{tree-moves}
-use Rattle.tm_core.proofs.PlayLaws.{reached_holds, turns-append}
+use Rattle.tm_core.proofs.PlayLaws.{reached_holds, turns-append, every_lone_event_is_work}
 
 -- Lists
 
@@ -90,9 +96,15 @@ others (Item.Ids pid ids ∷ items) plain = (tt, others items plain)
 others (Item.Fork pid child ∷ items) plain = (tt, others items plain)
 others (Item.Do pid request ∷ items) plain = let parts = and_parts (is_plain_request request) (list_all is_plain_item items) plain in (other request parts.0, others items parts.1)
 
-none-begun : (begun : List Attempt) → option_map begun_of (slice_get begun 0) ≡ None → begun ≡ []
-none-begun [] e = refl
-none-begun (b ∷ begun) e = absurd cc
+pub idle-way : (walk : Walk) → walk.begun ≡ [] → (way_of walk).begun ≡ None
+idle-way walk e = ap (λ (begun : List Attempt). option_map begun_of (slice_get begun 0)) e
+
+pub busy-way : (walk : Walk) → ¬ (walk.begun ≡ []) → (b : Begun) × ((way_of walk).begun ≡ Some b)
+busy-way walk busy = go walk.begun refl
+  where
+    go : (begun : List Attempt) → walk.begun ≡ begun → (b : Begun) × ((way_of walk).begun ≡ Some b)
+    go [] e = absurd (busy e)
+    go (attempt ∷ begun) e = (begun_of attempt, ap (λ (begun : List Attempt). option_map begun_of (slice_get begun 0)) e)
 
 -- Looks
 
@@ -159,6 +171,39 @@ module _ (g : Grammar) (course : Course) (walks : List Walk) (t : ℕ) (walk : W
       by_items now (Item.Fork pid child ∷ items) is = tt
       by_items now (Item.Do pid request ∷ items) is = some-looked (now pid) request (λ b. on_way g p t (going_on g (record way { at = now; items = items }) b)) (look_at g p (now pid) request 0 []) (looks-as g course walks (now pid) request silent) is
 
+-- A tree's own step
+
+some-of : {A B : Type 0} (f : A → B) (o : Option A) (y : B) → option_map f o ≡ Some y → (x : A) × (o ≡ Some x)
+some-of f None y e = absurd cc
+some-of f (Some x) y e = (x, refl)
+
+module _ (g : Grammar) (course : Course) (walks : List Walk) (t : ℕ) (walk : Walk) (at : slice_get walks t ≡ Some walk) where
+  abbrev o : Player
+  o = player_of course walks
+
+  own-turn : (b : Begun) (d : ℕ) (line : Entry) (rest : List Step) → (way_of walk).begun ≡ Some b → b.stage ≡ Stage.Owing (Step.Learn d line ∷ rest)
+      → tree_event g o false (suc t) ≡ option_map (λ (s : Settled). on_way g s.player t (going_on g (way_of walk) (after_step g b rest s.number s.reply))) (settle g o (Step.Learn d line))
+  unfolding tree_event stage_event
+  own-turn b d line rest is owes = rw (map-get way_of walks t walk at, is, owes) refl
+
+  own-event : (later : Course) (new : Walk) (makes : MakesStep g course later (way_of walk) (way_of new)) → fits_entry g makes.line ≡ true → tree_event g o false (suc t) ≡ Some (player_of later (slice_set walks t new))
+  own-event later new h fits =
+      let way : Way = way_of walk in
+      let next : Settled → Player = λ s. on_way g s.player t (going_on g way (after_step g h.begun h.steps s.number s.reply)) in
+      let settled = learn_settles g o h.domain h.line later.policy h.makes.reply fits h.makes.learns in
+      let long : length (history_of course) ≡ length course.made = len-map {B = Step × Reply} (λ (pair : Made × Reply). (pair.0.step, pair.1)) course.made in
+      let goes : going_on g way (after_step g h.begun h.steps (suc (length (history_of course))) (Reply.Learn h.makes.reply)) ≡ way_of new =
+              ap (λ (n : ℕ). going_on g way (after_step g h.begun h.steps (suc n) (Reply.Learn h.makes.reply))) long ∙ h.makes.goes way.begun in
+      let made : Player = record o { state = record o.state { policy = later.policy }; steps = o.steps ++ (Step.Learn h.domain h.line, Reply.Learn h.makes.reply) ∷ [] } in
+      let same : player_of later (slice_set walks t new) ≡ on_way g made t (way_of new) = rw (map-set way_of walks t new, len-set walks t new, h.makes.made) refl in
+      own-turn h.begun h.domain h.line h.steps h.is h.owes ∙ ap (option_map next) settled ∙ ap (λ (q : Player). Some q) (ap (on_way g made t) goes ∙ sym same)
+
+  own-can : (b : Begun) (d : ℕ) (line : Entry) (rest : List Step) (next : Player) → (way_of walk).begun ≡ Some b → b.stage ≡ Stage.Owing (Step.Learn d line ∷ rest) → tree_event g o false (suc t) ≡ Some next → (fits_entry g line ≡ true) × IsSome (learn course.policy d line)
+  own-can b d line rest next is owes moves =
+      let some = some-of (λ (s : Settled). on_way g s.player t (going_on g (way_of walk) (after_step g b rest s.number s.reply))) (settle g o (Step.Learn d line)) next (sym (own-turn b d line rest is owes) ∙ moves) in
+      let made = learnt g o d line some.0 some.1 in
+      (made.fits, subst IsSome (sym made.learns) refl)
+
 -- Players that turns have led to
 
 abbrev pub IsNoTree : Turn → Type 0
@@ -169,34 +214,31 @@ module _ (scene : Scene) (course : Course) (walks : List Walk) (h : IsReached sc
   abbrev q : Player
   q = player_of course walks
 
-  kept : Kept scene q
-  kept = subst (Kept scene) (sym h.led) (turns-kept scene h.built.alone h.built.still (start_of scene) h.schedule (start-kept scene h.built.alone h.built.still h.built.plain))
+  kept : Learning scene q
+  kept = subst (Learning scene) (sym h.led) (turns-learn scene h.built.alone (start_of scene) h.schedule (start-learns scene h.built.alone h.built.plain h.built.silent))
 
   holds : PlayHolds scene q
   holds = subst (PlayHolds scene) (sym h.led) (reached_holds scene h.schedule h.built.can)
 
   pub trees-are : length walks ≡ length scene.trace
-  trees-are = ap (λ s. s.trees) kept.state
+  trees-are = sym (len-map way_of walks) ∙ kept.long
 
   pub is-silent : IsSilent course.policy
-  is-silent = subst IsSilent (sym (ap (λ s. s.policy) kept.state)) h.built.silent
+  is-silent = kept.silent
 
-  still-way : (t : ℕ) (walk : Walk) → slice_get walks t ≡ Some walk → StillWay (way_of walk)
-  still-way t walk at = all_get StillWay (map way_of walks) t (way_of walk) kept.ways (map-get way_of walks t walk at)
-
-  pub is-idle : (t : ℕ) (walk : Walk) → slice_get walks t ≡ Some walk → walk.begun ≡ []
-  is-idle t walk at = none-begun walk.begun (still-way t walk at).0
+  learn-way : (t : ℕ) (walk : Walk) → slice_get walks t ≡ Some walk → LearnWay (way_of walk)
+  learn-way t walk at = all_get LearnWay (map way_of walks) t (way_of walk) kept.ways (map-get way_of walks t walk at)
 
   pub are-others : (t : ℕ) (walk : Walk) → slice_get walks t ≡ Some walk → AllByRecursion ItemIsOther walk.lines
-  are-others t walk at = others walk.lines (still-way t walk at).1
+  are-others t walk at = others walk.lines (learn-way t walk at).1
 
   tree-turn : (t : ℕ) → event scene q (Turn.Tree t) ≡ tree_event scene.grammar q false t
   unfolding event player_event
   tree-turn t = rw h.built.alone.book refl
 
-  pub can-first : (t : ℕ) (walk : Walk) → slice_get walks t ≡ Some walk → CanLook scene.grammar course (passed scene.grammar (way_of walk).at (way_of walk).items).0 (passed scene.grammar (way_of walk).at (way_of walk).items).1
+  pub can-first : (t : ℕ) (walk : Walk) → slice_get walks t ≡ Some walk → walk.begun ≡ [] → CanLook scene.grammar course (passed scene.grammar (way_of walk).at (way_of walk).items).0 (passed scene.grammar (way_of walk).at (way_of walk).items).1
   unfolding first_query
-  can-first t walk at = go (subst (λ (o : Option Book). TreeMoves scene q t (way_of walk) (tree_event scene.grammar q (is_some o) (suc t))) h.built.alone.book (tree-moves scene h.built.can.grammar q t (way_of walk) holds (map-get way_of walks t walk at) (is_some scene.book) refl))
+  can-first t walk at idle = go (subst (λ (o : Option Book). TreeMoves scene q t (way_of walk) (tree_event scene.grammar q (is_some o) (suc t))) h.built.alone.book (tree-moves scene h.built.can.grammar q t (way_of walk) holds (map-get way_of walks t walk at) (is_some scene.book) refl))
     where
       g : Grammar
       g = scene.grammar
@@ -208,17 +250,57 @@ module _ (scene : Scene) (course : Course) (walks : List Walk) (h : IsReached sc
       empty now (Item.Do pid request ∷ items) none = absurd cc
 
       go : TreeMoves scene q t (way_of walk) (tree_event g q false (suc t)) → CanLook g course (passed g (way_of walk).at (way_of walk).items).0 (passed g (way_of walk).at (way_of walk).items).1
-      go (inl moved) = can-look g course walks t walk at (still-way t walk at).0 is-silent moved.next moved.is
+      go (inl moved) = can-look g course walks t walk at (idle-way walk idle) is-silent moved.next moved.is
       go (inr (none, inl idle)) = empty (passed g (way_of walk).at (way_of walk).items).0 (passed g (way_of walk).at (way_of walk).items).1 (passed-pids g (way_of walk).at (way_of walk).items ∙ idle.empty)
       go (inr (none, inr asked)) = absurd cc
 
+  own-moves : (t : ℕ) (walk : Walk) → slice_get walks t ≡ Some walk → (b : Begun) → (way_of walk).begun ≡ Some b → (next : Player) × (tree_event scene.grammar q false (suc t) ≡ Some next)
+  unfolding first_query
+  own-moves t walk at b is = go (subst (λ (o : Option Book). TreeMoves scene q t (way_of walk) (tree_event scene.grammar q (is_some o) (suc t))) h.built.alone.book (tree-moves scene h.built.can.grammar q t (way_of walk) holds (map-get way_of walks t walk at) (is_some scene.book) refl))
+    where
+      go : TreeMoves scene q t (way_of walk) (tree_event scene.grammar q false (suc t)) → (next : Player) × (tree_event scene.grammar q false (suc t) ≡ Some next)
+      go (inl moved) = (moved.next, moved.is)
+      go (inr (none, inl idle)) = absurd (let both : Some b ≡ None = sym is ∙ idle.idle in cc)
+      go (inr (none, inr asked)) = absurd cc
+
+  -- a take that has begun owes a Learn, which can be made
+  pub owes-step : (t : ℕ) (walk : Walk) → slice_get walks t ≡ Some walk → ¬ (walk.begun ≡ []) → OwesStep course (way_of walk)
+  owes-step t walk at busy =
+      let begun = busy-way walk busy in
+      let owes : OwesLearn begun.0 = subst (λ (o : Option Begun). IfSome o OwesLearn) begun.1 (learn-way t walk at).0 in
+      let moves = own-moves t walk at begun.0 begun.1 in
+      record { begun = begun.0; is = begun.1; owes = owes; can = (own-can scene.grammar course walks t walk at begun.0 owes.domain owes.line [] moves.0 begun.1 owes.stage moves.1).1 }
+
   -- a tree's turn is the event of the player
-  pub tree-answers : (t : ℕ) (walk new : Walk) (moved : Bool) → slice_get walks t ≡ Some walk → LooksFirst scene.grammar course moved (way_of walk) (way_of new) → Answers moved (event scene q (Turn.Tree (suc t))) (player_of course (slice_set walks t new)) q
-  tree-answers t walk new true at looks = tree-turn (suc t) ∙ looking-event scene.grammar course walks t walk at (still-way t walk at).0 is-silent new looks
-  tree-answers t walk new false at looks = (
-    tree-turn (suc t) ∙ still-event scene.grammar course walks t walk at (still-way t walk at).0 is-silent looks.0,
-    same-player scene.grammar course walks t walk at (still-way t walk at).0 is-silent new (way_of walk) looks.1 ∙ ap (λ (ways : List Way). record q { ways = ways }) (set-same (map way_of walks) t (way_of walk) (map-get way_of walks t walk at)),
+  pub tree-answers : (t : ℕ) (walk new : Walk) (moved : Bool) → slice_get walks t ≡ Some walk → walk.begun ≡ [] → LooksFirst scene.grammar course moved (way_of walk) (way_of new) → Answers moved (event scene q (Turn.Tree (suc t))) (player_of course (slice_set walks t new)) q
+  tree-answers t walk new true at idle looks = tree-turn (suc t) ∙ looking-event scene.grammar course walks t walk at (idle-way walk idle) is-silent new looks
+  tree-answers t walk new false at idle looks = (
+    tree-turn (suc t) ∙ still-event scene.grammar course walks t walk at (idle-way walk idle) is-silent looks.0,
+    same-player scene.grammar course walks t walk at (idle-way walk idle) is-silent new (way_of walk) looks.1 ∙ ap (λ (ways : List Way). record q { ways = ways }) (set-same (map way_of walks) t (way_of walk) (map-get way_of walks t walk at)),
   )
+
+  -- so is its own step
+  pub own-answers : (t : ℕ) (walk new : Walk) (later : Course) → slice_get walks t ≡ Some walk → MakesStep scene.grammar course later (way_of walk) (way_of new) → event scene q (Turn.Tree (suc t)) ≡ Some (player_of later (slice_set walks t new))
+  own-answers t walk new later at makes =
+      let moves = own-moves t walk at makes.begun makes.is in
+      let can = own-can scene.grammar course walks t walk at makes.begun makes.domain makes.line makes.steps moves.0 makes.is makes.owes moves.1 in
+      tree-turn (suc t) ∙ own-event scene.grammar course walks t walk at later new makes can.0
+
+  -- each answer leaves less to do
+  pub less-left : (who : Turn) (moved : Bool) (next : Player) → Answers moved (event scene q who) next q → (if moved then 1 else 0) + work_left next ≤ work_left q
+  less-left who true next is =
+      let less : work_left next < work_left (turns scene (start_of scene) h.schedule) = every_lone_event_is_work scene h.schedule who next h.built.alone h.built.can (subst (λ (p : Player). event scene p who ≡ Some next) h.led is) in
+      let same : work_left q ≡ work_left (turns scene (start_of scene) h.schedule) = ap work_left h.led in
+      more (work_left next) (work_left q) (work_left (turns scene (start_of scene) h.schedule)) same less
+    where
+      more : (a b c : ℕ) → b ≡ c → a < c → 1 + a ≤ b
+      more a b c e lt = omega arith
+  less-left who false next is =
+      let same : work_left next ≡ work_left q = ap work_left is.1 in
+      equal (work_left next) (work_left q) same
+    where
+      equal : (a b : ℕ) → a ≡ b → 0 + a ≤ b
+      equal a b e = omega arith
 
   -- no tree has that number
   pub no-tree : (t : ℕ) → slice_get walks t ≡ None → event scene q (Turn.Tree (suc t)) ≡ None
@@ -265,35 +347,6 @@ module _ (scene : Scene) (course : Course) (walks : List Walk) (h : IsReached sc
   unfolding turn turns
   led-on who true next is = record { built = h.built; schedule = h.schedule ++ who ∷ []; led = sym (turns-append scene (start_of scene) h.schedule (who ∷ []) ∙ ap (λ (p : Player). turn scene p who) (sym h.led) ∙ rw is refl) }
   led-on who false next is = record { built = h.built; schedule = h.schedule; led = is.1 ∙ h.led }
-
--- Requests that are left
-
-left-set : (walks : List Walk) (k : ℕ) (walk new : Walk) → slice_get walks k ≡ Some walk → requests_left (slice_set walks k new) + length (do_pids walk.lines) ≡ requests_left walks + length (do_pids new.lines)
-left-set [] k walk new at = absurd cc
-left-set (w ∷ walks) zero walk new at = let same : w ≡ walk = cc in rw same (omega arith)
-left-set (w ∷ walks) (suc k) walk new at = let ih : requests_left (slice_set walks k new) + length (do_pids walk.lines) ≡ requests_left walks + length (do_pids new.lines) = left-set walks k walk new at in omega arith
-
-going-items : (g : Grammar) (way : Way) (b : Begun) → (going_on g way b).items ≡ way.items
-going-items g way b = go b.stage refl
-  where
-    go : (s : Stage) → b.stage ≡ s → (going_on g way b).items ≡ way.items
-    go (Stage.Owing []) e = rw e refl
-    go (Stage.Owing (step ∷ rest)) e = rw e refl
-    go (Stage.Waiting serial) e = rw e refl
-    go Stage.Looking e = rw e refl
-
-pub fewer-left : (g : Grammar) (course : Course) (walks : List Walk) (k : ℕ) (walk new : Walk) (moved : Bool) → slice_get walks k ≡ Some walk → LooksFirst g course moved (way_of walk) (way_of new) → (if moved then 1 else 0) + requests_left (slice_set walks k new) ≤ requests_left walks
-fewer-left g course walks k walk new true at h =
-    let items : h.items ≡ new.lines = sym (going-items g (record (way_of walk) { at = h.at; items = h.items }) h.looks.begun) ∙ ap (λ (w : Way). w.items) h.looks.goes in
-    let was : do_pids (Item.Do h.pid h.request ∷ h.items) ≡ do_pids walk.lines = sym (ap (λ (p : Situations × List Item). do_pids p.1) h.passes) ∙ passed-pids g (way_of walk).at walk.lines in
-    let more : suc (length (do_pids new.lines)) ≡ length (do_pids walk.lines) = rw (sym items) (ap length was) in
-    let set : requests_left (slice_set walks k new) + length (do_pids walk.lines) ≡ requests_left walks + length (do_pids new.lines) = left-set walks k walk new at in
-    omega arith
-fewer-left g course walks k walk new false at h =
-    let same : do_pids new.lines ≡ do_pids walk.lines = ap (λ (w : Way). do_pids w.items) h.1 in
-    let long : length (do_pids new.lines) ≡ length (do_pids walk.lines) = ap length same in
-    let set : requests_left (slice_set walks k new) + length (do_pids walk.lines) ≡ requests_left walks + length (do_pids new.lines) = left-set walks k walk new at in
-    omega arith
 
 -- A tree at its beginning
 

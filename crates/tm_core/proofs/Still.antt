@@ -46,24 +46,24 @@ use Rattle.tm_core.proofs.Asked.{found_holds}
 -- A fact of what an option or a list holds
 
 module _ {A B : Type 0} where
-  map-holds : (P : B → Type 0) (f : A → B) (o : Option A) → IfSome o (λ x. P (f x)) → IfSome (option_map f o) P
+  pub map-holds : (P : B → Type 0) (f : A → B) (o : Option A) → IfSome o (λ x. P (f x)) → IfSome (option_map f o) P
   map-holds P f None h = tt
   map-holds P f (Some x) h = h
 
-  then-holds : (P : B → Type 0) (f : A → Option B) (o : Option A) → IfSome o (λ x. IfSome (f x) P) → IfSome (option_and_then f o) P
+  pub then-holds : (P : B → Type 0) (f : A → Option B) (o : Option A) → IfSome o (λ x. IfSome (f x) P) → IfSome (option_and_then f o) P
   then-holds P f None h = tt
   then-holds P f (Some x) h = h
 
 module _ {A : Type 0} where
-  each-holds : (P : A → Type 0) → ((x : A) → P x) → (o : Option A) → IfSome o P
+  pub each-holds : (P : A → Type 0) → ((x : A) → P x) → (o : Option A) → IfSome o P
   each-holds P h None = tt
   each-holds P h (Some x) = h x
 
-  so-holds : (P Q : A → Type 0) → ((x : A) → P x → Q x) → (o : Option A) → IfSome o P → IfSome o Q
+  pub so-holds : (P Q : A → Type 0) → ((x : A) → P x → Q x) → (o : Option A) → IfSome o P → IfSome o Q
   so-holds P Q f None h = tt
   so-holds P Q f (Some x) h = f x h
 
-  unwrap-holds : (P : A → Type 0) (o : Option A) (d : A) → IfSome o P → P d → P (unwrap_or o d)
+  pub unwrap-holds : (P : A → Type 0) (o : Option A) (d : A) → IfSome o P → P d → P (unwrap_or o d)
   unwrap-holds P None d h e = e
   unwrap-holds P (Some x) d h e = h
 
@@ -71,12 +71,12 @@ module _ {A : Type 0} where
   all-true test [] h = tt
   all-true test (x ∷ xs) h = let both = and_parts (test x) (list_all test xs) h in (both.0, all-true test xs both.1)
 
-  get-holds : (P : A → Type 0) (xs : List A) (n : ℕ) → AllByRecursion P xs → IfSome (slice_get xs n) P
+  pub get-holds : (P : A → Type 0) (xs : List A) (n : ℕ) → AllByRecursion P xs → IfSome (slice_get xs n) P
   get-holds P [] n h = tt
   get-holds P (x ∷ xs) zero h = h.0
   get-holds P (x ∷ xs) (suc n) h = get-holds P xs n h.1
 
-  set-holds : (P : A → Type 0) (xs : List A) (n : ℕ) (new : A) → AllByRecursion P xs → P new → AllByRecursion P (slice_set xs n new)
+  pub set-holds : (P : A → Type 0) (xs : List A) (n : ℕ) (new : A) → AllByRecursion P xs → P new → AllByRecursion P (slice_set xs n new)
   set-holds P [] n new h e = tt
   set-holds P (x ∷ xs) zero new h e = (e, h.1)
   set-holds P (x ∷ xs) (suc n) new h e = (h.0, set-holds P xs n new h.1 e)
@@ -118,7 +118,7 @@ still-profile policy domain h =
 
 -- No verdict on a plain request asks for a step
 
-not-true : (b : Bool) → not b ≡ true → b ≡ false
+pub not-true : (b : Bool) → not b ≡ true → b ≡ false
 not-true true h = absurd cc
 not-true false h = refl
 
@@ -202,13 +202,13 @@ module _ (scene : Scene) (alone : IsAlone scene) (still : is_still_policy scene.
   going_on-still : (way : Way) (b : Begun) → list_all is_plain_item way.items ≡ true → b.stage ≡ Stage.Owing [] → StillWay (going_on g way b)
   going_on-still way b plain e = rw e (refl, plain)
 
-  passed-plain : (items : List Item) (at : Situations) → list_all is_plain_item items ≡ true → list_all is_plain_item (passed g at items).1 ≡ true
+  pub passed-plain : (items : List Item) (at : Situations) → list_all is_plain_item items ≡ true → list_all is_plain_item (passed g at items).1 ≡ true
   passed-plain [] at h = h
   passed-plain (Item.Ids pid ids ∷ items) at h = passed-plain items _ h
   passed-plain (Item.Fork pid child ∷ items) at h = passed-plain items _ h
   passed-plain (Item.Do pid request ∷ items) at h = h
 
-  end_tree-none : (p : Player) (desk : Bool) (t : ℕ) → desk ≡ false → IfSome (end_tree g p desk t) (Kept scene)
+  pub end_tree-none : (p : Player) (desk : Bool) (t : ℕ) → desk ≡ false → IfSome (end_tree g p desk t) (Kept scene)
   unfolding end_tree
   end_tree-none p desk t e = rw e tt
 

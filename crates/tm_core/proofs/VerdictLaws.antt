@@ -30,7 +30,12 @@ use Rattle.std.specs.Prelude.{if◌then◌else◌}
 use Rattle.std.proofs.Common.{subst}
 use Rattle.tm_types.specs.declared.verdict.Reason.{Reason}
 use Rattle.tm_types.specs.declared.verdict.Verdict.{Verdict}
-use Rattle.tm_core.specs.Stands.{AsksNobody}
+use Rattle.std.specs.Prelude.{◌⊎◌}
+use Rattle.std.proofs.Common.{List, [], ◌∷◌, inl, inr}
+use Rattle.tm_types.specs.declared.step.Step.{Step}
+use Rattle.tm_rules.specs.Grammar.{Grammar}
+use Rattle.tm_core.specs.Silent.{IsSilentEntry}
+use Rattle.tm_core.specs.Stands.{AsksNobody, asked_of}
 use Rattle.tm_core.specs.Verdict.{moving, with_line, by_mode, verdict, verdict_in}
 use Rattle.tm_core.specs.Judging.{by_found, IsOther}
 
@@ -164,5 +169,51 @@ asks_nobody is_path policy d process request v other is = by_domain (domain_at p
     by_profile domain (Some profile) is = by_function domain profile (function_of request.args request.perm) refl is
 
     by_domain : (o : Option Domain) → domain_at policy d ≡ o → option_and_then (λ domain. option_and_then (verdict_in is_path policy false process request domain) (profile_of policy domain)) o ≡ Some v → AsksNobody v.reason
+    by_domain None e is = absurd cc
+    by_domain (Some domain) e is = by_profile domain (profile_of policy domain) is
+
+-- Where nobody is attached, a request of another kind asks for nothing or for one Learn
+
+-- no step, or one Learn of a line that says nothing of logs
+abbrev pub AreLearns : List Step → Type 0
+AreLearns steps = (steps ≡ []) ⊎ ((d : ℕ) × (line : Entry) × (steps ≡ Step.Learn d line ∷ []) × IsSilentEntry line)
+
+line-silent : (request : Request) (name : Word) → is_execute request ≡ false → IsSilentEntry (learned_line request name)
+unfolding learned_line
+line-silent request name other = rw other refl
+
+by_mode-learns : (g : Grammar) (mode : Mode) (domain : Domain) (granting : Option Granting) (line : Entry) (d : ℕ) → IsSilentEntry line → AreLearns (asked_of g d (by_mode mode false domain granting line Move.Stay None))
+unfolding by_mode
+by_mode-learns g Mode.Disabled domain granting line d silent = inl refl
+by_mode-learns g Mode.Learning domain (Some x) line d silent = inl refl
+by_mode-learns g Mode.Learning domain None line d silent = go domain.quota_exceeded
+  where
+    go : (b : Bool) → AreLearns (asked_of g d (if b then moving (Some Mode.Learning) Reason.Quota Move.Stay None else with_line (moving (Some Mode.Learning) Reason.Learn Move.Stay None) line))
+    go true = inl refl
+    go false = inr (d, line, refl, silent)
+by_mode-learns g Mode.Permissive domain (Some x) line d silent = inl refl
+by_mode-learns g Mode.Permissive domain None line d silent = inl refl
+by_mode-learns g Mode.Enforcing domain (Some x) line d silent = inl refl
+by_mode-learns g Mode.Enforcing domain None line d silent = inl refl
+
+pub asks_learn : (g : Grammar) (policy : Policy) (d : ℕ) (process : Proc) (request : Request) (v : Verdict) → IsOther request → verdict g.is_path policy false d process request ≡ Some v → AreLearns (asked_of g d v)
+unfolding verdict
+asks_learn g policy d process request v other is = by_domain (domain_at policy d) refl is
+  where
+    by_function : (domain : Domain) (profile : Profile) (o : Option Function) → function_of request.args request.perm ≡ o → verdict_in g.is_path policy false process request domain profile ≡ Some v → AreLearns (asked_of g d v)
+    by_function domain profile None e is = absurd (let both : None ≡ Some v = sym (none-other g.is_path policy false process domain profile request.args request.perm request.attributes other e) ∙ is in cc)
+    by_function domain profile (Some function) e is =
+        let line : Entry = line_of (namespace_of policy domain) request in
+        let found : Verdict = by_mode (mode_of profile function) false domain (first (namespace_of policy domain) domain process request) line Move.Stay None in
+        let both : Some found ≡ Some v = sym (in_mode-other g.is_path policy false process domain profile request.args request.perm request.attributes function other e) ∙ is in
+        let same : found ≡ v = cc in
+        let silent : IsSilentEntry line = line-silent request (aggregated (namespace_of policy domain) (path_of request)) other.no_execute in
+        subst (λ (v : Verdict). AreLearns (asked_of g d v)) same (by_mode-learns g (mode_of profile function) domain (first (namespace_of policy domain) domain process request) line d silent)
+
+    by_profile : (domain : Domain) (o : Option Profile) → option_and_then (verdict_in g.is_path policy false process request domain) o ≡ Some v → AreLearns (asked_of g d v)
+    by_profile domain None is = absurd cc
+    by_profile domain (Some profile) is = by_function domain profile (function_of request.args request.perm) refl is
+
+    by_domain : (o : Option Domain) → domain_at policy d ≡ o → option_and_then (λ domain. option_and_then (verdict_in g.is_path policy false process request domain) (profile_of policy domain)) o ≡ Some v → AreLearns (asked_of g d v)
     by_domain None e is = absurd cc
     by_domain (Some domain) e is = by_profile domain (profile_of policy domain) is

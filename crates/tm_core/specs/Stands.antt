@@ -24,7 +24,7 @@ use Rattle.tm_core.specs.Play.{Stage, Begun, Way, Player, passed, going_on, ente
 use Rattle.tm_core.specs.Queries.{no_queries}
 use Rattle.tm_core.specs.Judging.{IsOther}
 use Rattle.tm_core.specs.Silent.{IsSilent}
-use Rattle.tm_core.specs.Still.{is_still_policy, is_plain_trace}
+use Rattle.tm_core.specs.Still.{is_plain_trace}
 use Rattle.tm_core.specs.Machine.{Course, history_of}
 use Rattle.tm_types.specs.declared.step.Turn.{Turn}
 
@@ -148,11 +148,10 @@ player_of course walks =
       scripts = [];
     }
 
--- the scenes that are played so far: nobody edits, nobody answers, nothing is learned, asked or logged, and no request is an execute or a manual transition
+-- the scenes that are played so far: nobody edits, nobody answers, nothing is asked or logged, and no request is an execute or a manual transition
 pub record IsBuilt (scene : Scene) : Type 0 where
   pub alone : IsAlone scene
   pub can : CanPlay scene
-  pub still : is_still_policy scene.policy ≡ true
   pub plain : is_plain_trace scene.trace ≡ true
   pub silent : IsSilent scene.policy
 
@@ -171,12 +170,7 @@ Answers false event new old = (event ≡ None) × (new ≡ old)
 abbrev pub way_at_start : Policy → Tree → Way
 way_at_start policy tree = record { at = at_start policy tree; items = tree.records; begun = None; takes = [] }
 
--- The requests that are left, and rounds
-
--- of all trees
-abbrev pub requests_left : List Walk → ℕ
-requests_left [] = 0
-requests_left (walk ∷ walks) = length (do_pids walk.lines) + requests_left walks
+-- Rounds
 
 -- so many trees have had their turn in a round, and whether one of them has moved
 pub record IsInRound (scene : Scene) (old now : Player) (n : ℕ) (moved : Bool) : Type 0 where

@@ -1,17 +1,22 @@
 //! The machine: a policy on its way from an opening, with the steps that were made.
-ghost use Rattle.std.specs.Prelude.{◌≡◌, [], IfOk, length};
+ghost use Rattle.std.specs.Prelude.{◌≡◌, [], ◌∷◌, ◌++◌, Some, IsSome, IfOk, length};
 ghost use Rattle.std.specs.Option.{option_copied};
 ghost use Rattle.tm_rules.specs.Few.{IsFew};
+ghost use Rattle.tm_rules.specs.Changes.{learn};
 ghost use Rattle.tm_rules.specs.Search.{found};
+ghost use Rattle.tm_types.specs.declared.step.Maker.{Maker};
+ghost use Rattle.tm_types.specs.declared.step.Step.{Step};
+ghost use Rattle.tm_types.specs.declared.step.Reply.{Reply};
 ghost use Rattle.tm_core.specs.Machine.{Course, history_of, made_at};
 
 use std::alloc::Global;
 use std::marker::Model;
 use tm_list::{Copied, NoMemory, Seq};
 use tm_policy::Rep;
+use tm_types::entry::Entry;
 use tm_types::policy::Policy;
 use tm_types::request::{Proc, Request};
-use tm_types::step::{Editor, Made, Reply, Start, Step};
+use tm_types::step::{Editor, LearnReply, Made, Maker, Reply, Start, Step};
 use tm_types::verdict::Found;
 
 /// A machine: it keeps its opening, a representation of its policy, and its steps with their makers and replies. Contracts see the
@@ -83,6 +88,35 @@ impl<R: Rep> Machine<R> {
         ensures { result ≡ found self.now.policy domain process.now request.now }
     {
         self.rep.search(domain, process, request)
+    }
+
+    /// Makes a Learn: a take of the process of this pid learns a line in the domain of this number. Gives the reply.
+    ///
+    /// Errors: want of memory; the machine isn't used again.
+    pub(crate) fn learn(
+        &mut self,
+        alloc: Global,
+        pid: u32,
+        domain: u32,
+        line: Entry,
+    ) -> Result<LearnReply, NoMemory>
+        requires { IsSome (learn self.old.policy domain line) }
+        ensures learns { IfOk result (λ reply. learn self.old.policy domain line ≡ Some (self.new.policy, reply)) }
+        ensures made { IfOk result (λ reply. self.new.made ≡ self.old.made ++ (record { maker = Maker.Process pid; step = Step.Learn domain line }, Reply.Learn reply) ∷ []) }
+    {
+        let reply = match self.rep.apply_learn(alloc, domain, &line) {
+            Ok(reply) => reply,
+            Err(fault) => {
+                drop(line);
+                return Err(fault);
+            }
+        };
+        let made = Made {
+            maker: Maker::Process(pid),
+            step: Step::Learn(domain, line),
+        };
+        self.made.push((made, Reply::Learn(reply)))?;
+        Ok(reply)
     }
 
     /// The steps with their replies, copied.

@@ -2,8 +2,8 @@
 ghost use Rattle.std.specs.Prelude.{◌≡◌, ◌++◌, ◌≤◌, ◌+◌, [], length, if◌then◌else◌, IfOk, OnOk, flat_map, map};
 ghost use Rattle.tm_types.specs.declared.step.Take.{Take};
 ghost use Rattle.tm_core.specs.Legal.{Scene, Legal};
-ghost use Rattle.tm_core.specs.Play.{Way, start_of, run_of, turns, Plays};
-ghost use Rattle.tm_core.specs.Stands.{IsBuilt, IsReached, IsInRound, IsOver, player_of, requests_left, way_of};
+ghost use Rattle.tm_core.specs.Play.{Way, start_of, run_of, turns, work_left, Plays};
+ghost use Rattle.tm_core.specs.Stands.{IsBuilt, IsReached, IsInRound, IsOver, player_of, way_of};
 
 use crate::machine::Machine;
 use crate::player::{Player, step_alone, step_place};
@@ -32,7 +32,7 @@ fn play_turns<R: Rep>(
 fn play_round<R: Rep>(alloc: Global, player: &mut Player<R>) -> Result<bool, NoMemory>
     requires { (scene : Scene) × IsReached scene (player_of player.old.machine player.old.walks.items) }
     ensures round { IfOk result (λ moved. (scene : Scene) → IsReached scene (player_of player.old.machine player.old.walks.items) → IsInRound scene (player_of player.old.machine player.old.walks.items) (player_of player.new.machine player.new.walks.items) (length player.old.walks.items) moved) }
-    ensures less { IfOk result (λ moved. (if moved then 1 else 0) + requests_left player.new.walks.items ≤ requests_left player.old.walks.items) }
+    ensures less { IfOk result (λ moved. (if moved then 1 else 0) + work_left (player_of player.new.machine player.new.walks.items) ≤ work_left (player_of player.old.machine player.old.walks.items)) }
 {
     let mut moved = false;
     for place in 0..player.walks.len() {

@@ -2,18 +2,18 @@
 ghost use Rattle.std.specs.Prelude.{◌≡◌, ◌<◌, ◌≤◌, ◌+◌, [], suc, length, if◌then◌else◌, IfOk, OnOk, map};
 ghost use Rattle.tm_rules.specs.Few.{IsShort};
 ghost use Rattle.tm_core.specs.Legal.{Scene};
-ghost use Rattle.tm_core.specs.Play.{start_of, event, IsAlone};
-ghost use Rattle.tm_core.specs.Stands.{Answers, IsReached, player_of, requests_left, way_of, way_at_start};
+ghost use Rattle.tm_core.specs.Play.{start_of, event, work_left, IsAlone};
+ghost use Rattle.tm_core.specs.Stands.{Answers, IsReached, player_of, way_of, way_at_start};
 
 use crate::lines::Lines;
 use crate::looks::first_look;
 use crate::machine::Machine;
-use crate::profiles::live_domain;
+use crate::own::own_step;
 use crate::situations::Spots;
 use crate::walk::Walk;
 use std::alloc::Global;
 use tm_list::{NoMemory, Seq};
-use tm_policy::Rep;
+use tm_policy::{Rep, live_domain};
 use tm_types::policy::Policy;
 use tm_types::request::{Trace, Tree};
 use tm_types::step::Turn;
@@ -73,10 +73,15 @@ pub(crate) fn step_place<R: Rep>(
     requires reached { (scene : Scene) × IsReached scene (player_of player.old.machine player.old.walks.items) }
     requires there { place < length player.old.walks.items }
     ensures event { IfOk result (λ moved. (scene : Scene) → IsReached scene (player_of player.old.machine player.old.walks.items) → Answers moved (event scene (player_of player.old.machine player.old.walks.items) (Turn.Tree (suc place))) (player_of player.new.machine player.new.walks.items) (player_of player.old.machine player.old.walks.items)) }
-    ensures less { IfOk result (λ moved. (if moved then 1 else 0) + requests_left player.new.walks.items ≤ requests_left player.old.walks.items) }
+    ensures less { IfOk result (λ moved. (if moved then 1 else 0) + work_left (player_of player.new.machine player.new.walks.items) ≤ work_left (player_of player.old.machine player.old.walks.items)) }
     ensures trees { length player.new.walks.items ≡ length player.old.walks.items }
 {
-    first_look(alloc, &player.machine, &mut player.walks[place])
+    let walk = &mut player.walks[place];
+    if walk.begun.is_empty() {
+        first_look(alloc, &player.machine, walk)
+    } else {
+        own_step(alloc, &mut player.machine, walk)
+    }
 }
 
 /// One event of the tree of this number, from 1: true, or false with nothing changed where it can't move.

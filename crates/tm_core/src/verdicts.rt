@@ -8,10 +8,11 @@ ghost use Rattle.tm_rules.specs.Search.{found};
 ghost use Rattle.tm_core.specs.Verdict.{moving, denied, with_line, made, by_mode, verdict};
 ghost use Rattle.tm_core.specs.Judging.{by_place, by_found, IsOther};
 
-use crate::profiles::{domain_at, mode_of, profile_of};
 use std::alloc::Global;
 use tm_learn::learned_line;
 use tm_list::{NoMemory, Seq};
+use tm_policy::{domain_at, profile_of};
+use tm_profile::config_of;
 use tm_types::entry::Entry;
 use tm_types::function_at;
 use tm_types::policy::{Domain, Mode, Policy};
@@ -173,7 +174,7 @@ pub(crate) fn verdict_by(
         step: Move::Stay,
         target: None,
     };
-    let mode = mode_of(profile, function);
+    let mode = config_of(profile, function).mode;
     let name = Seq::new(alloc);
     let verdict = by_found(alloc, mode, attached, domain, seen, request, &name, leads)?;
     Ok(Some(verdict))

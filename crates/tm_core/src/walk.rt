@@ -1,12 +1,13 @@
 //! A tree on its way through its lines, and its takes.
-ghost use Rattle.std.specs.Prelude.{◌≡◌, ◌++◌, ◌∷◌, [], ℕ, List, Option, IfOk, OnOk, Some, None, if◌then◌else◌, unwrap_or, option_map, slice_get};
+ghost use Rattle.std.specs.Prelude.{◌≡◌, ◌++◌, ◌∷◌, [], ℕ, List, Option, IfOk, IfSome, OnOk, MatchOption, Some, None, IsSome, if◌then◌else◌, unwrap_or, option_map, slice_get};
 ghost use Rattle.tm_word.specs.Matching.{is_empty};
 ghost use Rattle.std.specs.Option.{option_to_list};
 ghost use Rattle.tm_types.specs.declared.request.Item.{Item};
 ghost use Rattle.tm_rules.specs.Grammar.{Grammar};
 ghost use Rattle.tm_core.specs.Verdict.{is_granting};
 ghost use Rattle.tm_core.specs.Legal.{look_grants, steps_of_line, steps_of_move};
-ghost use Rattle.tm_core.specs.Play.{Begun, taken, ended_way, going_on, entered};
+ghost use Rattle.tm_types.specs.declared.step.Step.{Step};
+ghost use Rattle.tm_core.specs.Play.{Stage, Begun, taken, ended_way, going_on, entered};
 ghost use Rattle.tm_core.specs.Stands.{situation_of, situations, owed_steps, begun_of, begun_with, asked_of, PassesLine, Passes, AsksNobody};
 
 use crate::grants;
@@ -264,6 +265,72 @@ fn owes_nothing(owed: &Owed) -> bool
     match (&owed.line, &owed.lead) {
         (None, None) => true,
         (Some(_), _) | (None, Some(_)) => false,
+    }
+}
+
+/// The first step that a take owes, and what it owes after that; None where it owes nothing.
+fn next_owed(owed: Owed) -> Option<(Step, Owed)>
+    ensures { MatchOption result (owed_steps owed ≡ []) (λ next. owed_steps owed ≡ next.0 ∷ owed_steps next.1) }
+{
+    let Owed { line, lead } = owed;
+    match line {
+        Some(step) => Some((step, Owed { line: None, lead })),
+        None => match lead {
+            Some(step) => {
+                let left = Owed {
+                    line: None,
+                    lead: None,
+                };
+                Some((step, left))
+            }
+            None => None,
+        },
+    }
+}
+
+/// The first of these takes.
+fn first_of(begun: Vec<Attempt>) -> Option<Attempt>
+    ensures { result ≡ slice_get begun.items 0 }
+{
+    begun.into_iter().next()
+}
+
+/// Takes the take that has begun out of a tree, with the first step that it owes and without that step; None where none has begun or
+/// where it owes nothing.
+pub(crate) fn take_owed(begun: &mut Seq<Attempt>) -> Option<(Step, Attempt)>
+    ensures first { IfSome result (λ next. option_map begun_of (slice_get begun.old 0) ≡ Some (record (begun_of next.1) { stage = Stage.Owing (next.0 ∷ owed_steps next.1.owed) })) }
+    ensures some { (b : Begun) (step : Step) (rest : List Step) → option_map begun_of (slice_get begun.old 0) ≡ Some b → b.stage ≡ Stage.Owing (step ∷ rest) → IsSome result }
+    ensures left { begun.new ≡ [] }
+{
+    let list = begun.take();
+    match first_of(list) {
+        Some(attempt) => {
+            let Attempt {
+                now,
+                before,
+                request,
+                look,
+                verdict,
+                after,
+                owed,
+            } = attempt;
+            match next_owed(owed) {
+                Some((step, owed)) => Some((
+                    step,
+                    Attempt {
+                        now,
+                        before,
+                        request,
+                        look,
+                        verdict,
+                        after,
+                        owed,
+                    },
+                )),
+                None => None,
+            }
+        }
+        None => None,
     }
 }
 

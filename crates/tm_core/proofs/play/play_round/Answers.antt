@@ -2,7 +2,8 @@ use Rattle.std.proofs.Common.{rules, arith, ◌≡◌, ◌≤◌, ◌+◌, suc, 
 use Rattle.std.specs.Prelude.{if◌then◌else◌}
 use Rattle.tm_core.specs.Legal.{Scene}
 use Rattle.tm_types.specs.declared.step.Turn.{Turn}
-use Rattle.tm_core.specs.Stands.{player_of, requests_left, IsReached, IsInRound}
+use Rattle.tm_core.specs.Play.{work_left}
+use Rattle.tm_core.specs.Stands.{player_of, IsReached, IsInRound}
 use Rattle.tm_core.proofs.Reached.{led-on}
 use Rattle.tm_core.proofs.Rounds.{round-begins, round-goes, fewer}
 use Rattle.tm_core.proofs.play.play_round.Goals as goal
@@ -10,7 +11,7 @@ use Rattle.tm_core.proofs.play.play_round.Goals.{then-branch, else-branch}
 
 pub loop-place-init : goal.loop-place-init
 loop-place-init g c =
-    let le : 0 + requests_left c.args.player.now.walks.items ≤ requests_left c.args.player.now.walks.items = omega arith in
+    let le : 0 + work_left (player_of c.args.player.now.machine c.args.player.now.walks.items) ≤ work_left (player_of c.args.player.now.machine c.args.player.now.walks.items) = omega arith in
     (c.requires, refl, le, λ scene h. round-begins scene (player_of c.args.player.now.machine c.args.player.now.walks.items) h)
 
 pub loop-place-preserved : goal.loop-place-preserved
@@ -21,8 +22,8 @@ loop-place-preserved g c =
     let reached : (scene : Scene) → IsReached scene (player_of c.loop-place.player.machine c.loop-place.player.walks.items) → IsReached scene (player_of c.step_place.new.player.machine c.step_place.new.player.walks.items) = λ scene h. led-on scene c.loop-place.player.machine c.loop-place.player.walks.items h (Turn.Tree (suc c.loop-place.place)) m (player_of c.step_place.new.player.machine c.step_place.new.player.walks.items) (c.in_ok-step_place.ensures.event scene h) in (
       (some.0, reached some.0 some.1),
       c.step_place.ensures.trees ∙ c.loop-place.invariant.1,
-      subst (λ (b : Bool). (if b then 1 else 0) + requests_left c.step_place.new.player.walks.items ≤ requests_left c.args.player.now.walks.items) is
-          (fewer m c.loop-place.moved (requests_left c.step_place.new.player.walks.items) (requests_left c.loop-place.player.walks.items) (requests_left c.args.player.now.walks.items) c.in_ok-step_place.ensures.less c.loop-place.invariant.2),
+      subst (λ (b : Bool). (if b then 1 else 0) + work_left (player_of c.step_place.new.player.machine c.step_place.new.player.walks.items) ≤ work_left (player_of c.args.player.now.machine c.args.player.now.walks.items)) is
+          (fewer m c.loop-place.moved (work_left (player_of c.step_place.new.player.machine c.step_place.new.player.walks.items)) (work_left (player_of c.loop-place.player.machine c.loop-place.player.walks.items)) (work_left (player_of c.args.player.now.machine c.args.player.now.walks.items)) c.in_ok-step_place.ensures.less c.loop-place.invariant.2),
       λ scene h.
           let before = c.loop-place.invariant.3 scene h in
           subst (IsInRound scene (player_of c.args.player.now.machine c.args.player.now.walks.items) (player_of c.step_place.new.player.machine c.step_place.new.player.walks.items) (c.loop-place.place + 1)) is

@@ -1,12 +1,13 @@
 use Rattle.std.proofs.Common.{◌≡◌, ◌≤◌, ◌+◌, length}
 use Rattle.std.specs.Prelude.{if◌then◌else◌}
 use Rattle.tm_core.specs.Legal.{Scene}
-use Rattle.tm_core.specs.Stands.{player_of, requests_left, IsReached, IsInRound}
+use Rattle.tm_core.specs.Play.{work_left}
+use Rattle.tm_core.specs.Stands.{player_of, IsReached, IsInRound}
 use Rattle.tm_core.proofs.play.play_round.Given as goal
 
 abbrev pub invariant-loop-place : goal.invariant-loop-place
 invariant-loop-place g l =
     ((scene : Scene) × IsReached scene (player_of l.player.machine l.player.walks.items))
     × (length l.player.walks.items ≡ length l.initial.player.walks.items)
-    × ((if l.moved then 1 else 0) + requests_left l.player.walks.items ≤ requests_left l.initial.player.walks.items)
+    × ((if l.moved then 1 else 0) + work_left (player_of l.player.machine l.player.walks.items) ≤ work_left (player_of l.initial.player.machine l.initial.player.walks.items))
     × ((scene : Scene) → IsReached scene (player_of l.initial.player.machine l.initial.player.walks.items) → IsInRound scene (player_of l.initial.player.machine l.initial.player.walks.items) (player_of l.player.machine l.player.walks.items) l.place l.moved)

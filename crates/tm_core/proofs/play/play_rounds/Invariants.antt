@@ -1,7 +1,7 @@
 use Rattle.std.proofs.Common.{◌≡◌, ℕ}
 use Rattle.tm_core.specs.Legal.{Scene}
-use Rattle.tm_core.specs.Play.{rounds}
-use Rattle.tm_core.specs.Stands.{player_of, requests_left, IsReached}
+use Rattle.tm_core.specs.Play.{rounds, work_left}
+use Rattle.tm_core.specs.Stands.{player_of, IsReached}
 use Rattle.tm_core.proofs.play.play_rounds.Given as goal
 
 abbrev pub invariant-loop : goal.invariant-loop
@@ -11,4 +11,4 @@ invariant-loop g l =
     × (player_of l.player.machine l.player.walks.items ≡ rounds scene (player_of l.initial.player.machine l.initial.player.walks.items) n))
 
 abbrev pub decreases-loop : goal.decreases-loop
-decreases-loop g l = requests_left l.player.walks.items
+decreases-loop g l = work_left (player_of l.player.machine l.player.walks.items)
