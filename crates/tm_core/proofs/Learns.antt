@@ -20,7 +20,8 @@ use Rattle.tm_types.specs.declared.verdict.Verdict.{Verdict}
 use Rattle.tm_rules.specs.Words.{Trace}
 use Rattle.tm_rules.specs.Grammar.{Grammar}
 use Rattle.tm_rules.specs.Condition.{is_execute, is_manual}
-use Rattle.tm_rules.specs.Policy.{domain_at, changed_at, with_domain, same_line, adding}
+use Rattle.tm_types.specs.declared.policy.Profile.{Profile}
+use Rattle.tm_rules.specs.Policy.{domain_at, profile_of, namespace_named, changed_at, with_domain, same_line, adding}
 use Rattle.tm_rules.specs.Changes.{learn, learned_domain}
 use Rattle.tm_policy.proofs.LearnLaws.{IsLearned, learned}
 use Rattle.tm_core.specs.Verdict.{verdict}
@@ -29,7 +30,7 @@ use Rattle.tm_core.specs.Run.{Situation, Situations, at_start}
 use Rattle.tm_core.specs.Steps.{State, Applied, fits_entry, on_policy, unfit, apply}
 use Rattle.tm_core.specs.Legal.{Scene}
 use Rattle.tm_core.specs.Judging.{IsOther}
-use Rattle.tm_core.specs.Silent.{IsSilentEntry, IsSilent}
+use Rattle.tm_core.specs.Silent.{IsSilentProfile, IsSilentEntry, IsSilent}
 use Rattle.tm_core.specs.Still.{is_plain_request, is_plain_item, is_plain_trace}
 use Rattle.tm_core.specs.Owing.{OwesLearn}
 use Rattle.tm_core.specs.Stands.{asked_of}
@@ -64,7 +65,18 @@ domain-silent LearnReply.There domain line h all = all
 domain-silent LearnReply.Quota domain line h all = all
 domain-silent LearnReply.Mode domain line h all = all
 
+-- the profile of a domain doesn't log
+abbrev Profiled : Policy → Domain → Type 0
+Profiled policy domain = (profile : Profile) → profile_of policy domain ≡ Some profile → IsSilentProfile profile
+
+kept-profile : (policy : Policy) (domain : Domain) (reply : LearnReply) (line : Entry) → Profiled policy domain → Profiled policy (learned_domain reply domain line)
+kept-profile policy domain LearnReply.Added line h = h
+kept-profile policy domain LearnReply.There line h = h
+kept-profile policy domain LearnReply.Quota line h = h
+kept-profile policy domain LearnReply.Mode line h = h
+
 pub learn-silent : (policy new : Policy) (d : ℕ) (line : Entry) (reply : LearnReply) → IsSilent policy → IsSilentEntry line → learn policy d line ≡ Some (new, reply) → IsSilent new
+unfolding namespace_named
 learn-silent policy new d line reply silent h is =
     let told : Some reply ≡ option_map (λ (done : Policy × LearnReply). done.1) (learn policy d line) = sym (ap (option_map (λ (done : Policy × LearnReply). done.1)) is) in
     let l : IsLearned policy d line reply = learned policy d line reply told in
@@ -73,7 +85,7 @@ learn-silent policy new d line reply silent h is =
     let own : AllByRecursion IsSilentEntry l.domain.entries = all_get (λ (domain : Domain). AllByRecursion IsSilentEntry domain.entries) policy.domains d l.domain silent.entries l.at in
     subst IsSilent same
     (record {
-      profiles = silent.profiles;
+      profiles = all-changed (Profiled policy) policy.domains d (learned_domain reply l.domain line) silent.profiles (kept-profile policy l.domain reply line (all_get (Profiled policy) policy.domains d l.domain silent.profiles l.at));
       entries = all-changed (λ (domain : Domain). AllByRecursion IsSilentEntry domain.entries) policy.domains d (learned_domain reply l.domain line) silent.entries (domain-silent reply l.domain line h own);
       acl_entries = silent.acl_entries;
     })

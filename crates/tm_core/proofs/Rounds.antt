@@ -6,12 +6,14 @@ use Rattle.std.proofs.Math.Seq.{drop-cons}
 use Rattle.std.proofs.lemmas.List.{map-append}
 use Rattle.tm_types.specs.declared.step.Turn.{Turn}
 use Rattle.tm_core.specs.declared.walk.Walk.{Walk}
-use Rattle.tm_core.specs.Legal.{Scene, Legal}
+use Rattle.tm_core.specs.Legal.{Scene, Legal, final_policy}
 use Rattle.tm_core.specs.Play.{Player, event, turn, turns, numbers_to, everybody, rounds, start_of, run_of, NobodyCanMove, Plays}
 use Rattle.tm_core.specs.Machine.{Course}
 use Rattle.tm_core.specs.Stands.{player_of, Answers, IsBuilt, IsReached, IsInRound, IsOver}
 use Rattle.tm_core.proofs.Reached.{trees-are, no-desk}
-use Rattle.tm_core.proofs.PlayLaws.{turns-append, rounds-suc, every_play_is_legal}
+use Rattle.tm_core.proofs.Players.{PlayHolds}
+use Rattle.tm_core.proofs.AllPlays.{rounds-hold}
+use Rattle.tm_core.proofs.PlayLaws.{turns-append, rounds-suc, every_play_is_legal, reached_holds}
 
 -- One turn
 
@@ -123,3 +125,10 @@ plays-of scene p mid new schedule built starts played over =
     let ends : new ≡ rounds scene (turns scene (start_of scene) schedule) over.number_of_rounds = over.led ∙ ap (λ q. rounds scene q over.number_of_rounds) (sym played ∙ ap (λ q. turns scene q schedule) starts) in
     let plays : Plays scene schedule (run_of new) = record { number_of_rounds = over.number_of_rounds; over = subst (NobodyCanMove scene) ends over.over; run_is = ap run_of ends } in
     (plays, every_play_is_legal scene schedule (run_of new) built.can plays)
+
+-- the policy that the play ends with is that of the player
+pub ends-with : (scene : Scene) (p mid new : Player) (schedule : List Turn) → IsBuilt scene → p ≡ start_of scene → turns scene p schedule ≡ mid → IsOver scene mid new → final_policy scene (run_of new) ≡ new.state.policy
+ends-with scene p mid new schedule built starts played over =
+    let ends : new ≡ rounds scene (turns scene (start_of scene) schedule) over.number_of_rounds = over.led ∙ ap (λ q. rounds scene q over.number_of_rounds) (sym played ∙ ap (λ q. turns scene q schedule) starts) in
+    let holds : PlayHolds scene new = subst (PlayHolds scene) (sym ends) (rounds-hold scene built.can (turns scene (start_of scene) schedule) over.number_of_rounds (reached_holds scene schedule built.can)) in
+    ap (λ s. s.policy) (sym holds.base.sane.true_to.state)

@@ -64,15 +64,8 @@ logs-silent : (profile : Profile) (function : Function) → IsSilentProfile prof
 unfolding config_of
 logs-silent profile function silent = slot-silent profile (SlotName.One function) (unwrap_or (slot profile (category_of function)) profile.config) silent (slot-silent profile (category_of function) profile.config silent silent.config)
 
-profile-silent : (policy : Policy) (domain : Domain) (profile : Profile) → IsSilent policy → profile_of policy domain ≡ Some profile → IsSilentProfile profile
-unfolding namespace_named
-profile-silent policy domain profile silent has = go (find (λ (ns : Namespace). texts_equal ns.name (namespace_word domain.name)) policy.namespaces) refl has
-  where
-    go : (o : Option Namespace) → find (λ (ns : Namespace). texts_equal ns.name (namespace_word domain.name)) policy.namespaces ≡ o → at_key (unwrap_or o (empty_namespace (namespace_word domain.name))).profiles domain.profile ≡ Some profile → IsSilentProfile profile
-    go None e is = absurd cc
-    go (Some ns) e is =
-        all_rank (λ (pair : ℕ × Profile). IsSilentProfile pair.1) IsSilentProfile (λ n. n) domain.profile ns.profiles profile (λ pair h. h)
-        (all_find (λ (ns : Namespace). AllByRecursion (λ (pair : ℕ × Profile). IsSilentProfile pair.1) ns.profiles) (λ (ns : Namespace). texts_equal ns.name (namespace_word domain.name)) policy.namespaces ns silent.profiles e) is
+profile-silent : (policy : Policy) (d : ℕ) (domain : Domain) (profile : Profile) → IsSilent policy → domain_at policy d ≡ Some domain → profile_of policy domain ≡ Some profile → IsSilentProfile profile
+profile-silent policy d domain profile silent there has = all_get (λ (domain : Domain). (profile : Profile) → profile_of policy domain ≡ Some profile → IsSilentProfile profile) policy.domains d domain silent.profiles there profile has
 
 -- Entries
 
@@ -126,7 +119,7 @@ module _ (g : Grammar) (policy : Policy) (d : ℕ) (process : Proc) (request : R
 
       by_function : (domain : Domain) (profile : Profile) (o : Option Function) → domain_at policy d ≡ Some domain → profile_of policy domain ≡ Some profile → option_and_then (λ function. option_and_then (audit_in g policy process request v domain (logs_of profile function)) v.mode) o ≡ None
       by_function domain profile None there has = refl
-      by_function domain profile (Some function) there has = rw (logs-silent profile function (profile-silent policy domain profile silent has)) (by_mode domain v.mode there)
+      by_function domain profile (Some function) there has = rw (logs-silent profile function (profile-silent policy d domain profile silent there has)) (by_mode domain v.mode there)
 
       by_profile : (domain : Domain) (o : Option Profile) → domain_at policy d ≡ Some domain → profile_of policy domain ≡ o → option_and_then (λ profile. option_and_then (λ function. option_and_then (audit_in g policy process request v domain (logs_of profile function)) v.mode) (function_of request.args request.perm)) o ≡ None
       by_profile domain None there has = refl

@@ -1,7 +1,7 @@
 //! A play from its first turn to its end, and what it leaves.
 ghost use Rattle.std.specs.Prelude.{◌≡◌, ◌++◌, ◌≤◌, ◌+◌, [], length, if◌then◌else◌, IfOk, OnOk, flat_map, map};
 ghost use Rattle.tm_types.specs.declared.step.Take.{Take};
-ghost use Rattle.tm_core.specs.Legal.{Scene, Legal};
+ghost use Rattle.tm_core.specs.Legal.{Scene, Legal, final_policy};
 ghost use Rattle.tm_core.specs.Play.{Way, start_of, run_of, turns, work_left, Plays};
 ghost use Rattle.tm_core.specs.Stands.{IsBuilt, IsReached, IsInRound, IsOver, player_of, way_of};
 
@@ -63,6 +63,7 @@ pub fn play_out<R: Rep>(
 ) -> Result<Player<R>, NoMemory>
     requires { (scene : Scene) × IsReached scene (player_of player.machine player.walks.items) }
     ensures over { IfOk result (λ played. (scene : Scene) → IsReached scene (player_of player.machine player.walks.items) → IsOver scene (turns scene (player_of player.machine player.walks.items) schedule.now) (player_of played.machine played.walks.items)) }
+    ensures ends { IfOk result (λ played. (scene : Scene) → IsBuilt scene → player_of player.machine player.walks.items ≡ start_of scene → final_policy scene (run_of (player_of played.machine played.walks.items)) ≡ played.machine.policy) }
     ensures plays { IfOk result (λ played. (scene : Scene) → IsBuilt scene → player_of player.machine player.walks.items ≡ start_of scene → Plays scene schedule.now (run_of (player_of played.machine played.walks.items)) × Legal scene (run_of (player_of played.machine played.walks.items))) }
 {
     play_turns(alloc, &mut player, schedule)?;
