@@ -8,14 +8,10 @@ use Rattle.tm_types.specs.declared.policy.Namespace.{Namespace}
 use Rattle.tm_types.specs.declared.policy.Domain.{Domain}
 use Rattle.tm_types.specs.declared.policy.Policy.{Policy}
 use Rattle.tm_rules.specs.Policy.{kernel, profile_of}
-use Rattle.tm_forms.specs.Opening.{is_built_mode, opening_of}
+use Rattle.tm_forms.specs.Opening.{has_silent_profile, opening_of}
 
 -- a profile of the first path
 pub record IsFirstProfile (profile : Profile) : Type 0 where
-  -- a mode that is played
-  pub mode : is_built_mode profile.config.mode ≡ true
-  -- both logs are off
-  pub logs : profile.config.logs ≡ record { grant = false; reject = false }
   -- no function has a mode of its own
   pub slots : profile.slots ≡ []
 
@@ -52,6 +48,8 @@ pub record IsFirst (policy : Policy) : Type 0 where
   pub groups : domain.groups ≡ []
   -- its profile is defined
   pub profile : IsSome (profile_of policy domain)
+  -- that profile writes no log
+  pub quiet : has_silent_profile policy ≡ true
   -- the policy is opened
   pub opened : policy.opened ≡ true
   -- its entries say nothing of logs

@@ -1,16 +1,16 @@
 -- The policy that the two policy files of the first path give.
-use Rattle.std.specs.Prelude.{◌≡◌, ℕ, suc, Bool, true, false, ◌&&◌, not, List, [], ◌∷◌, Option, Some, None, Result, Ok, Err, if◌then◌else◌, is_some}
+use Rattle.std.specs.Option.{option_map_or}
+use Rattle.std.specs.Prelude.{◌≡◌, ℕ, suc, Bool, true, false, ◌&&◌, ◌||◌, not, List, [], ◌∷◌, Option, Some, None, Result, Ok, Err, if◌then◌else◌, is_some}
 use Rattle.tm_word.specs.Words.{Text}
 use Rattle.tm_types.specs.declared.entry.LineKind.{LineKind}
-use Rattle.tm_types.specs.declared.policy.Mode.{Mode}
-use Rattle.tm_types.specs.declared.policy.Setting.{Setting}
+use Rattle.tm_types.specs.declared.policy.Profile.{Profile}
 use Rattle.tm_types.specs.declared.policy.ProfileEffect.{ProfileEffect}
 use Rattle.tm_types.specs.declared.policy.DomainRule.{DomainRule}
 use Rattle.tm_types.specs.declared.policy.PolicyLine.{PolicyLine}
 use Rattle.tm_types.specs.declared.policy.Policy.{Policy}
 use Rattle.tm_types.specs.declared.step.FileKind.{FileKind}
 use Rattle.tm_rules.specs.Equality.{texts_equal}
-use Rattle.tm_rules.specs.Policy.{kernel}
+use Rattle.tm_rules.specs.Policy.{kernel, domain_at, profile_of}
 use Rattle.tm_rules.specs.Edit.{Edited, apply_parsed}
 use Rattle.tm_rules.specs.Load.{new_policy, is_done}
 use Rattle.tm_policy.specs.Lines.{read_line}
@@ -26,6 +26,7 @@ file_of Stage.Version = FileKind.Profile
 file_of Stage.Configs = FileKind.Profile
 file_of Stage.Kernel = FileKind.Domain
 file_of Stage.UseProfile = FileKind.Domain
+file_of Stage.Flag = FileKind.Domain
 file_of Stage.Files = FileKind.Domain
 
 -- the file may end here
@@ -34,6 +35,7 @@ may_end Stage.Version = false
 may_end Stage.Configs = true
 may_end Stage.Kernel = false
 may_end Stage.UseProfile = false
+may_end Stage.Flag = true
 may_end Stage.Files = true
 
 -- what comes after a line that fits
@@ -41,26 +43,11 @@ abbrev pub after_stage : Stage → Stage
 after_stage Stage.Version = Stage.Configs
 after_stage Stage.Configs = Stage.Configs
 after_stage Stage.Kernel = Stage.UseProfile
-after_stage Stage.UseProfile = Stage.Files
+after_stage Stage.UseProfile = Stage.Flag
+after_stage Stage.Flag = Stage.Files
 after_stage Stage.Files = Stage.Files
 
--- a mode that is played
-abbrev pub is_built_mode : Mode → Bool
-is_built_mode Mode.Disabled = true
-is_built_mode Mode.Learning = false
-is_built_mode Mode.Permissive = false
-is_built_mode Mode.Enforcing = true
-
--- a log is written off
-abbrev pub is_off : Option Bool → Bool
-is_off None = false
-is_off (Some log) = not log
-
--- a mode that is played, and both logs off
-abbrev pub is_built_setting : Setting → Bool
-is_built_setting setting = is_built_mode setting.mode && is_off setting.grant && is_off setting.reject
-
--- the version stands first, and every later line is a CONFIG
+-- the version stands first, and every later line is a CONFIG or a PREFERENCE
 abbrev pub effect_fits : Stage → ProfileEffect → Bool
 effect_fits Stage.Version ProfileEffect.Version = true
 effect_fits Stage.Version (ProfileEffect.Comment n text) = false
@@ -69,11 +56,12 @@ effect_fits Stage.Version (ProfileEffect.Config n setting) = false
 effect_fits Stage.Version (ProfileEffect.Slot n name setting) = false
 effect_fits Stage.Configs ProfileEffect.Version = false
 effect_fits Stage.Configs (ProfileEffect.Comment n text) = false
-effect_fits Stage.Configs (ProfileEffect.Preference n audit learning) = false
-effect_fits Stage.Configs (ProfileEffect.Config n setting) = is_built_setting setting
+effect_fits Stage.Configs (ProfileEffect.Preference n audit learning) = true
+effect_fits Stage.Configs (ProfileEffect.Config n setting) = true
 effect_fits Stage.Configs (ProfileEffect.Slot n name setting) = false
 effect_fits Stage.Kernel effect = false
 effect_fits Stage.UseProfile effect = false
+effect_fits Stage.Flag effect = false
 effect_fits Stage.Files effect = false
 
 -- `<kernel>`
@@ -109,12 +97,24 @@ is_entry (DomainRule.QuotaExceeded delete) = false
 is_entry (DomainRule.TransitionFailed delete) = false
 is_entry (DomainRule.Acl delete entry) = not delete && not (is_some entry.cond.grant_log)
 
--- `<kernel>` stands first, then its profile, and every later line is an entry
+-- `quota_exceeded`
+abbrev pub is_quota_exceeded : DomainRule → Bool
+is_quota_exceeded (DomainRule.Choose name) = false
+is_quota_exceeded (DomainRule.Select name) = false
+is_quota_exceeded (DomainRule.Delete name) = false
+is_quota_exceeded (DomainRule.UseProfile n) = false
+is_quota_exceeded (DomainRule.UseGroup delete n) = false
+is_quota_exceeded (DomainRule.QuotaExceeded delete) = not delete
+is_quota_exceeded (DomainRule.TransitionFailed delete) = false
+is_quota_exceeded (DomainRule.Acl delete entry) = false
+
+-- `<kernel>` stands first, then its profile; `quota_exceeded` may come next, and every later line is an entry
 abbrev pub rule_fits : Stage → DomainRule → Bool
 rule_fits Stage.Version rule = false
 rule_fits Stage.Configs rule = false
 rule_fits Stage.Kernel rule = is_kernel rule
 rule_fits Stage.UseProfile rule = is_use_profile rule
+rule_fits Stage.Flag rule = is_quota_exceeded rule || is_entry rule
 rule_fits Stage.Files rule = is_entry rule
 
 -- the line may stand here
@@ -146,10 +146,36 @@ stage_at number stage (Ok line) = if line_fits stage line then Ok (stage_after s
 abbrev pub edited_as : ℕ → Stage → Edited → Result Loading ℕ
 edited_as number stage done = if is_done done.reply then Ok (record { stage = stage; policy = done.policy; cursor = done.cursor }) else Err number
 
+-- the line names the domain's profile: it leads to where entries may stand
+abbrev pub names_profile : Stage → Stage → Bool
+names_profile Stage.UseProfile Stage.Version = false
+names_profile Stage.UseProfile Stage.Configs = false
+names_profile Stage.UseProfile Stage.Kernel = false
+names_profile Stage.UseProfile Stage.UseProfile = false
+names_profile Stage.UseProfile Stage.Flag = true
+names_profile Stage.UseProfile Stage.Files = true
+names_profile Stage.Version after = false
+names_profile Stage.Configs after = false
+names_profile Stage.Kernel after = false
+names_profile Stage.Flag after = false
+names_profile Stage.Files after = false
+
+-- a profile that writes no log
+abbrev pub is_silent_profile : Profile → Bool
+is_silent_profile profile = not (profile.config.logs.grant || profile.config.logs.reject)
+
+-- the first domain has a profile that writes no log
+unfoldable pub has_silent_profile : Policy → Bool
+has_silent_profile policy = option_map_or (λ domain. option_map_or is_silent_profile (profile_of policy domain) false) (domain_at policy 0) false
+
+-- the profile that a line names has to be silent
+unfoldable pub silent_or_fault : ℕ → Stage → Loading → Result Loading ℕ
+silent_or_fault number before next = if names_profile before next.stage && not (has_silent_profile next.policy) then Err number else Ok next
+
 -- a line that may stand here does what a line of a policy file does, and has to be done
 unfoldable pub load_line : ℕ → Loading → Text → Result Loading ℕ
 load_line number s line =
-    stage_at number s.stage (read_line (file_of s.stage) line) >>= (λ stage. edited_as number stage (apply_parsed s.policy s.cursor (read_line (file_of s.stage) line)))
+    stage_at number s.stage (read_line (file_of s.stage) line) >>= (λ stage. edited_as number stage (apply_parsed s.policy s.cursor (read_line (file_of s.stage) line))) >>= silent_or_fault number s.stage
 
 -- all lines of a file, the first with this number; where it ends too early, the line past the last is at fault
 unfoldable pub load_lines : ℕ → Loading → List Text → Result Policy ℕ

@@ -5,15 +5,15 @@ ghost use Rattle.tm_forms.specs.Lines.{Gives};
 ghost use Rattle.tm_forms.specs.Opened.{EveryOpeningIsFirst};
 ghost use Rattle.tm_policy.specs.Lines.{read_line};
 ghost use Rattle.tm_rules.specs.Edit.{apply_parsed};
-ghost use Rattle.tm_forms.specs.Opening.{file_of, may_end, after_stage, is_built_mode, is_off, is_built_setting, effect_fits, is_kernel, is_use_profile, is_entry, rule_fits, line_fits, stage_after, stage_at, edited_as, load_line, load_from, profile_opening, domain_opening};
+ghost use Rattle.tm_forms.specs.Opening.{file_of, may_end, after_stage, effect_fits, is_quota_exceeded, names_profile, is_silent_profile, has_silent_profile, silent_or_fault, is_kernel, is_use_profile, is_entry, rule_fits, line_fits, stage_after, stage_at, edited_as, load_line, load_from, profile_opening, domain_opening};
 
 use crate::lines::{FormFault, text_lines};
 use std::alloc::Global;
 use tm_list::{Map, NoMemory, Seq};
-use tm_policy::{apply_line, read_line};
+use tm_policy::{apply_line, domain_at, profile_of, read_line};
 use tm_rules::bytes_equal;
 use tm_types::policy::{
-    Cursor, Domain, DomainRule, Mode, Policy, PolicyLine, ProfileEffect, Setting,
+    Cursor, Domain, DomainRule, Policy, PolicyLine, Profile, ProfileEffect,
 };
 use tm_types::step::{EditReply, FileKind, LineFault};
 
@@ -28,6 +28,8 @@ enum Stage {
     Kernel,
     /// The domain's profile.
     UseProfile,
+    /// `quota_exceeded`, an entry of the domain, or the end.
+    Flag,
     /// An entry of the domain, or the end.
     Files,
 }
@@ -46,7 +48,7 @@ fn file_of(stage: Stage) -> FileKind
 {
     match stage {
         Stage::Version | Stage::Configs => FileKind::Profile,
-        Stage::Kernel | Stage::UseProfile | Stage::Files => FileKind::Domain,
+        Stage::Kernel | Stage::UseProfile | Stage::Flag | Stage::Files => FileKind::Domain,
     }
 }
 
@@ -55,7 +57,7 @@ fn may_end(stage: Stage) -> bool
     ensures { result ≡ may_end stage }
 {
     match stage {
-        Stage::Configs | Stage::Files => true,
+        Stage::Configs | Stage::Flag | Stage::Files => true,
         Stage::Version | Stage::Kernel | Stage::UseProfile => false,
     }
 }
@@ -67,35 +69,9 @@ fn after_stage(stage: Stage) -> Stage
     match stage {
         Stage::Version | Stage::Configs => Stage::Configs,
         Stage::Kernel => Stage::UseProfile,
-        Stage::UseProfile | Stage::Files => Stage::Files,
+        Stage::UseProfile => Stage::Flag,
+        Stage::Flag | Stage::Files => Stage::Files,
     }
-}
-
-/// Whether a mode is played.
-fn is_built_mode(mode: Mode) -> bool
-    ensures { result ≡ is_built_mode mode }
-{
-    match mode {
-        Mode::Disabled | Mode::Enforcing => true,
-        Mode::Learning | Mode::Permissive => false,
-    }
-}
-
-/// Whether a log is written off.
-fn is_off(log: Option<bool>) -> bool
-    ensures { result ≡ is_off log }
-{
-    match log {
-        None => false,
-        Some(log) => !log,
-    }
-}
-
-/// Whether a setting has a mode that is played and both logs off.
-fn is_built_setting(setting: &Setting) -> bool
-    ensures { result ≡ is_built_setting setting.now }
-{
-    is_built_mode(setting.mode) && is_off(setting.grant) && is_off(setting.reject)
 }
 
 /// Whether a profile line may stand here.
@@ -113,11 +89,11 @@ fn effect_fits(stage: Stage, effect: &ProfileEffect) -> bool
         Stage::Configs => match effect {
             ProfileEffect::Version => false,
             ProfileEffect::Comment(_, _) => false,
-            ProfileEffect::Preference(_, _, _) => false,
-            ProfileEffect::Config(_, setting) => is_built_setting(setting),
+            ProfileEffect::Preference(_, _, _) => true,
+            ProfileEffect::Config(_, _) => true,
             ProfileEffect::Slot(_, _, _) => false,
         },
-        Stage::Kernel | Stage::UseProfile | Stage::Files => false,
+        Stage::Kernel | Stage::UseProfile | Stage::Flag | Stage::Files => false,
     }
 }
 
@@ -169,6 +145,22 @@ fn is_entry(rule: &DomainRule) -> bool
     }
 }
 
+/// Whether a rule raises the flag `quota_exceeded`.
+fn is_quota_exceeded(rule: &DomainRule) -> bool
+    ensures { result ≡ is_quota_exceeded rule.now }
+{
+    match rule {
+        DomainRule::QuotaExceeded(delete) => !*delete,
+        DomainRule::Choose(_)
+        | DomainRule::Select(_)
+        | DomainRule::Delete(_)
+        | DomainRule::UseProfile(_)
+        | DomainRule::UseGroup(_, _)
+        | DomainRule::TransitionFailed(_)
+        | DomainRule::Acl(_, _) => false,
+    }
+}
+
 /// Whether a line of the domain policy may stand here.
 fn rule_fits(stage: Stage, rule: &DomainRule) -> bool
     ensures { result ≡ rule_fits stage rule.now }
@@ -177,6 +169,7 @@ fn rule_fits(stage: Stage, rule: &DomainRule) -> bool
         Stage::Version | Stage::Configs => false,
         Stage::Kernel => is_kernel(rule),
         Stage::UseProfile => is_use_profile(rule),
+        Stage::Flag => is_quota_exceeded(rule) || is_entry(rule),
         Stage::Files => is_entry(rule),
     }
 }
@@ -282,6 +275,53 @@ fn edit_line(
     }
 }
 
+/// Whether a line between these stages names the domain's profile: it leads to where entries may stand.
+fn names_profile(before: Stage, after: Stage) -> bool
+    ensures { result ≡ names_profile before after }
+{
+    match before {
+        Stage::UseProfile => match after {
+            Stage::Flag | Stage::Files => true,
+            Stage::Version | Stage::Configs | Stage::Kernel | Stage::UseProfile => false,
+        },
+        Stage::Version | Stage::Configs | Stage::Kernel | Stage::Flag | Stage::Files => false,
+    }
+}
+
+/// Whether a profile writes no log.
+fn is_silent_profile(profile: &Profile) -> bool
+    ensures { result ≡ is_silent_profile profile.now }
+{
+    !(profile.config.logs.grant || profile.config.logs.reject)
+}
+
+/// Whether the first domain has a profile that writes no log.
+#[tactic(auto, unfolding(crate::specs::Opening::has_silent_profile))]
+fn has_silent_profile(policy: &Policy) -> bool
+    ensures { result ≡ has_silent_profile policy.now }
+{
+    match domain_at(policy, 0) {
+        Some(domain) => match profile_of(policy, domain) {
+            Some(profile) => is_silent_profile(profile),
+            None => false,
+        },
+        None => false,
+    }
+}
+
+/// What a line has left, where the profile that it may name writes no log.
+#[tactic(auto, unfolding(crate::specs::Opening::silent_or_fault))]
+fn silent_or_fault(number: u64, before: Stage, next: Loading) -> Result<Loading, FormFault>
+    ensures { Gives result (silent_or_fault number before next) }
+{
+    if names_profile(before, next.stage) && !has_silent_profile(&next.policy) {
+        drop(next);
+        Err(FormFault::Line(number))
+    } else {
+        Ok(next)
+    }
+}
+
 /// Does a line that may stand here.
 #[tactic(auto, unfolding(crate::specs::Opening::load_line))]
 fn load_line(alloc: Global, number: u64, state: Loading, text: &[u8]) -> Result<Loading, FormFault>
@@ -289,7 +329,8 @@ fn load_line(alloc: Global, number: u64, state: Loading, text: &[u8]) -> Result<
 {
     let stage = state.stage;
     let next = stage_at(alloc, number, stage, text)?;
-    edit_line(alloc, number, file_of(stage), next, state, text)
+    let loaded = edit_line(alloc, number, file_of(stage), next, state, text)?;
+    silent_or_fault(number, stage, loaded)
 }
 
 /// Does all lines of a file that begins at this stage.
@@ -337,8 +378,8 @@ fn new_policy(alloc: Global) -> Result<Policy, NoMemory>
     })
 }
 
-/// Reads `profile`: `PROFILE_VERSION=20150505`, then lines `N-CONFIG={ mode=M grant_log=no reject_log=no }` with mode `disabled`
-/// or `enforcing`. Lines without words count and are skipped.
+/// Reads `profile`: `PROFILE_VERSION=20150505`, then lines `N-CONFIG={ mode=M grant_log=Y reject_log=Y }` and
+/// `N-PREFERENCE={ max_audit_log=K max_learning_entry=K }`. Lines without words count and are skipped.
 ///
 /// Errors: the first line outside these forms, one past the last where the version is missing, or want of memory.
 #[tactic(auto, unfolding(crate::specs::Opening::profile_opening))]
@@ -349,8 +390,8 @@ pub fn read_profile(alloc: Global, profile: &[u8]) -> Result<Policy, FormFault>
     load_from(alloc, Stage::Version, policy, profile)
 }
 
-/// Reads `domain_policy` into a policy: `<kernel>`, `use_profile N` with a profile that is defined, then lines `file P NAME` with a
-/// literal name. Lines without words count and are skipped.
+/// Reads `domain_policy` into a policy: `<kernel>`, `use_profile N` with a profile that is defined and writes no log, `quota_exceeded` or
+/// not, then lines `file P NAME` with a literal name. Lines without words count and are skipped.
 ///
 /// Errors: the first line outside these forms, one past the last where one of the first two is missing, or want of memory.
 #[tactic(auto, unfolding(crate::specs::Opening::domain_opening))]
@@ -364,8 +405,7 @@ pub fn read_domains(
     load_from(alloc, Stage::Kernel, policy, domain_policy)
 }
 
-/// A law, nothing to run: every opening has domain `<kernel>` alone, with a profile that is defined, no log that is written, and
-/// modes that are played.
+/// A law, nothing to run: every opening has domain `<kernel>` alone, with a profile that is defined and writes no log.
 pub fn first_openings()
     ensures { EveryOpeningIsFirst }
 {}

@@ -1,6 +1,6 @@
 -- What is read is built.
 use Rattle.std.proofs.Common.{◌≡◌, Bool, true, false, List, [], ◌∷◌, refl, subst}
-use Rattle.std.specs.Prelude.{Result, Ok, Err, if◌then◌else◌, codes}
+use Rattle.std.specs.Prelude.{Result, Ok, Err, Some, if◌then◌else◌, codes}
 use Rattle.tm_word.specs.Words.{Text}
 use Rattle.tm_word.specs.Spelling.{words_of}
 use Rattle.tm_types.specs.declared.entry.LineKind.{LineKind}
@@ -10,7 +10,7 @@ use Rattle.tm_types.specs.declared.policy.DomainRule.{DomainRule}
 use Rattle.tm_types.specs.declared.step.FileKind.{FileKind}
 use Rattle.tm_rules.specs.Equality.{texts_equal}
 use Rattle.tm_rules.specs.Policy.{kernel}
-use Rattle.tm_policy.specs.Lines.{◌>>=◌, word_at, keyword_at, at_end, config_number, mode_word, perms_word, name_word, profile_number, kernel_profile, silent, path_entry, config_line, profile_line, use_profile_line, file_line, domain_line, read_words, read_line, is_built}
+use Rattle.tm_policy.specs.Lines.{◌>>=◌, word_at, keyword_at, at_end, numbered, after_number, mode_word, log_word, setting, count_after, preference_line, numbered_line, perms_word, name_word, profile_number, kernel_profile, path_entry, config_line, profile_line, use_profile_line, file_line, domain_line, read_words, read_line, is_built}
 
 -- the line that this gives is built
 abbrev Builds : Result PolicyLine LineKind → Type 0
@@ -35,16 +35,28 @@ ending read (word ∷ words) h line e = absurd cc
 config-built : (words : List Text) → Builds (config_line words)
 unfolding config_line
 config-built words =
-    after (word_at config_number words) _ (λ number.
+    after (word_at (numbered (codes "-CONFIG={")) words) _ (λ number.
     after (word_at mode_word number.1) _ (λ mode.
-    after (keyword_at (codes "grant_log=no") mode.1) _ (λ grant.
-    after (keyword_at (codes "reject_log=no") grant) _ (λ reject.
-    after (keyword_at (codes "}") reject) _ (λ rest. ending (kernel_profile (ProfileEffect.Config number.0 (silent mode.0))) rest refl)))))
+    after (word_at (log_word (codes "grant_log=no") (codes "grant_log=yes")) mode.1) _ (λ grant.
+    after (word_at (log_word (codes "reject_log=no") (codes "reject_log=yes")) grant.1) _ (λ reject.
+    after (keyword_at (codes "}") reject.1) _ (λ rest. ending (kernel_profile (ProfileEffect.Config number.0 (setting mode.0 grant.0 reject.0))) rest refl)))))
+
+preference-built : (words : List Text) → Builds (preference_line words)
+unfolding preference_line
+preference-built words =
+    after (word_at (numbered (codes "-PREFERENCE={")) words) _ (λ number.
+    after (word_at (count_after (codes "max_audit_log=")) number.1) _ (λ audit.
+    after (word_at (count_after (codes "max_learning_entry=")) audit.1) _ (λ learning.
+    after (keyword_at (codes "}") learning.1) _ (λ rest. ending (kernel_profile (ProfileEffect.Preference number.0 (Some audit.0) (Some learning.0))) rest refl))))
+
+numbered-built : (word : Text) (words : List Text) → Builds (numbered_line word words)
+unfolding numbered_line
+numbered-built word words = either (texts_equal (after_number word) (codes "-PREFERENCE={")) (preference_line words) (config_line words) (preference-built words) (config-built words)
 
 profile-built : (word : Text) (words : List Text) → Builds (profile_line word words)
 unfolding profile_line
 profile-built word words =
-    either (texts_equal word (codes "PROFILE_VERSION=20150505")) (at_end (kernel_profile ProfileEffect.Version) words) (config_line (word ∷ words)) (ending (kernel_profile ProfileEffect.Version) words refl) (config-built (word ∷ words))
+    either (texts_equal word (codes "PROFILE_VERSION=20150505")) (at_end (kernel_profile ProfileEffect.Version) words) (numbered_line word (word ∷ words)) (ending (kernel_profile ProfileEffect.Version) words refl) (numbered-built word (word ∷ words))
 
 use-built : (words : List Text) → Builds (use_profile_line words)
 unfolding use_profile_line
@@ -60,10 +72,9 @@ domain-built : (word : Text) (words : List Text) → Builds (domain_line word wo
 unfolding domain_line
 domain-built word words =
     let files = either (texts_equal word (codes "file")) (file_line words) (Err LineKind.Keyword) (file-built words) (failed LineKind.Keyword) in
-    let uses = either (texts_equal word (codes "use_profile")) (use_profile_line words) (if texts_equal word (codes "file") then file_line words else Err LineKind.Keyword) (use-built words) files in
-    either (texts_equal word kernel) (at_end (PolicyLine.Domain (DomainRule.Choose kernel)) words)
-    (if texts_equal word (codes "use_profile") then use_profile_line words else (if texts_equal word (codes "file") then file_line words else Err LineKind.Keyword))
-    (ending (PolicyLine.Domain (DomainRule.Choose kernel)) words refl) uses
+    let quotas = either (texts_equal word (codes "quota_exceeded")) (at_end (PolicyLine.Domain (DomainRule.QuotaExceeded false)) words) _ (ending (PolicyLine.Domain (DomainRule.QuotaExceeded false)) words refl) files in
+    let uses = either (texts_equal word (codes "use_profile")) (use_profile_line words) _ (use-built words) quotas in
+    either (texts_equal word kernel) (at_end (PolicyLine.Domain (DomainRule.Choose kernel)) words) _ (ending (PolicyLine.Domain (DomainRule.Choose kernel)) words refl) uses
 
 words-built : (file : FileKind) (words : List Text) → Builds (read_words file words)
 unfolding read_words

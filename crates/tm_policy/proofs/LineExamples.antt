@@ -14,7 +14,7 @@ use Rattle.tm_types.specs.declared.policy.PolicyLine.{PolicyLine}
 use Rattle.tm_types.specs.declared.policy.ProfileEffect.{ProfileEffect}
 use Rattle.tm_types.specs.declared.step.FileKind.{FileKind}
 use Rattle.tm_rules.specs.Policy.{kernel}
-use Rattle.tm_policy.specs.Lines.{kernel_profile, silent, path_entry, perms_word, name_word, config_line, profile_line, use_profile_line, file_line, domain_line, read_words, read_line}
+use Rattle.tm_policy.specs.Lines.{kernel_profile, setting, path_entry, perms_word, name_word, numbered_line, after_number, preference_line, config_line, profile_line, use_profile_line, file_line, domain_line, read_words, read_line}
 
 pub empty : read_line FileKind.Manager (codes "  ") ≡ Ok PolicyLine.Nothing
 unfolding read_line words_of read_words
@@ -24,13 +24,13 @@ pub version : read_line FileKind.Profile (codes "PROFILE_VERSION=20150505") ≡ 
 unfolding read_line words_of read_words profile_line
 version = refl
 
-pub config : read_line FileKind.Profile (codes "3-CONFIG={ mode=enforcing grant_log=no reject_log=no }") ≡ Ok (kernel_profile (ProfileEffect.Config 3 (silent Mode.Enforcing)))
-unfolding read_line words_of read_words profile_line config_line number_of value_of
+pub config : read_line FileKind.Profile (codes "3-CONFIG={ mode=enforcing grant_log=no reject_log=no }") ≡ Ok (kernel_profile (ProfileEffect.Config 3 (setting Mode.Enforcing false false)))
+unfolding read_line words_of read_words profile_line numbered_line after_number config_line number_of value_of
 config = refl
 
 -- a profile has a plain decimal
 pub no_octal : read_line FileKind.Profile (codes "03-CONFIG={ mode=enforcing grant_log=no reject_log=no }") ≡ Err LineKind.Keyword
-unfolding read_line words_of read_words profile_line config_line number_of value_of
+unfolding read_line words_of read_words profile_line numbered_line after_number config_line number_of value_of
 no_octal = refl
 
 -- and it is below 256

@@ -1,5 +1,5 @@
 -- Reading a policy line: the forms built so far. Every other line is read by later stages, and until then is a bad keyword.
-use Rattle.std.specs.Prelude.{◌≡◌, ℕ, ◌==◌, nat_lt, ◌&&◌, not, if◌then◌else◌, Bool, true, false, List, [], ◌∷◌, take, drop, Option, Some, None, Result, Ok, Err, bit_or, codes}
+use Rattle.std.specs.Prelude.{◌≡◌, ℕ, ◌==◌, nat_lt, ◌&&◌, not, if◌then◌else◌, Bool, true, false, List, [], ◌∷◌, take, drop, length, Option, Some, None, Result, Ok, Err, bit_or, codes}
 use Rattle.std.specs.List.{position, slice_split}
 use Rattle.tm_word.specs.Words.{Text, Pattern}
 use Rattle.tm_word.specs.Spelling.{words_of}
@@ -70,14 +70,23 @@ profile_number word = profile_value (number_of word)
 
 -- Profile lines
 
--- what stands before `-CONFIG={`
-abbrev pub config_cut : Option ℕ → Text → Result ℕ LineKind
-config_cut None word = Err LineKind.Keyword
-config_cut (Some k) word = if texts_equal (drop k word) (codes "-CONFIG={") then profile_number (take k word) else Err LineKind.Keyword
+-- what stands from a place on, or nothing
+abbrev pub from_place : Option ℕ → Text → Text
+from_place None word = []
+from_place (Some k) word = drop k word
 
--- the number in `N-CONFIG={`
-abbrev pub config_number : Text → Result ℕ LineKind
-config_number word = config_cut (position (λ b. b == 45) word) word
+-- what stands after a profile's number: from the first `-` on
+unfoldable pub after_number : Text → Text
+after_number word = from_place (position (λ b. b == 45) word) word
+
+-- what stands before these bytes, which begin with the first `-`
+abbrev pub number_before : Text → Option ℕ → Text → Result ℕ LineKind
+number_before key None word = Err LineKind.Keyword
+number_before key (Some k) word = if texts_equal (drop k word) key then profile_number (take k word) else Err LineKind.Keyword
+
+-- the number in `N-CONFIG={` and its kin
+abbrev pub numbered : Text → Text → Result ℕ LineKind
+numbered key word = number_before key (position (λ b. b == 45) word) word
 
 -- `mode=disabled` or `mode=enforcing`, or one of the two between them
 abbrev pub mode_word : Text → Result Mode LineKind
@@ -96,29 +105,61 @@ mode_word word =
 abbrev pub kernel_profile : ProfileEffect → PolicyLine
 kernel_profile effect = PolicyLine.Profile (record { namespace = kernel; effect = effect })
 
--- a mode, with no log
-abbrev pub silent : Mode → Setting
-silent mode = record { mode = mode; grant = Some false; reject = Some false }
+-- a log that one of two words writes: the first one no, the second one yes
+abbrev pub log_word : Text → Text → Text → Result Bool LineKind
+log_word off on word = if texts_equal word off then Ok false else (if texts_equal word on then Ok true else Err LineKind.Keyword)
 
--- `N-CONFIG={ mode=M grant_log=no reject_log=no }`
+-- a mode with both logs
+abbrev pub setting : Mode → Bool → Bool → Setting
+setting mode grant reject = record { mode = mode; grant = Some grant; reject = Some reject }
+
+-- `N-CONFIG={ mode=M grant_log=Y reject_log=Y }`
 unfoldable pub config_line : List Text → Result PolicyLine LineKind
 config_line words = do
-  number ← word_at config_number words
+  number ← word_at (numbered (codes "-CONFIG={")) words
   mode ← word_at mode_word number.1
-  grant ← keyword_at (codes "grant_log=no") mode.1
-  reject ← keyword_at (codes "reject_log=no") grant
-  rest ← keyword_at (codes "}") reject
-  at_end (kernel_profile (ProfileEffect.Config number.0 (silent mode.0))) rest
+  grant ← word_at (log_word (codes "grant_log=no") (codes "grant_log=yes")) mode.1
+  reject ← word_at (log_word (codes "reject_log=no") (codes "reject_log=yes")) grant.1
+  rest ← keyword_at (codes "}") reject.1
+  at_end (kernel_profile (ProfileEffect.Config number.0 (setting mode.0 grant.0 reject.0))) rest
 
--- `PROFILE_VERSION=20150505`, or a mode
+-- a plain decimal below 2^32
+abbrev pub count_value : Result Number NumberFault → Result ℕ LineKind
+count_value (Ok n) = if same_base n.base Base.Decimal && nat_lt n.value 4294967296 then Ok n.value else Err LineKind.Keyword
+count_value (Err fault) = Err LineKind.Keyword
+
+-- the number after these bytes
+abbrev pub count_after : Text → Text → Result ℕ LineKind
+count_after key word = if texts_equal (take (length key) word) key then count_value (number_of (drop (length key) word)) else Err LineKind.Keyword
+
+-- `N-PREFERENCE={ max_audit_log=K max_learning_entry=K }`
+unfoldable pub preference_line : List Text → Result PolicyLine LineKind
+preference_line words = do
+  number ← word_at (numbered (codes "-PREFERENCE={")) words
+  audit ← word_at (count_after (codes "max_audit_log=")) number.1
+  learning ← word_at (count_after (codes "max_learning_entry=")) audit.1
+  rest ← keyword_at (codes "}") learning.1
+  at_end (kernel_profile (ProfileEffect.Preference number.0 (Some audit.0) (Some learning.0))) rest
+
+-- the line of a profile's number, by what stands after the number
+unfoldable pub numbered_line : Text → List Text → Result PolicyLine LineKind
+numbered_line word words = if texts_equal (after_number word) (codes "-PREFERENCE={") then preference_line words else config_line words
+
+-- `PROFILE_VERSION=20150505`, or a line of a profile's number
 unfoldable pub profile_line : Text → List Text → Result PolicyLine LineKind
-profile_line word words = if texts_equal word (codes "PROFILE_VERSION=20150505") then at_end (kernel_profile ProfileEffect.Version) words else config_line (word ∷ words)
+profile_line word words = if texts_equal word (codes "PROFILE_VERSION=20150505") then at_end (kernel_profile ProfileEffect.Version) words else numbered_line word (word ∷ words)
 
 -- Domain lines
 
--- the permission of a word: read stands at place 1, write at place 2
+-- the permission of a word: read stands at place 1, write at 2, append at 3, getattr at 5
 abbrev pub mask : Text → Result ℕ LineKind
-mask piece = if texts_equal piece (codes "read") then Ok 2 else (if texts_equal piece (codes "write") then Ok 4 else Err LineKind.Keyword)
+mask piece =
+    if texts_equal piece (codes "read")
+    then Ok 2
+    else
+    (if texts_equal piece (codes "write")
+    then Ok 4
+    else (if texts_equal piece (codes "append") then Ok 8 else (if texts_equal piece (codes "getattr") then Ok 32 else Err LineKind.Keyword)))
 
 -- these permissions and those of the words
 abbrev pub bits_after : ℕ → List Text → Result ℕ LineKind
@@ -160,12 +201,18 @@ use_profile_line words = do
   number ← word_at profile_number words
   at_end (PolicyLine.Domain (DomainRule.UseProfile number.0)) number.1
 
--- `<kernel>`, `use_profile N`, or `file PERMISSIONS NAME`
+-- `<kernel>`, `use_profile N`, `quota_exceeded`, or `file PERMISSIONS NAME`
 unfoldable pub domain_line : Text → List Text → Result PolicyLine LineKind
 domain_line word words =
     if texts_equal word kernel
     then at_end (PolicyLine.Domain (DomainRule.Choose kernel)) words
-    else (if texts_equal word (codes "use_profile") then use_profile_line words else (if texts_equal word (codes "file") then file_line words else Err LineKind.Keyword))
+    else 
+    (if texts_equal word (codes "use_profile")
+    then use_profile_line words
+    else
+    (if texts_equal word (codes "quota_exceeded")
+    then at_end (PolicyLine.Domain (DomainRule.QuotaExceeded false)) words
+    else (if texts_equal word (codes "file") then file_line words else Err LineKind.Keyword)))
 
 -- Lines
 
@@ -187,7 +234,7 @@ read_line file line = read_words file (words_of line)
 abbrev pub is_built_effect : ProfileEffect → Bool
 is_built_effect ProfileEffect.Version = true
 is_built_effect (ProfileEffect.Comment n text) = false
-is_built_effect (ProfileEffect.Preference n audit learning) = false
+is_built_effect (ProfileEffect.Preference n audit learning) = true
 is_built_effect (ProfileEffect.Config n setting) = true
 is_built_effect (ProfileEffect.Slot n name setting) = false
 
@@ -198,7 +245,7 @@ is_built_rule (DomainRule.Select name) = false
 is_built_rule (DomainRule.Delete name) = false
 is_built_rule (DomainRule.UseProfile n) = true
 is_built_rule (DomainRule.UseGroup delete n) = false
-is_built_rule (DomainRule.QuotaExceeded delete) = false
+is_built_rule (DomainRule.QuotaExceeded delete) = not delete
 is_built_rule (DomainRule.TransitionFailed delete) = false
 is_built_rule (DomainRule.Acl delete entry) = not delete
 

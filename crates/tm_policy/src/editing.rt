@@ -14,7 +14,7 @@ ghost use Rattle.tm_policy.specs.Lines.{read_line, is_built_effect, is_built_rul
 
 use crate::finding::{live_domain, profile_numbered};
 use crate::lines::read_line;
-use crate::placing::{add_line, put_domain};
+use crate::placing::{add_line, close_quota, put_domain};
 use std::alloc::{AllocError, Global};
 use tm_domain::namespace;
 use tm_list::{Copied, Map, NoMemory, Seq};
@@ -127,6 +127,24 @@ fn with_config(
     Ok(namespace)
 }
 
+// The namespace with the numbers of this profile set; one that isn't written keeps its value.
+#[tactic(auto, unfolding(tm_rules::specs::Edit::profile_line))]
+fn with_preference(
+    alloc: Global,
+    mut namespace: Namespace,
+    number: u8,
+    audit: Option<u32>,
+    learning: Option<u32>,
+) -> Result<Namespace, NoMemory>
+    ensures { IfOk result (λ made. made ≡ profile_line (ProfileEffect.Preference number audit learning) namespace) }
+{
+    let mut profile = profile_or_new(alloc, &namespace.profiles, number)?;
+    profile.max_audit_log = audit.unwrap_or(profile.max_audit_log);
+    profile.max_learning_entry = learning.unwrap_or(profile.max_learning_entry);
+    namespace.profiles.put(number, profile)?;
+    Ok(namespace)
+}
+
 // The namespace after a profile line.
 #[tactic(auto, unfolding(tm_rules::specs::Edit::profile_line))]
 fn profile_line(
@@ -141,7 +159,9 @@ fn profile_line(
         ProfileEffect::Version => Ok(namespace),
         ProfileEffect::Config(number, setting) => with_config(alloc, namespace, *number, setting),
         ProfileEffect::Comment(_, _) => unreachable!(),
-        ProfileEffect::Preference(_, _, _) => unreachable!(),
+        ProfileEffect::Preference(number, audit, learning) => {
+            with_preference(alloc, namespace, *number, *audit, *learning)
+        }
         ProfileEffect::Slot(_, _, _) => unreachable!(),
     }
 }
@@ -277,6 +297,21 @@ fn add_entry(
     }
 }
 
+// Raises the flag of the chosen domain whose quota is full.
+#[tactic(auto, unfolding(tm_rules::specs::Edit::domain_line))]
+fn raise_quota(policy: &mut Policy, cursor: Cursor) -> EditReply
+    ensures done { domain_line policy.old cursor (DomainRule.QuotaExceeded false) ≡ record { policy = policy.new; cursor = cursor; reply = result } }
+    ensures few { IsFew policy.old → IsFew policy.new }
+{
+    match chosen(policy, cursor) {
+        Some((place, _)) => {
+            close_quota(policy, place);
+            EditReply::Done
+        }
+        None => EditReply::NoDomain,
+    }
+}
+
 // Chooses the live domain of a name, or makes one.
 #[tactic(auto, using(crate::proofs::ShortLists::few_with_domain), unfolding(tm_rules::specs::Edit::domain_line))]
 fn choose(
@@ -327,7 +362,8 @@ fn apply_rule(
         DomainRule::Select(_) => unreachable!(),
         DomainRule::Delete(_) => unreachable!(),
         DomainRule::UseGroup(_, _) => unreachable!(),
-        DomainRule::QuotaExceeded(_) => unreachable!(),
+        DomainRule::QuotaExceeded(false) => Ok(raise_quota(policy, *cursor)),
+        DomainRule::QuotaExceeded(true) => unreachable!(),
         DomainRule::TransitionFailed(_) => unreachable!(),
     }
 }

@@ -1,7 +1,7 @@
 //! Reading a policy line: the forms built so far.
 ghost use Rattle.std.specs.Prelude.{◌≡◌, ◌==◌, ◌∷◌, IfOk};
 ghost use Rattle.std.specs.List.{position, slice_split};
-ghost use Rattle.tm_policy.specs.Lines.{Gives, word_at, keyword_at, at_end, profile_number, config_cut, config_number, mode_word, kernel_profile, config_line, profile_line, mask, bits_after, perms_word, is_group, name_word, path_entry, file_line, use_profile_line, domain_line, read_words, read_line};
+ghost use Rattle.tm_policy.specs.Lines.{Gives, word_at, keyword_at, at_end, profile_number, numbered, after_number, mode_word, log_word, kernel_profile, config_line, count_after, preference_line, numbered_line, profile_line, mask, bits_after, perms_word, is_group, name_word, path_entry, file_line, use_profile_line, domain_line, read_words, read_line};
 
 use std::alloc::Global;
 use tm_list::{NoMemory, Seq};
@@ -67,13 +67,24 @@ fn cut_of(word: &[u8]) -> Option<usize>
     word.iter().position(|byte| *byte == b'-')
 }
 
-// The number in `N-CONFIG={`.
-fn config_number(word: &[u8]) -> Result<u8, LineFault>
-    ensures { Gives (λ x. x) result (config_number word.now) }
+// What stands after a profile's number: from the first `-` on.
+#[tactic(auto, unfolding(crate::specs::Lines::after_number))]
+fn after_number(word: &[u8]) -> &[u8]
+    ensures { result.now ≡ after_number word.now }
+{
+    match cut_of(word) {
+        Some(place) => &word[place..],
+        None => &[],
+    }
+}
+
+// The number before these bytes, which begin with the first `-`.
+fn numbered(key: &[u8], word: &[u8]) -> Result<u8, LineFault>
+    ensures { Gives (λ x. x) result (numbered key.now word.now) }
 {
     match cut_of(word) {
         Some(place) => {
-            if bytes_equal(&word[place..], b"-CONFIG={") {
+            if bytes_equal(&word[place..], key) {
                 profile_number(&word[..place])
             } else {
                 Err(LineFault::Kind(LineKind::Keyword))
@@ -83,12 +94,12 @@ fn config_number(word: &[u8]) -> Result<u8, LineFault>
     }
 }
 
-fn config_number_at(words: &[Text]) -> Result<(u8, &[Text]), LineFault>
-    ensures { Gives (λ x. (x.0, x.1.now)) result (word_at config_number words.now) }
+fn numbered_at<'a>(key: &[u8], words: &'a [Text]) -> Result<(u8, &'a [Text]), LineFault>
+    ensures { Gives (λ x. (x.0, x.1.now)) result (word_at (numbered key.now) words.now) }
 {
     match words {
         [] => Err(LineFault::Kind(LineKind::Keyword)),
-        [word, rest @ ..] => Ok((config_number(word.bytes())?, rest)),
+        [word, rest @ ..] => Ok((numbered(key, word.bytes())?, rest)),
     }
 }
 
@@ -128,6 +139,56 @@ fn mode_at(words: &[Text]) -> Result<(Mode, &[Text]), LineFault>
     }
 }
 
+// The log that one of two words writes: the first one no, the second one yes.
+fn log_at<'a>(off: &[u8], on: &[u8], words: &'a [Text]) -> Result<(bool, &'a [Text]), LineFault>
+    ensures { Gives (λ x. (x.0, x.1.now)) result (word_at (log_word off.now on.now) words.now) }
+{
+    match words {
+        [] => Err(LineFault::Kind(LineKind::Keyword)),
+        [word, rest @ ..] => {
+            if bytes_equal(word.bytes(), off) {
+                return Ok((false, rest));
+            }
+            if bytes_equal(word.bytes(), on) {
+                return Ok((true, rest));
+            }
+            Err(LineFault::Kind(LineKind::Keyword))
+        }
+    }
+}
+
+// The plain number below 2^32 after these bytes.
+fn count_after(key: &[u8], word: &[u8]) -> Result<u32, LineFault>
+    ensures { Gives (λ x. x) result (count_after key.now word.now) }
+{
+    if word.len() < key.len() || !bytes_equal(&word[..key.len()], key) {
+        return Err(LineFault::Kind(LineKind::Keyword));
+    }
+    match read_number(&word[key.len()..]) {
+        Ok(number) => match number.base {
+            Base::Decimal => {
+                if number.value < 4294967296 {
+                    Ok(number.value as u32)
+                } else {
+                    Err(LineFault::Kind(LineKind::Keyword))
+                }
+            }
+            Base::Octal => Err(LineFault::Kind(LineKind::Keyword)),
+            Base::Hex => Err(LineFault::Kind(LineKind::Keyword)),
+        },
+        Err(_) => Err(LineFault::Kind(LineKind::Keyword)),
+    }
+}
+
+fn count_at<'a>(key: &[u8], words: &'a [Text]) -> Result<(u32, &'a [Text]), LineFault>
+    ensures { Gives (λ x. (x.0, x.1.now)) result (word_at (count_after key.now) words.now) }
+{
+    match words {
+        [] => Err(LineFault::Kind(LineKind::Keyword)),
+        [word, rest @ ..] => Ok((count_after(key, word.bytes())?, rest)),
+    }
+}
+
 // A profile line of the namespace `<kernel>`.
 fn kernel_profile(alloc: Global, effect: ProfileEffect) -> Result<PolicyLine, NoMemory>
     ensures { IfOk result (λ line. line ≡ kernel_profile effect) }
@@ -140,20 +201,48 @@ fn kernel_profile(alloc: Global, effect: ProfileEffect) -> Result<PolicyLine, No
 fn config_line(alloc: Global, words: &[Text]) -> Result<PolicyLine, LineFault>
     ensures { Gives (λ x. x) result (config_line words.now) }
 {
-    let (number, rest) = config_number_at(words)?;
+    let (number, rest) = numbered_at(b"-CONFIG={", words)?;
     let (mode, rest) = mode_at(rest)?;
-    let rest = keyword_at(b"grant_log=no", rest)?;
-    let rest = keyword_at(b"reject_log=no", rest)?;
+    let (grant, rest) = log_at(b"grant_log=no", b"grant_log=yes", rest)?;
+    let (reject, rest) = log_at(b"reject_log=no", b"reject_log=yes", rest)?;
     let rest = keyword_at(b"}", rest)?;
     let setting = Setting {
         mode,
-        grant: Some(false),
-        reject: Some(false),
+        grant: Some(grant),
+        reject: Some(reject),
     };
     at_end(
         kernel_profile(alloc, ProfileEffect::Config(number, setting))?,
         rest,
     )
+}
+
+#[tactic(auto, unfolding(crate::specs::Lines::preference_line))]
+fn preference_line(alloc: Global, words: &[Text]) -> Result<PolicyLine, LineFault>
+    ensures { Gives (λ x. x) result (preference_line words.now) }
+{
+    let (number, rest) = numbered_at(b"-PREFERENCE={", words)?;
+    let (audit, rest) = count_at(b"max_audit_log=", rest)?;
+    let (learning, rest) = count_at(b"max_learning_entry=", rest)?;
+    let rest = keyword_at(b"}", rest)?;
+    at_end(
+        kernel_profile(
+            alloc,
+            ProfileEffect::Preference(number, Some(audit), Some(learning)),
+        )?,
+        rest,
+    )
+}
+
+#[tactic(auto, unfolding(crate::specs::Lines::numbered_line))]
+fn numbered_line(alloc: Global, word: &[u8], words: &[Text]) -> Result<PolicyLine, LineFault>
+    ensures { Gives (λ x. x) result (numbered_line word.now words.now) }
+{
+    if bytes_equal(after_number(word), b"-PREFERENCE={") {
+        preference_line(alloc, words)
+    } else {
+        config_line(alloc, words)
+    }
 }
 
 #[tactic(auto, unfolding(crate::specs::Lines::profile_line))]
@@ -169,7 +258,7 @@ fn profile_line(
     if bytes_equal(word, b"PROFILE_VERSION=20150505") {
         at_end(kernel_profile(alloc, ProfileEffect::Version)?, rest)
     } else {
-        config_line(alloc, words)
+        numbered_line(alloc, word, words)
     }
 }
 
@@ -182,6 +271,12 @@ fn mask(piece: &[u8]) -> Result<u16, LineFault>
     }
     if bytes_equal(piece, b"write") {
         return Ok(4);
+    }
+    if bytes_equal(piece, b"append") {
+        return Ok(8);
+    }
+    if bytes_equal(piece, b"getattr") {
+        return Ok(32);
     }
     Err(LineFault::Kind(LineKind::Keyword))
 }
@@ -311,6 +406,9 @@ fn domain_line(alloc: Global, word: &[u8], words: &[Text]) -> Result<PolicyLine,
     if bytes_equal(word, b"use_profile") {
         return use_profile_line(words);
     }
+    if bytes_equal(word, b"quota_exceeded") {
+        return at_end(PolicyLine::Domain(DomainRule::QuotaExceeded(false)), words);
+    }
     if bytes_equal(word, b"file") {
         return file_line(alloc, words);
     }
@@ -333,8 +431,9 @@ fn read_words(alloc: Global, file: FileKind, words: &[Text]) -> Result<PolicyLin
 }
 
 /// Reads a line of a policy file, in the forms built so far: a line without words in every file; `PROFILE_VERSION=20150505` and
-/// `N-CONFIG={ mode=M grant_log=no reject_log=no }` in the profile file; `<kernel>`, `use_profile N` and `file PERMISSIONS NAME`,
-/// with permissions of `read` and `write` and a literal name, in the domain file.
+/// `N-CONFIG={ mode=M grant_log=Y reject_log=Y }` and `N-PREFERENCE={ max_audit_log=K max_learning_entry=K }` in the profile file;
+/// `<kernel>`, `use_profile N`, `quota_exceeded` and `file PERMISSIONS NAME`, with permissions of `read`, `write`, `append` and `getattr`
+/// and a literal name, in the domain file.
 ///
 /// Errors: the kind `Keyword` for every other line, or want of memory.
 #[tactic(auto, unfolding(crate::specs::Lines::read_line))]
