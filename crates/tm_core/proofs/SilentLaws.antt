@@ -35,7 +35,7 @@ all_get P [] k x all at = absurd cc
 all_get P (y ∷ ys) zero x all at = subst P (let e : y ≡ x = cc in e) all.0
 all_get P (y ∷ ys) (suc k) x all at = all_get P ys k x all.1 at
 
-all_find : {A : Type 0} (P : A → Type 0) (t : A → Bool) (xs : List A) (x : A) → AllByRecursion P xs → find t xs ≡ Some x → P x
+pub all_find : {A : Type 0} (P : A → Type 0) (t : A → Bool) (xs : List A) (x : A) → AllByRecursion P xs → find t xs ≡ Some x → P x
 all_find P t [] x all at = absurd cc
 all_find P t (y ∷ ys) x all at = go (t y) at (all_find P t ys x all.1)
   where
@@ -43,7 +43,7 @@ all_find P t (y ∷ ys) x all at = go (t y) at (all_find P t ys x all.1)
     go true is later = subst P (let same : y ≡ x = cc in same) all.0
     go false is later = later is
 
-all_rank : {K V : Type 0} (P : K × V → Type 0) (Q : V → Type 0) (rank : K → ℕ) (n : ℕ) (xs : List (K × V)) (x : V) → ((pair : K × V) → P pair → Q pair.1) → AllByRecursion P xs → at_rank rank n xs ≡ Some x → Q x
+pub all_rank : {K V : Type 0} (P : K × V → Type 0) (Q : V → Type 0) (rank : K → ℕ) (n : ℕ) (xs : List (K × V)) (x : V) → ((pair : K × V) → P pair → Q pair.1) → AllByRecursion P xs → at_rank rank n xs ≡ Some x → Q x
 all_rank P Q rank n [] x gives all at = absurd cc
 all_rank P Q rank n (y ∷ ys) x gives all at = go (rank y.0 == n) at (all_rank P Q rank n ys x gives all.1)
   where

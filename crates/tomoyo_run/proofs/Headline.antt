@@ -1,5 +1,5 @@
 -- What a call that is done has stored, and what every call leaves.
-use Rattle.std.proofs.Common.{◌≡◌, ◌∙◌, ℕ, ◌∷◌, [], List, true, false, Ok, ap, refl, subst}
+use Rattle.std.proofs.Common.{◌≡◌, ◌∙◌, ℕ, ◌∷◌, [], ◌++◌, List, take, drop, true, false, Ok, ap, refl, subst}
 use Rattle.tm_io.specs.declared.names.FileName.{FileName}
 use Rattle.tm_io.specs.Names.{same_name}
 use Rattle.tm_io.specs.Files.{FileState, changed}
@@ -9,12 +9,12 @@ use Rattle.tomoyo_run.specs.declared.status.OutName.{OutName}
 use Rattle.tomoyo_run.specs.declared.carry.Outcome.{Outcome}
 use Rattle.tomoyo_run.specs.declared.words.Command.{Command}
 use Rattle.tomoyo_run.specs.Fetches.{Texts, IsTold, TellsAll}
-use Rattle.tomoyo_run.specs.Stores.{Leaves, names_of, is_named}
+use Rattle.tomoyo_run.specs.Stores.{stored, Leaves, names_of, is_named}
 use Rattle.tomoyo_run.specs.Ends.{Outside, Ends, CarriedOut}
 use Rattle.tomoyo_run.specs.Play.{Refuses, Plays}
-use Rattle.tomoyo_run.specs.Call.{wants_of, stored_by, Allows, IsPlayed, HasPlayed}
+use Rattle.tomoyo_run.specs.Call.{wants_of, stored_by, step_stores, Allows, IsPlayed, HasPlayed}
 use Rattle.tomoyo_run.proofs.Refusals.{refusal-kind, names-allowed}
-use Rattle.tomoyo_run.proofs.Others.{leaves-other, cut-other, first-other}
+use Rattle.tomoyo_run.proofs.Others.{changed-other, not-first, not-later, stored-other, leaves-other, cut-other, first-other}
 use Rattle.tomoyo_run.proofs.Told.{texts-told}
 
 -- files that the outcome doesn't store
@@ -46,17 +46,31 @@ changed-self stored bytes FileState.Untold is e = absurd is
 changed-self stored bytes FileState.Missing is e = rw e refl
 changed-self stored bytes (FileState.Holds held) is e = rw e refl
 
+-- a file that is stored once among others holds its text
+stored-holds : (before after : Texts) (name : FileName) (bytes : List ℕ) (state : FileState) → IsTold state → same_name name name ≡ true → is_named (names_of before) name ≡ false → is_named (names_of after) name ≡ false → stored (before ++ (name, bytes) ∷ after) name state ≡ FileState.Holds bytes
+stored-holds [] after name bytes state told self none later = ap (stored after name) (changed-self name bytes state told self) ∙ stored-other after name (FileState.Holds bytes) later
+stored-holds (s ∷ before) after name bytes state told self none later =
+    ap (stored (before ++ (name, bytes) ∷ after) name) (changed-other s.0 s.1 name state (not-first (same_name s.0 name) (is_named (names_of before) name) none))
+    ∙ stored-holds before after name bytes state told self (not-later (same_name s.0 name) (is_named (names_of before) name) none) later
+
 -- a step that is done
 step-done : (old new : Outside) → Ends (wants_of Command.Step) Refuses (Allows Command.Step) old new Status.Done → TellsAll old.files → IsPlayed old new
 step-done old new (Ends.Not_fetched stops untouched) tells = absurd stops.cause
 step-done old new (Ends.Refused texts given refused untouched) tells = absurd (refusal-kind texts Status.Done refused)
 step-done old new (Ends.Made texts outcome given allowed carried) tells =
     let played = allowed.1 in
-    let leaves : Leaves ((FileName.Run, played.run) ∷ []) old.files new.files = subst (λ (o : Outcome). Leaves o.stores old.files new.files) allowed.3 carried.0 in
+    let leaves : Leaves (step_stores played) old.files new.files = subst (λ (o : Outcome). Leaves o.stores old.files new.files) allowed.3 carried.0 in
     record {
       played = played;
       plays = subst (λ (ts : Texts). Plays ts played) (texts-told old.files (wants_of Command.Step) texts tells given) allowed.2;
-      run = leaves FileName.Run ∙ changed-self FileName.Run played.run (old.files FileName.Run) (tells FileName.Run) refl;
+      stored = (
+        leaves FileName.Run ∙ stored-holds [] (drop 1 (step_stores played)) FileName.Run played.run (old.files FileName.Run) (tells FileName.Run) refl refl refl,
+        leaves FileName.Audit ∙ stored-holds (take 1 (step_stores played)) (drop 2 (step_stores played)) FileName.Audit played.audit (old.files FileName.Audit) (tells FileName.Audit) refl refl refl,
+        leaves FileName.ProfileNew ∙ stored-holds (take 2 (step_stores played)) (drop 3 (step_stores played)) FileName.ProfileNew played.policy.profile (old.files FileName.ProfileNew) (tells FileName.ProfileNew) refl refl refl,
+        leaves FileName.DomainPolicyNew ∙ stored-holds (take 3 (step_stores played)) (drop 4 (step_stores played)) FileName.DomainPolicyNew played.policy.domain (old.files FileName.DomainPolicyNew) (tells FileName.DomainPolicyNew) refl refl refl,
+        leaves FileName.ManagerNew ∙ stored-holds (take 4 (step_stores played)) (drop 5 (step_stores played)) FileName.ManagerNew played.policy.manager (old.files FileName.ManagerNew) (tells FileName.ManagerNew) refl refl refl,
+        tt,
+      );
       summary = carried.1 ∙ ap (λ (o : Outcome). then_bytes o.line old.written) allowed.3;
     }
 

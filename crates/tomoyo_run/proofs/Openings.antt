@@ -1,7 +1,7 @@
--- A first opening and a plain trace can be played, and the play makes no step.
-use Rattle.std.proofs.Common.{◌≡◌, ℕ, zero, suc, Bool, true, false, ◌&&◌, not, List, [], ◌∷◌, refl, sym, ap, ◌∙◌, subst}
+-- A first opening and a plain trace can be played.
+use Rattle.std.proofs.Common.{◌≡◌, ℕ, zero, suc, Bool, true, false, ◌&&◌, ◌||◌, not, List, [], ◌∷◌, refl, sym, ap, ◌∙◌, subst}
 use Rattle.std.specs.Prelude.{Option, Some, None, IsSome, IsTrue, slice_get, unwrap_or}
-use Rattle.std.specs.List.{AllByRecursion, list_all, position_from}
+use Rattle.std.specs.List.{AllByRecursion, list_all, position_from, find}
 use Rattle.tm_word.specs.Words.{Text, Word, Pattern}
 use Rattle.tm_types.specs.declared.policy.SlotName.{SlotName}
 use Rattle.tm_types.specs.declared.policy.Config.{Config}
@@ -16,10 +16,12 @@ use Rattle.tm_rules.specs.Words.{Trace}
 use Rattle.tm_rules.specs.Grammar.{Grammar}
 use Rattle.tm_rules.specs.Equality.{texts_equal}
 use Rattle.tm_rules.specs.Condition.{is_execute, is_manual}
-use Rattle.tm_rules.specs.Policy.{kernel, domain_at, profile_of, live_domain}
+use Rattle.tm_rules.specs.Policy.{kernel, domain_at, profile_of, live_domain, namespace_named, namespace_word, empty_namespace, at_key}
 use Rattle.tm_rules.specs.Requests.{begins_with_byte, item_is_request}
 use Rattle.tm_rules.proofs.EqualityLaws.{same_texts}
-use Rattle.tm_forms.specs.Opening.{is_built_mode}
+use Rattle.tm_types.specs.declared.policy.Logs.{Logs}
+use Rattle.tm_core.proofs.SilentLaws.{all_find, all_rank}
+use Rattle.tm_forms.specs.Opening.{is_silent_profile, has_silent_profile}
 use Rattle.tm_forms.specs.Opened.{IsFirst, IsFirstNamespace, IsFirstProfile, IsSilent}
 use Rattle.tm_core.specs.Silent.{no_logs, IsSilentProfile, IsSilentEntry}
 use Rattle.tm_core.specs.Silent as silent
@@ -28,7 +30,7 @@ use Rattle.tm_types.specs.declared.entry.Entry.{Entry}
 use Rattle.tm_forms.specs.TraceForms.{IsPlain, IsPlainItem, IsPlainTree, IsPlainTrace}
 use Rattle.tm_core.specs.Legal.{Scene}
 use Rattle.tm_core.specs.Play.{IsGrammar, IsOpened, CanPlay, IsAlone}
-use Rattle.tm_core.specs.Still.{is_still_mode, is_still_profile, is_still_policy, is_plain_request, is_plain_item, is_plain_trace}
+use Rattle.tm_core.specs.Still.{is_plain_request, is_plain_item, is_plain_trace}
 use Rattle.tomoyo_run.specs.Play.{alone}
 
 -- the only element of a list
@@ -58,27 +60,6 @@ is_opened policy first =
       profiles = λ d x h live. subst (λ y. IsSome (profile_of policy y)) (only policy.domains first.domain x d first.domains h).1 first.profile;
       aggregators = each IsFirstNamespace (λ (ns : Namespace). AllByRecursion (λ (pair : Pattern × Word). begins_with_byte 47 pair.1 ≡ true) ns.aggregators) (λ ns h. subst (λ xs. AllByRecursion (λ (pair : Pattern × Word). begins_with_byte 47 pair.1 ≡ true) xs) (sym h.aggregators) tt) policy.namespaces first.namespaces;
     }
-
-still_mode : (mode : Mode) → is_built_mode mode ≡ true → is_still_mode mode ≡ true
-still_mode Mode.Disabled h = refl
-still_mode Mode.Learning h = absurd cc
-still_mode Mode.Permissive h = absurd cc
-still_mode Mode.Enforcing h = refl
-
-still_profile : (profile : Profile) → IsFirstProfile profile → is_still_profile profile ≡ true
-still_profile profile h =
-    let slots : list_all (λ (pair : SlotName × Config). is_still_mode pair.1.mode) profile.slots ≡ true = ap (λ xs. list_all (λ (pair : SlotName × Config). is_still_mode pair.1.mode) xs) h.slots in
-    all (is_still_mode profile.config.mode) (list_all (λ (pair : SlotName × Config). is_still_mode pair.1.mode) profile.slots) (still_mode profile.config.mode h.mode) slots
-  where
-    all : (a b : Bool) → a ≡ true → b ≡ true → (a && b) ≡ true
-    all true b p q = q
-    all false b p q = p
-
-pub still_policy : (policy : Policy) → IsFirst policy → is_still_policy policy ≡ true
-still_policy policy first =
-    each_test IsFirstNamespace (λ (ns : Namespace). list_all (λ (pair : ℕ × Profile). is_still_profile pair.1) ns.profiles)
-    (λ ns h. each_test (λ (pair : ℕ × Profile). IsFirstProfile pair.1) (λ (pair : ℕ × Profile). is_still_profile pair.1) (λ pair p. still_profile pair.1 p) ns.profiles h.profiles)
-    policy.namespaces first.namespaces
 
 plain_item : (is_path : Text → Bool) (own : ℕ) (item : Item) → IsPlainItem is_path own item → is_plain_item item ≡ true
 plain_item is_path own (Item.Do pid request) h = rw (h.1.execute, h.1.manual) refl
@@ -119,11 +100,37 @@ can_play g policy trace grammar first plain =
 pub is_alone : (g : Grammar) (policy : Policy) (trace : Trace) → IsAlone (alone g policy trace)
 is_alone g policy trace = record { book = refl; editors = refl }
 
-silent_profile : (profile : Profile) → IsFirstProfile profile → IsSilentProfile profile
-silent_profile profile h =
+-- what a first namespace gives by number is a first profile
+first_profile : (policy : Policy) (domain : Domain) (profile : Profile) → AllByRecursion IsFirstNamespace policy.namespaces → profile_of policy domain ≡ Some profile → IsFirstProfile profile
+unfolding namespace_named
+first_profile policy domain profile all has = go (find (λ (ns : Namespace). texts_equal ns.name (namespace_word domain.name)) policy.namespaces) refl has
+  where
+    go : (o : Option Namespace) → find (λ (ns : Namespace). texts_equal ns.name (namespace_word domain.name)) policy.namespaces ≡ o → at_key (unwrap_or o (empty_namespace (namespace_word domain.name))).profiles domain.profile ≡ Some profile → IsFirstProfile profile
+    go None e is = absurd cc
+    go (Some ns) e is =
+        all_rank (λ (pair : ℕ × Profile). IsFirstProfile pair.1) IsFirstProfile (λ n. n) domain.profile ns.profiles profile (λ pair h. h)
+        (all_find IsFirstNamespace (λ (ns : Namespace). texts_equal ns.name (namespace_word domain.name)) policy.namespaces ns all e).profiles is
+
+-- both logs are off
+no_logs_of : (logs : Logs) → not (logs.grant || logs.reject) ≡ true → logs ≡ no_logs
+no_logs_of logs h = go logs.grant logs.reject refl refl h
+  where
+    go : (a b : Bool) → logs.grant ≡ a → logs.reject ≡ b → not (a || b) ≡ true → logs ≡ no_logs
+    go false false e f h = rw (sym e, sym f) refl
+    go false true e f h = absurd cc
+    go true b e f h = absurd cc
+
+-- the first domain's profile is silent
+quiet_profile : (policy : Policy) (domain : Domain) (profile : Profile) → policy.domains ≡ domain ∷ [] → has_silent_profile policy ≡ true → profile_of policy domain ≡ Some profile → is_silent_profile profile ≡ true
+unfolding has_silent_profile
+quiet_profile policy domain profile one quiet has = rw (one, has) at quiet
+
+silent_profile : (policy : Policy) (first : IsFirst policy) (profile : Profile) → profile_of policy first.domain ≡ Some profile → IsSilentProfile profile
+silent_profile policy first profile has =
+    let slots = (first_profile policy first.domain profile first.namespaces has).slots in
     record {
-      config = h.logs;
-      slots = subst (λ xs. AllByRecursion (λ (pair : SlotName × Config). pair.1.logs ≡ no_logs) xs) (sym h.slots) tt;
+      config = no_logs_of profile.config.logs (quiet_profile policy first.domain profile first.domains first.quiet has);
+      slots = subst (λ xs. AllByRecursion (λ (pair : SlotName × Config). pair.1.logs ≡ no_logs) xs) (sym slots) tt;
     }
 
 silent_entry : (entry : Entry) → IsSilent entry → IsSilentEntry entry
@@ -132,7 +139,7 @@ silent_entry entry h = ap (λ o. unwrap_or o false) h
 silent_policy : (policy : Policy) → IsFirst policy → silent.IsSilent policy
 silent_policy policy first =
     record {
-      profiles = each IsFirstNamespace (λ (ns : Namespace). AllByRecursion (λ (pair : ℕ × Profile). IsSilentProfile pair.1) ns.profiles) (λ ns h. each (λ (pair : ℕ × Profile). IsFirstProfile pair.1) (λ (pair : ℕ × Profile). IsSilentProfile pair.1) (λ pair p. silent_profile pair.1 p) ns.profiles h.profiles) policy.namespaces first.namespaces;
+      profiles = subst (λ xs. AllByRecursion (λ (domain : Domain). (profile : Profile) → profile_of policy domain ≡ Some profile → IsSilentProfile profile) xs) (sym first.domains) (silent_profile policy first, tt);
       entries = subst (λ xs. AllByRecursion (λ (domain : Domain). AllByRecursion IsSilentEntry domain.entries) xs) (sym first.domains) (each IsSilent IsSilentEntry silent_entry first.domain.entries first.silent, tt);
       acl_entries = each IsFirstNamespace (λ (ns : Namespace). AllByRecursion (λ (pair : ℕ × List Entry). AllByRecursion IsSilentEntry pair.1) ns.acl_groups) (λ ns h. subst (λ xs. AllByRecursion (λ (pair : ℕ × List Entry). AllByRecursion IsSilentEntry pair.1) xs) (sym h.acl_groups) tt) policy.namespaces first.namespaces;
     }
@@ -143,7 +150,6 @@ is_built g policy trace grammar first plain =
     record {
       alone = is_alone g policy trace;
       can = can_play g policy trace grammar first plain;
-      still = still_policy policy first;
       plain = plain_trace g.is_path trace plain;
       silent = silent_policy policy first;
     }

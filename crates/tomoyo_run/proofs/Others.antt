@@ -14,11 +14,11 @@ changed-other other bytes name FileState.Missing e = rw e refl
 changed-other other bytes name (FileState.Holds held) e = rw e refl
 
 -- a name that isn't in a list differs from each of its names
-not-first : (same : Bool) (others : Bool) → (if same then true else others) ≡ false → same ≡ false
+pub not-first : (same : Bool) (others : Bool) → (if same then true else others) ≡ false → same ≡ false
 not-first true others e = e
 not-first false others e = refl
 
-not-later : (same : Bool) (others : Bool) → (if same then true else others) ≡ false → others ≡ false
+pub not-later : (same : Bool) (others : Bool) → (if same then true else others) ≡ false → others ≡ false
 not-later true others e = cc
 not-later false others e = e
 

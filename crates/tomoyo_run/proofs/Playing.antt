@@ -17,8 +17,6 @@ use Rattle.tm_core.specs.Play.{IsGrammar, IsAlone, Player, start_of, run_of, tur
 use Rattle.tm_core.specs.Play as core
 use Rattle.tm_core.specs.Stands.{IsBuilt, IsReached}
 use Rattle.tm_core.proofs.Playable.{bare, bare-is}
-use Rattle.tm_core.proofs.Still.{still_plays_make_no_step, still_plays_keep_the_policy}
-use Rattle.tm_rerun.specs.Summary.{summary_text}
 use Rattle.tm_forms.specs.Opening.{profile_opening, domain_opening, opening_of, with_domains, opened_or_fault}
 use Rattle.tm_forms.specs.Opened.{IsFirst}
 use Rattle.tm_forms.proofs.OpeningLaws.{every_opening_is_first}
@@ -28,7 +26,7 @@ use Rattle.tomoyo_run.specs.declared.forms.Loaded.{Loaded}
 use Rattle.tomoyo_run.specs.declared.play.Played.{Played}
 use Rattle.tomoyo_run.specs.Fetches.{Texts, content}
 use Rattle.tomoyo_run.specs.Forms.{IsLoaded}
-use Rattle.tomoyo_run.specs.Play.{alone, opened, CanBePlayed, IsPlayOf, PlaysOn, PlaysLoaded, Plays}
+use Rattle.tomoyo_run.specs.Play.{alone, opened, CanBePlayed, IsPlayOf, PlaysOn, PlaysLoaded, IsPrinted, Plays}
 use Rattle.tomoyo_run.proofs.Openings.{is_alone, is_built}
 
 -- what was loaded is the opening, once it is opened
@@ -67,20 +65,16 @@ reached policy trace player can starts =
     (scene, record { built = can.built bare bare-is; schedule = []; led = starts scene (is_alone bare (opened policy) trace) refl refl })
 
 -- the run of a player that was played out from such a start
-pub plays_on : (policy : Policy) (trace : Trace) (run : Run) (player : Player) → CanBePlayed policy trace
+pub plays_on : (policy : Policy) (trace : Trace) (run : Run) (last : Policy) (player : Player) → CanBePlayed policy trace
     → ((scene : Scene) → IsAlone scene → scene.policy ≡ opened policy → scene.trace ≡ trace → player ≡ start_of scene)
     → ((scene : Scene) → IsBuilt scene → player ≡ start_of scene → core.Plays scene [] run × Legal scene run)
-    → PlaysOn (opened policy) trace run
-plays_on policy trace run player can starts out =
+    → ((scene : Scene) → IsBuilt scene → player ≡ start_of scene → final_policy scene run ≡ last)
+    → PlaysOn (opened policy) trace run last
+plays_on policy trace run last player can starts out ends =
     let of : (g : Grammar) → IsGrammar g → core.Plays (alone g (opened policy) trace) [] run × Legal (alone g (opened policy) trace) run = λ g grammar. out (alone g (opened policy) trace) (can.built g grammar) (starts (alone g (opened policy) trace) (is_alone g (opened policy) trace) refl refl) in
     record {
       is_play = record { plays = λ g grammar. (of g grammar).0; is_legal = λ g grammar. (of g grammar).1 };
-      no_step =
-          let built = can.built bare bare-is in
-          still_plays_make_no_step (alone bare (opened policy) trace) [] run built.alone built.can built.still built.plain (of bare bare-is).0;
-      kept = λ g grammar.
-          let built = can.built g grammar in
-          still_plays_keep_the_policy (alone g (opened policy) trace) [] run built.alone built.can built.still built.plain (of g grammar).0;
+      ends = λ g grammar. ends (alone g (opened policy) trace) (can.built g grammar) (starts (alone g (opened policy) trace) (is_alone g (opened policy) trace) refl refl);
     }
 
 -- what was played of what was loaded is what the files ask for
@@ -93,6 +87,5 @@ plays_texts texts loaded played h it =
       loads = loads texts loaded h;
       spells = h.trace_is;
       is_play = it.plays.is_play;
-      run_is = it.run_is;
-      summary_is = λ g grammar. it.summary_is ∙ ap (λ last. summary_text it.run (opened loaded.policy) last) (sym (it.plays.kept g grammar));
+      texts = λ g grammar. subst (λ (last : Policy). IsPrinted it.run (opened loaded.policy) last played) (sym (it.plays.ends g grammar)) it.texts;
     }

@@ -1,5 +1,6 @@
 -- The top call: what each command reads, stores and allows, and the cause of each status.
 use Rattle.std.specs.Prelude.{◌≡◌, ℕ, ◌⊎◌, List, [], ◌∷◌, Result, Ok, Err, Bool, true, false, Option, Some, None, ⊤}
+use Rattle.std.specs.List.{AllByRecursion}
 use Rattle.tm_io.specs.declared.names.FileName.{FileName}
 use Rattle.tm_io.specs.Causes.{Rose}
 use Rattle.tm_io.specs.Bytes.{then_bytes}
@@ -26,11 +27,17 @@ wants_of Command.Step =
 
 -- the files that a command stores, in order
 abbrev pub stored_by : Command → List FileName
-stored_by Command.Step = FileName.Run ∷ []
+stored_by Command.Step = FileName.Run ∷ FileName.Audit ∷ FileName.ProfileNew ∷ FileName.DomainPolicyNew ∷ FileName.ManagerNew ∷ []
+
+-- what `step` stores, in order
+abbrev pub step_stores : Played → Texts
+step_stores played =
+    (FileName.Run, played.run) ∷ (FileName.Audit, played.audit) ∷ (FileName.ProfileNew, played.policy.profile) ∷ (FileName.DomainPolicyNew, played.policy.domain)
+    ∷ (FileName.ManagerNew, played.policy.manager) ∷ []
 
 -- what a command stores and puts of what was played
 abbrev pub outcome_of : Command → Played → Outcome
-outcome_of Command.Step played = record { stores = (FileName.Run, played.run) ∷ []; line = played.summary }
+outcome_of Command.Step played = record { stores = step_stores played; line = played.summary }
 
 -- the outcomes that a command may have
 abbrev pub Allows : Command → Texts → Outcome → Type 0
@@ -94,11 +101,11 @@ abbrev pub KeepsOthers : Result Command ℕ → Files → Files → Type 0
 KeepsOthers (Err place) old new = SameFiles old new
 KeepsOthers (Ok command) old new = (name : FileName) → is_named (stored_by command) name ≡ false → new name ≡ old name
 
--- what a `step` that is done has stored and put: the text of a run that the told files allow, and its summary, and nothing else
+-- what a `step` that is done has stored and put: the text of a run that the told files allow, its audit texts, its final policy, and its summary
 pub record IsPlayed (old new : Outside) : Type 0 where
   pub played : Played
   pub plays : Plays (told_texts (wants_of Command.Step) old.files) played
-  pub run : new.files FileName.Run ≡ FileState.Holds played.run
+  pub stored : AllByRecursion (λ (store : FileName × List ℕ). new.files store.0 ≡ FileState.Holds store.1) (step_stores played)
   pub summary : new.written ≡ then_bytes played.summary old.written
 
 -- the headline: on told files, a call that is done has played them

@@ -1,7 +1,10 @@
 -- What a play of the files gives, and what it refuses.
-use Rattle.std.specs.Prelude.{◌≡◌, ℕ, ⊤, true, [], Option, Some, None, Ok}
+use Rattle.std.specs.Prelude.{◌≡◌, ℕ, ⊤, true, List, [], Option, Some, None, Ok, unwrap_or}
+use Rattle.std.specs.List.{flat_map}
+use Rattle.tm_word.specs.Words.{Text}
 use Rattle.std.specs.List.{position_from}
 use Rattle.tm_types.specs.declared.policy.Policy.{Policy}
+use Rattle.tm_types.specs.declared.step.Take.{Take}
 use Rattle.tm_types.specs.declared.step.Run.{Run}
 use Rattle.tm_rules.specs.Words.{Trace}
 use Rattle.tm_rules.specs.Grammar.{Grammar}
@@ -16,6 +19,10 @@ use Rattle.tm_forms.specs.Opening.{opening_of}
 use Rattle.tm_forms.specs.Trace.{trace_of}
 use Rattle.tm_io.specs.declared.names.FileName.{FileName}
 use Rattle.tomoyo_run.specs.declared.status.Status.{Status}
+use Rattle.tm_text.specs.DomainText.{domain_text}
+use Rattle.tm_text.specs.ManagerText.{manager_text}
+use Rattle.tm_text.specs.ProfileText.{profile_text}
+use Rattle.tomoyo_run.specs.declared.play.Printed.{Printed}
 use Rattle.tomoyo_run.specs.declared.play.Played.{Played}
 use Rattle.tomoyo_run.specs.Fetches.{Texts, content}
 use Rattle.tomoyo_run.specs.Forms.{first_not_built}
@@ -51,18 +58,38 @@ pub record CanBePlayed (policy : Policy) (trace : Trace) : Type 0 where
   pub profiles : position_from (wants_profile policy) 0 policy.domains ≡ None
   pub built : (g : Grammar) → IsGrammar g → IsBuilt (alone g (opened policy) trace)
 
--- a run that an opening and a trace play, with the policy as it was
-pub record PlaysOn (policy : Policy) (trace : Trace) (run : Run) : Type 0 where
+-- the audit text of a take, where it has one
+abbrev pub audit_word : Take → Text
+audit_word t = unwrap_or t.audit []
+
+-- the audit texts of these takes, joined
+abbrev pub audits_of : List Take → Text
+audits_of takes = flat_map audit_word takes
+
+-- the printed files of a policy
+pub record IsPolicyPrinted (policy : Policy) (printed : Printed) : Type 0 where
+  pub profile : printed.profile ≡ profile_text policy
+  pub domain : printed.domain ≡ domain_text policy
+  pub manager : printed.manager ≡ manager_text policy
+
+-- the texts of a run from an opening to a last policy
+pub record IsPrinted (run : Run) (opening last : Policy) (played : Played) : Type 0 where
+  pub run_is : played.run ≡ run_text run
+  pub audit_is : played.audit ≡ audits_of run.takes
+  pub policy_is : IsPolicyPrinted last played.policy
+  pub summary_is : played.summary ≡ summary_text run opening last
+
+-- a run that an opening and a trace play, to this policy
+pub record PlaysOn (policy : Policy) (trace : Trace) (run : Run) (last : Policy) : Type 0 where
   pub is_play : IsPlayOf policy trace run
-  pub no_step : run.steps ≡ []
-  pub kept : (g : Grammar) → IsGrammar g → final_policy (alone g policy trace) run ≡ policy
+  pub ends : (g : Grammar) → IsGrammar g → final_policy (alone g policy trace) run ≡ last
 
 -- what was played are the texts of a run that an opening and a trace play
 pub record PlaysLoaded (policy : Policy) (trace : Trace) (played : Played) : Type 0 where
   pub run : Run
-  pub plays : PlaysOn policy trace run
-  pub run_is : played.run ≡ run_text run
-  pub summary_is : played.summary ≡ summary_text run policy policy
+  pub last : Policy
+  pub plays : PlaysOn policy trace run last
+  pub texts : IsPrinted run policy last played
 
 -- the files load to an opening and spell a trace, and what was played are the texts of the run that these play
 pub record Plays (texts : Texts) (played : Played) : Type 0 where
@@ -72,5 +99,4 @@ pub record Plays (texts : Texts) (played : Played) : Type 0 where
   pub loads : opening_of (content texts FileName.Profile) (content texts FileName.DomainPolicy) ≡ Ok opening
   pub spells : trace_of (content texts FileName.Trace) ≡ Ok trace
   pub is_play : IsPlayOf opening trace run
-  pub run_is : played.run ≡ run_text run
-  pub summary_is : (g : Grammar) → IsGrammar g → played.summary ≡ summary_text run opening (final_policy (alone g opening trace) run)
+  pub texts : (g : Grammar) → IsGrammar g → IsPrinted run opening (final_policy (alone g opening trace) run) played

@@ -1,9 +1,12 @@
 //! The play of the files: they are loaded, the trace is played under the opened policy, and the run is printed and summed up.
-ghost use Rattle.std.specs.Prelude.{◌≡◌, [], IfOk, IfErr, None};
+ghost use Rattle.std.specs.Prelude.{◌≡◌, ◌++◌, IfOk, IfErr, OnOk, None};
 ghost use Rattle.tm_rules.specs.Few.{IsFew};
 ghost use Rattle.tm_run.specs.RunText.{run_text};
 ghost use Rattle.tm_rerun.specs.Summary.{summary_text};
-ghost use Rattle.tomoyo_run.specs.Play.{opened, refusal_of, Refuses, CanBePlayed, PlaysOn, PlaysLoaded, Plays};
+ghost use Rattle.tm_text.specs.DomainText.{domain_text};
+ghost use Rattle.tm_text.specs.ManagerText.{manager_text};
+ghost use Rattle.tm_text.specs.ProfileText.{profile_text};
+ghost use Rattle.tomoyo_run.specs.Play.{opened, refusal_of, Refuses, CanBePlayed, PlaysOn, PlaysLoaded, Plays, audit_word, audits_of, IsPrinted, IsPolicyPrinted};
 
 use crate::forms::{Loaded, load};
 use crate::status::Status;
@@ -14,46 +17,107 @@ use tm_list::{Copied, NoMemory};
 use tm_policy::{Plain, is_few, set_opened};
 use tm_rerun::summary_line;
 use tm_run::print_run;
+use tm_text::{print_domain, print_manager, print_profile};
 use tm_types::policy::Policy;
 use tm_types::request::Trace;
-use tm_types::step::Run;
+use tm_types::step::{Run, Take};
 use tm_word::Text;
 
-/// What a play gives: the text of its run, and the line that sums it up.
+/// The printed files of a policy.
+#[derive(Drop)]
+pub struct Printed {
+    pub profile: Text,
+    pub domain: Text,
+    pub manager: Text,
+}
+
+/// What a play gives: the text of its run, the audit texts of its takes, the printed files of its final policy, and the line that sums
+/// it up.
 #[derive(Drop)]
 pub struct Played {
     pub run: Text,
+    pub audit: Text,
+    pub policy: Printed,
     pub summary: Text,
 }
 
-// The run that an opening and a trace play by the default order.
-fn run_of(alloc: Global, opening: &Policy, trace: Trace) -> Result<Run, NoMemory>
+// The run that an opening and a trace play by the default order, and the machine at its last version.
+fn run_of(
+    alloc: Global,
+    opening: &Policy,
+    trace: Trace,
+) -> Result<(Run, Machine<Plain>), NoMemory>
     requires few { IsFew opening.now }
     requires can { (policy : Policy) × (opening.now ≡ opened policy) × CanBePlayed policy trace }
-    ensures { IfOk result (PlaysOn opening.now trace) }
+    ensures { IfOk result (λ ended. PlaysOn opening.now trace ended.0 ended.1.policy) }
 {
-    let rep = Plain(opening.copy(alloc)?);
+    let policy = opening.copy(alloc)?;
+    let rep = Plain::new(alloc, policy)?;
     let Ok(trees) = u32::try_from(trace.len()) else {
         return Err(AllocError);
     };
     let machine = Machine::start(alloc, rep, Vec::new(alloc), trees, false)?;
     let player = start_play(alloc, machine, trace)?;
     let played = play_out(alloc, player, &[])?;
-    let (run, _) = end_play(alloc, played)?;
-    Ok(run)
+    end_play(alloc, played)
 }
 
-// The texts of a run that leaves the policy as it was.
-fn texts_of(alloc: Global, run: &Run, policy: &Policy) -> Result<Played, NoMemory>
-    requires { run.now.steps ≡ [] }
-    ensures run { IfOk result (λ played. played.run ≡ run_text run.now) }
-    ensures summary { IfOk result (λ played. played.summary ≡ summary_text run.now policy.now policy.now) }
+// Appends the audit text of a take, where it has one.
+fn push_audit(take: &Take, out: &mut Vec<u8>) -> Result<(), NoMemory>
+    ensures { OnOk result (out.new.items ≡ out.old.items ++ audit_word take.now) }
+{
+    match &take.audit {
+        Some(text) => out.extend_from_slice(text.bytes()),
+        None => Ok(()),
+    }
+}
+
+// The audit texts of these takes, joined.
+fn audits_of(alloc: Global, takes: &[Take]) -> Result<Text, NoMemory>
+    ensures { IfOk result (λ text. text ≡ audits_of takes.now) }
+{
+    let mut text = Vec::new(alloc);
+    for take in takes {
+        push_audit(take, &mut text)?;
+    }
+    Ok(Text::from_vec(text))
+}
+
+// The printed files of a policy.
+fn printed(alloc: Global, policy: &Policy) -> Result<Printed, NoMemory>
+    ensures { IfOk result (IsPolicyPrinted policy.now) }
+{
+    let mut profile = Vec::new(alloc);
+    print_profile(alloc, policy, &mut profile)?;
+    let mut domain = Vec::new(alloc);
+    print_domain(alloc, policy, &mut domain)?;
+    let mut manager = Vec::new(alloc);
+    print_manager(alloc, policy, &mut manager)?;
+    Ok(Printed {
+        profile: Text::from_vec(profile),
+        domain: Text::from_vec(domain),
+        manager: Text::from_vec(manager),
+    })
+}
+
+// The texts of a run from an opening to a last policy.
+fn texts_of(
+    alloc: Global,
+    run: &Run,
+    opening: &Policy,
+    last: &Policy,
+) -> Result<Played, NoMemory>
+    ensures { IfOk result (IsPrinted run.now opening.now last.now) }
 {
     let mut text = Vec::new(alloc);
     print_run(alloc, run, &mut text)?;
-    let summary = summary_line(alloc, run, policy, policy)?;
+    let audit = audits_of(alloc, run.takes.as_slice())?;
+    let policy = printed(alloc, last)?;
+    let summary = summary_line(alloc, run, opening, last)?;
     Ok(Played {
         run: Text::from_vec(text),
+        audit,
+        policy,
         summary: Text::from_vec(summary),
     })
 }
@@ -67,8 +131,8 @@ fn play_loaded(alloc: Global, mut policy: Policy, trace: Trace) -> Result<Played
     if !is_few(&policy) {
         return Err(AllocError);
     }
-    let run = run_of(alloc, &policy, trace)?;
-    texts_of(alloc, &run, &policy)
+    let (run, machine) = run_of(alloc, &policy, trace)?;
+    texts_of(alloc, &run, &policy, machine.policy())
 }
 
 /// Plays what was read, or refuses it.

@@ -4,17 +4,19 @@ ghost use Rattle.tm_io.specs.Files.{SameFiles};
 ghost use Rattle.tomoyo_run.specs.Fetches.{AllGiven, FetchStops};
 ghost use Rattle.tomoyo_run.specs.Ends.{outside, Ends};
 ghost use Rattle.tomoyo_run.specs.Play.{Refuses};
+ghost use Rattle.tm_word.specs.Words.{Text};
 ghost use Rattle.tomoyo_run.specs.Words.{read_words};
-ghost use Rattle.tomoyo_run.specs.Call.{wants_of, outcome_of, Allows, CallEnds, HasCause, IsExact, IsComplete, KeepsOthers, HasPlayed};
+ghost use Rattle.tomoyo_run.specs.Call.{wants_of, step_stores, outcome_of, Allows, CallEnds, HasCause, IsExact, IsComplete, KeepsOthers, HasPlayed};
 
 use crate::carry::{Outcome, carry_out};
 use crate::fetches::{Want, fetch_all};
-use crate::play::{Played, play_of};
+use crate::play::{Played, Printed, play_of};
 use crate::status::Status;
 use crate::words::{Command, read_command};
 use std::alloc::Global;
 use tm_io::{FileList, FileName, Shelf, Sink};
 use tm_list::NoMemory;
+use tm_word::Text;
 
 // Fetches what a command reads.
 fn fetch_for<S: Shelf>(alloc: Global, command: Command, shelf: &mut S) -> Result<FileList, Status>
@@ -40,17 +42,45 @@ fn fetch_for<S: Shelf>(alloc: Global, command: Command, shelf: &mut S) -> Result
     }
 }
 
+// What `step` stores, in order.
+fn step_stores(
+    alloc: Global,
+    run: Text,
+    audit: Text,
+    policy: Printed,
+) -> Result<FileList, NoMemory>
+    ensures { IfOk result (λ stores. (summary : Text) → stores ≡ step_stores (record { run = run; audit = audit; policy = policy; summary = summary })) }
+{
+    let Printed {
+        profile,
+        domain,
+        manager,
+    } = policy;
+    let mut stores = FileList::new(alloc);
+    stores.push((FileName::Run, run))?;
+    stores.push((FileName::Audit, audit))?;
+    stores.push((FileName::ProfileNew, profile))?;
+    stores.push((FileName::DomainPolicyNew, domain))?;
+    stores.push((FileName::ManagerNew, manager))?;
+    Ok(stores)
+}
+
 // What a command stores and puts of what was played.
 fn outcome_of(alloc: Global, command: Command, played: Played) -> Result<Outcome, NoMemory>
     ensures { IfOk result (λ outcome. outcome ≡ outcome_of command played) }
 {
     match command {
         Command::Step => {
-            let mut stores = FileList::new(alloc);
-            stores.push((FileName::Run, played.run))?;
+            let Played {
+                run,
+                audit,
+                policy,
+                summary,
+            } = played;
+            let stores = step_stores(alloc, run, audit, policy)?;
             Ok(Outcome {
                 stores,
-                line: played.summary,
+                line: summary,
             })
         }
     }
@@ -86,7 +116,8 @@ fn perform<S: Shelf, K: Sink>(alloc: Global, command: Command, shelf: &mut S, ou
 }
 
 /// Does the command that the words name, over any shelf and sink, and answers how it ended. `step` plays the trace
-/// under the policy and stores `run`; nothing is stored before all is read and played.
+/// under the policy and stores `run`, `audit`, and `profile.new`, `domain_policy.new` and `manager.new` of the final policy; nothing is stored
+/// before all is read and played.
 pub fn run_alone<S: Shelf, K: Sink>(
     alloc: Global,
     words: &[String],
