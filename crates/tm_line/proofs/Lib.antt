@@ -1,0 +1,12 @@
+pub mod JoinLaws
+pub mod Steps
+pub mod SpellLaws
+pub mod GroupLaws
+pub mod NameArgLaws
+pub mod NumberArgLaws
+pub mod AddrArgLaws
+pub mod PermLaws
+pub mod DomainLaws
+pub mod WholeLaws
+pub mod RestLaws
+mod LineExamples
