@@ -1,0 +1,43 @@
+-- Name arguments: what is written is read again, and what is read can be written.
+use Rattle.std.proofs.Common.{◌≡◌, true, false, ◌&&◌, not, Ok, inl, inr, refl, ap, subst, ◌∙◌}
+use Rattle.tm_word.specs.Words.{Text, Pattern}
+use Rattle.tm_word.specs.Printing.{spelled_pattern}
+use Rattle.tm_pattern.specs.Reading.{pattern_of}
+use Rattle.tm_pattern.specs.Grammar.{is_right}
+use Rattle.tm_pattern.proofs.LexLaws.{pattern_found}
+use Rattle.tm_pattern.proofs.GrammarLaws.{right-read}
+use Rattle.tm_pattern.proofs.RightLaws.{read-right}
+use Rattle.tm_types.specs.declared.entry.LineKind.{LineKind}
+use Rattle.tm_types.specs.declared.unions.NameUnion.{NameUnion}
+use Rattle.tm_line.specs.Arguments.{pattern_word, one_name, name_word}
+use Rattle.tm_line.specs.Printing.{name_spelling}
+use Rattle.tm_line.specs.Written.{is_front, is_name}
+use Rattle.tm_line.proofs.Steps.{bind_ok, ok_is, kinded_ok, both, all, not_true, to_not}
+use Rattle.tm_line.proofs.GroupLaws.{or_again, or_one, or_found}
+
+pub pattern_again : (p : Pattern) → is_right p ≡ true → pattern_word (spelled_pattern p) ≡ Ok p
+unfolding pattern_word
+pattern_again p h = rw (right-read p h) refl
+
+pub pattern_read : (text : Text) (p : Pattern) → pattern_word text ≡ Ok p → (text ≡ spelled_pattern p) × (is_right p ≡ true)
+unfolding pattern_word
+pattern_read text p e = let h = kinded_ok LineKind.Name (pattern_of text) p e in (pattern_found text p h, read-right text p h)
+
+pub name_again : (n : NameUnion) → is_name n ≡ true → name_word (name_spelling n) ≡ Ok n
+unfolding name_word name_spelling is_name
+name_again (NameUnion.One p) h =
+    let split = both (is_right p) (not (is_front 64 (spelled_pattern p))) h in
+    or_one NameUnion.Group one_name (spelled_pattern p) (not_true _ split.1) ∙ rw (pattern_again p split.0) refl
+name_again (NameUnion.Group g) h = or_again NameUnion.Group one_name g h
+
+pub name_read : (text : Text) (n : NameUnion) → name_word text ≡ Ok n → is_name n ≡ true
+unfolding name_word is_name
+name_read text n e =
+    elim (or_found NameUnion.Group one_name text n e) [
+      | inl x ↦ subst (λ m. is_name m ≡ true) x.3 x.1
+      | inr x ↦
+          let p = bind_ok (pattern_word text) (λ q. Ok (NameUnion.One q)) n x.1 in
+          let is = pattern_read text p.0 p.1 in
+          let front : is_front 64 (spelled_pattern p.0) ≡ false = subst (λ t. is_front 64 t ≡ false) is.0 x.0 in
+          subst (λ m. is_name m ≡ true) (ok_is (NameUnion.One p.0) n p.2) (all (is_right p.0) (not (is_front 64 (spelled_pattern p.0))) is.1 (to_not _ front))
+    ]
