@@ -70,7 +70,7 @@ clause_by attr false right h k =
 
 pub clause_again : (c : Clause) → is_clause c ≡ true → clause_word (clause_text c) ≡ Ok c
 unfolding is_clause clause_text
-clause_again c h = 
+clause_again c h =
     let split = both (is_attr c.left) (is_side c.left c.right) h in
     ap clause_word (append_assoc (attr_text c.left) (operator c.equal) (right_text c.right)) ∙ clause_by c.left c.equal c.right split.0 split.1
 

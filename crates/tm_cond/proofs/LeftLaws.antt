@@ -67,12 +67,16 @@ byte_uncut b h = by_form (b == 92) (nat_lt 32 b && nat_lt b 127)
   where
     low : b < 256
     low = ltb-true b 256 (both (low_byte b) (not_equals b) h).0
+
     high_digit : (48 + b / 64 == 61) ≡ false
     high_digit = ne_eqb (48 + b / 64) 61 (λ e. absurd (omega (arith, low, e)))
+
     middle_digit : (48 + b / 8 % 8 == 61) ≡ false
     middle_digit = ne_eqb (48 + b / 8 % 8) 61 (λ e. absurd (omega (arith, e)))
+
     low_digit : (48 + b % 8 == 61) ≡ false
     low_digit = ne_eqb (48 + b % 8) 61 (λ e. absurd (omega (arith, e)))
+
     by_form : (back plain : Bool) → list_all not_equals (cond back (92 ∷ 92 ∷ []) (cond plain (b ∷ []) (92 ∷ (48 + b / 64) ∷ (48 + b / 8 % 8) ∷ (48 + b % 8) ∷ []))) ≡ true
     by_form true plain = refl
     by_form false true = rw (both (low_byte b) (not_equals b) h).1 refl
@@ -197,5 +201,5 @@ attr_read text attr h e =
     (λ e1. or_read_ok HasWord (other_word text) placed attr e1 (other_read text attr)
     (λ e2. or_rest_ok HasWord (after (codes "exec.argv[") text) argv_word named attr e2 (λ rest at f. argv_read rest attr f)
     (λ e3. or_rest_ok HasWord (after (codes "exec.envp[") text) envp_word (Err LineKind.Condition) attr e3
-        (λ rest at f. envp_read rest attr (front_uncut (codes "exec.envp[") rest (subst (λ t. list_all not_equals t ≡ true) (after_found (codes "exec.envp[") text rest at) h)).1 f)
+    (λ rest at f. envp_read rest attr (front_uncut (codes "exec.envp[") rest (subst (λ t. list_all not_equals t ≡ true) (after_found (codes "exec.envp[") text rest at) h)).1 f)
     (λ e4. absurd cc))))
