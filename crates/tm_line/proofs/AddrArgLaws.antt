@@ -24,7 +24,7 @@ use Rattle.tm_addr.proofs.V6Laws.{v6_free}
 use Rattle.tm_addr.proofs.AddrLaws.{range_again}
 use Rattle.tm_types.specs.declared.entry.LineKind.{LineKind}
 use Rattle.tm_types.specs.declared.unions.AddrUnion.{AddrUnion}
-use Rattle.tm_line.specs.Arguments.{addr_range_word, one_address, address_word}
+use Rattle.tm_line.specs.Arguments.{addr_range_word, one_address, address_word, address_at}
 use Rattle.tm_line.specs.Printing.{address_spelling}
 use Rattle.tm_line.specs.Written.{is_front, is_addr, is_addr_range, is_address}
 use Rattle.tm_line.proofs.Steps.{bind_ok, ok_is, kinded_ok, both, all}
@@ -276,3 +276,16 @@ address_read text n e =
       | inl x ↦ subst (λ m. is_address m ≡ true) x.3 x.1
       | inr x ↦ let r = bind_ok (addr_range_word text) (λ q. Ok (AddrUnion.One q)) n x.1 in subst (λ m. is_address m ≡ true) (ok_is (AddrUnion.One r.0) n r.2) (range_read text r.0 r.1)
     ]
+
+pub address_at_again : (n : AddrUnion) (more : List Text) → is_address n ≡ true → address_at (address_spelling n ∷ more) ≡ Ok (n, more)
+unfolding address_at
+address_at_again n more h = rw (address_again n h) refl
+
+pub address_at_read : (words : List Text) (x : AddrUnion × List Text) → address_at words ≡ Ok x → is_address x.0 ≡ true
+unfolding address_at
+address_at_read [] x e = absurd cc
+address_at_read (word ∷ words) x e =
+    let n = bind_ok (address_word word) (λ m. Ok (m, words)) x e in
+    let made : AddrUnion × List Text = (n.0, words) in
+    let same : made ≡ x = ok_is made x n.2 in
+    subst (λ (y : AddrUnion × List Text). is_address y.0 ≡ true) same (address_read word n.0 n.1)

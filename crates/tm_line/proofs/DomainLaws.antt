@@ -1,12 +1,15 @@
 -- Domain names in lines: a right name's words are read as that name, and what is read is right.
-use Rattle.std.proofs.Common.{◌≡◌, ℕ, suc, ◌+◌, ◌==◌, nat_le, Bool, true, false, ◌&&◌, not, List, [], ◌∷◌, ◌++◌, length, take, drop, Result, Ok, Err, refl, sym, ap, subst, ◌∙◌, arith}
+use Rattle.std.proofs.Common.{◌≡◌, ℕ, suc, ◌+◌, ◌-◌, ◌||◌, ◌==◌, nat_le, Bool, true, false, ◌&&◌, not, List, [], ◌∷◌, ◌++◌, length, take, drop, Result, Ok, Err, refl, sym, ap, subst, ◌∙◌, arith}
+use Rattle.std.specs.Prelude.{codes}
+use Rattle.std.proofs.lemmas.Bool.{eqb-true}
+use Rattle.tm_rules.specs.Equality.{texts_equal}
 use Rattle.std.specs.List.{slice_split, list_all, prefix_len, join_with_byte}
 use Rattle.std.proofs.lemmas.List.Splits.{join_with_byte-slice_split}
 use Rattle.tm_word.specs.Words.{Text}
 use Rattle.tm_word.specs.Spelling.{joined}
 use Rattle.tm_types.specs.declared.entry.LineKind.{LineKind}
 use Rattle.tm_rules.specs.Words.{DomainName}
-use Rattle.tm_rules.specs.Transition.{is_namespace_word, is_domain_name}
+use Rattle.tm_rules.specs.Transition.{is_namespace_word, is_domain_name, root_name}
 use Rattle.tm_pattern.specs.Reading.{pattern_of}
 use Rattle.tm_domain.specs.declared.DomainFault.{DomainFault}
 use Rattle.tm_domain.specs.Names.{begins_with_slash, is_pattern, is_path, is_read, domain_of}
@@ -21,7 +24,7 @@ use Rattle.tm_line.proofs.Steps.{bind_ok, done, ok_is, kinded_ok, both, not_true
 
 -- ---- the words in front that begin with `/`
 
-path_begins : (word : Text) → is_path word ≡ true → begins_with_slash word ≡ true
+pub path_begins : (word : Text) → is_path word ≡ true → begins_with_slash word ≡ true
 unfolding is_path
 path_begins word h = (both (begins_with_slash word) (is_pattern (pattern_of word)) h).0
 
@@ -137,3 +140,26 @@ spaced_from words first rest e = rw e (ap (λ t. 32 ∷ t) (sym (joined_is first
 -- the words of a name, each after a space, are a space and the name
 pub parts_spaced : (name : DomainName) → spaced (domain_parts name) ≡ 32 ∷ name
 parts_spaced name = let p = pieces_of (λ b. b == 32) name in spaced_from (domain_parts name) p.first p.rest p.are ∙ ap (λ t. 32 ∷ t) (parts_joined name)
+
+-- the first word of a right name begins with `<`
+pub record Begins (words : List Text) : Type 0 where
+  pub rest : Text
+  pub paths : List Text
+  pub are : words ≡ (60 ∷ rest) ∷ paths
+
+word_begins : (first : Text) (paths : List Text) → is_namespace_word is_path first ≡ true → Begins (first ∷ paths)
+word_begins [] paths h = absurd cc
+word_begins (b ∷ word) paths h =
+    let inner : Text = take (length (b ∷ word) - 2) (drop 1 (b ∷ word)) in
+    let split = both (texts_equal (b ∷ word) (root_name inner)) (is_path inner || texts_equal inner (codes "kernel")) h in
+    let head = both (b == 60) (texts_equal word (inner ++ 62 ∷ [])) split.0 in
+    record { rest = word; paths = paths; are = ap (λ c. (c ∷ word) ∷ paths) (eqb-true b 60 head.0) }
+
+list_begins : (words : List Text) → right_list words ≡ true → Begins words
+unfolding right_list
+list_begins [] h = absurd cc
+list_begins (first ∷ paths) h = word_begins first paths (both (is_namespace_word is_path first) (list_all is_path paths) h).0
+
+pub parts_begin : (name : DomainName) → is_domain_name is_path name ≡ true → Begins (domain_parts name)
+unfolding is_domain_name right_list
+parts_begin name h = list_begins (domain_parts name) (both (right_list (domain_parts name)) (nat_le (length name) 4085) h).0

@@ -1,5 +1,5 @@
 -- Name arguments: what is written is read again, and what is read can be written.
-use Rattle.std.proofs.Common.{◌≡◌, true, false, ◌&&◌, not, Ok, inl, inr, refl, ap, subst, ◌∙◌}
+use Rattle.std.proofs.Common.{◌≡◌, true, false, ◌&&◌, not, List, [], ◌∷◌, Ok, inl, inr, refl, ap, subst, ◌∙◌}
 use Rattle.tm_word.specs.Words.{Text, Pattern}
 use Rattle.tm_word.specs.Printing.{spelled_pattern}
 use Rattle.tm_pattern.specs.Reading.{pattern_of}
@@ -9,7 +9,7 @@ use Rattle.tm_pattern.proofs.GrammarLaws.{right-read}
 use Rattle.tm_pattern.proofs.RightLaws.{read-right}
 use Rattle.tm_types.specs.declared.entry.LineKind.{LineKind}
 use Rattle.tm_types.specs.declared.unions.NameUnion.{NameUnion}
-use Rattle.tm_line.specs.Arguments.{pattern_word, one_name, name_word}
+use Rattle.tm_line.specs.Arguments.{pattern_word, one_name, name_word, name_at}
 use Rattle.tm_line.specs.Printing.{name_spelling}
 use Rattle.tm_line.specs.Written.{is_front, is_name}
 use Rattle.tm_line.proofs.Steps.{bind_ok, ok_is, kinded_ok, both, all, not_true, to_not}
@@ -41,3 +41,16 @@ name_read text n e =
           let front : is_front 64 (spelled_pattern p.0) ≡ false = subst (λ t. is_front 64 t ≡ false) is.0 x.0 in
           subst (λ m. is_name m ≡ true) (ok_is (NameUnion.One p.0) n p.2) (all (is_right p.0) (not (is_front 64 (spelled_pattern p.0))) is.1 (to_not _ front))
     ]
+
+pub name_at_again : (n : NameUnion) (more : List Text) → is_name n ≡ true → name_at (name_spelling n ∷ more) ≡ Ok (n, more)
+unfolding name_at
+name_at_again n more h = rw (name_again n h) refl
+
+pub name_at_read : (words : List Text) (x : NameUnion × List Text) → name_at words ≡ Ok x → is_name x.0 ≡ true
+unfolding name_at
+name_at_read [] x e = absurd cc
+name_at_read (word ∷ words) x e =
+    let n = bind_ok (name_word word) (λ m. Ok (m, words)) x e in
+    let made : NameUnion × List Text = (n.0, words) in
+    let same : made ≡ x = ok_is made x n.2 in
+    subst (λ (y : NameUnion × List Text). is_name y.0 ≡ true) same (name_read word n.0 n.1)

@@ -18,7 +18,7 @@ use Rattle.tm_number.proofs.NumberLaws.{number_again as decimal_again}
 use Rattle.tm_number.proofs.RangeLaws.{range_again}
 use Rattle.tm_types.specs.declared.entry.LineKind.{LineKind}
 use Rattle.tm_types.specs.declared.unions.NumberUnion.{NumberUnion}
-use Rattle.tm_line.specs.Arguments.{range_word, one_number, number_word, plain, plain_word}
+use Rattle.tm_line.specs.Arguments.{range_word, one_number, number_word, number_at, plain, plain_word}
 use Rattle.tm_line.specs.Printing.{number_spelling}
 use Rattle.tm_line.specs.Written.{is_front, is_range, is_number}
 use Rattle.tm_line.proofs.Steps.{bind_ok, ok_is, kinded_ok, chosen, both, all}
@@ -137,3 +137,16 @@ plain_from limit (Err fault) n e = absurd cc
 pub plain_read : (limit : ℕ) (text : Text) (n : ℕ) → plain_word limit text ≡ Ok n → n < limit
 unfolding plain_word
 plain_read limit text n e = plain_from limit (number_of text) n e
+
+pub number_at_again : (n : NumberUnion) (more : List Text) → is_number n ≡ true → number_at (number_spelling n ∷ more) ≡ Ok (n, more)
+unfolding number_at
+number_at_again n more h = rw (number_again n h) refl
+
+pub number_at_read : (words : List Text) (x : NumberUnion × List Text) → number_at words ≡ Ok x → is_number x.0 ≡ true
+unfolding number_at
+number_at_read [] x e = absurd cc
+number_at_read (word ∷ words) x e =
+    let n = bind_ok (number_word word) (λ m. Ok (m, words)) x e in
+    let made : NumberUnion × List Text = (n.0, words) in
+    let same : made ≡ x = ok_is made x n.2 in
+    subst (λ (y : NumberUnion × List Text). is_number y.0 ≡ true) same (number_read word n.0 n.1)

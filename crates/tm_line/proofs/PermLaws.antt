@@ -30,11 +30,11 @@ bits_are None bits e = absurd cc
 bits_are (Some n) bits e = ap Some (eqb-true n bits e)
 
 -- a test passes at each number from 1 to n
-all_to : ℕ → (ℕ → Bool) → Bool
+unfoldable pub all_to : ℕ → (ℕ → Bool) → Bool
 all_to zero p = true
 all_to (suc n) p = p (suc n) && all_to n p
 
-all_at : (n : ℕ) (p : ℕ → Bool) (k : ℕ) → all_to n p ≡ true → 0 < k → k ≤ n → p k ≡ true
+pub all_at : (n : ℕ) (p : ℕ → Bool) (k : ℕ) → all_to n p ≡ true → 0 < k → k ≤ n → p k ≡ true
 unfolding all_to
 all_at zero p k e low high = absurd (omega (arith, low, high))
 all_at (suc n) p k e low high =

@@ -17,5 +17,5 @@ pub use arguments::{
 pub use domains::{domain_at, domain_to_end};
 pub use laws::round_trip;
 pub use permissions::{Row, mask_in, pieces_of, print_perms, read_perms, starts_in};
-pub use printing::{print_address, print_name, print_number};
+pub use printing::{print_address, print_domain, print_name, print_number};
 pub use words::{begins, joined, joined_after, keyword_at, option_at};
