@@ -7,3 +7,4 @@ pub mod NumberArgLaws
 pub mod AddrArgLaws
 pub mod PermLaws
 pub mod DomainLaws
+mod LineExamples

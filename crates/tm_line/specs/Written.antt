@@ -24,9 +24,14 @@ abbrev pub is_group : Word → Bool
 is_group [] = false
 is_group (b ∷ word) = list_all (λ c. nat_lt c 256) (b ∷ word)
 
--- a group, or a pattern in the grammar whose text doesn't begin with `@`
+-- a text that isn't empty and doesn't begin with `@`
+abbrev pub begins_name : Text → Bool
+begins_name [] = false
+begins_name (b ∷ text) = not (b == 64)
+
+-- a group, or a pattern in the grammar whose text isn't empty and doesn't begin with `@`
 unfoldable pub is_name : NameUnion → Bool
-is_name (NameUnion.One pattern_) = is_right pattern_ && not (is_front 64 (spelled_pattern pattern_))
+is_name (NameUnion.One pattern_) = is_right pattern_ && begins_name (spelled_pattern pattern_)
 is_name (NameUnion.Group group) = is_group group
 
 -- both ends below 2^64 and in order

@@ -31,7 +31,7 @@ use Rattle.tm_line.proofs.NumberArgLaws.{number_at_again, number_at_read}
 use Rattle.tm_line.proofs.AddrArgLaws.{address_at_again, address_at_read}
 use Rattle.tm_line.proofs.PermLaws.{perms_again, perms_read}
 use Rattle.tm_line.proofs.DomainLaws.{domain_again, at_right}
-use Rattle.tm_net.specs.NetLines.{inet_kind, starts_inet, unix_kind, starts_unix, inet_permissions, unix_permissions, kind_at, perms_at, perms, inet_line, unix_line, network_line, has_equals, env_word, misc_line, task_line, starts_net, net_line, inet_word, unix_word, net_words, is_net}
+use Rattle.tm_net.specs.NetLines.{inet_kind, starts_inet, unix_kind, starts_unix, inet_permissions, unix_permissions, kind_at, perms_at, perms, inet_line, unix_line, network_line, has_equals, env_word, is_env, misc_line, task_line, starts_net, net_line, inet_word, unix_word, net_words, is_net}
 
 abbrev Line : Type 0
 Line = List Text
@@ -68,9 +68,14 @@ unix_again kind n bits more set h =
     let last : Line = name_spelling n ∷ more in
     rw (local_again kind (perms_spelling (unix_permissions kind) bits ∷ last), list_again (unix_permissions kind) bits last set, name_at_again n more h) refl
 
-env_again : (p : Pattern) (more : Line) → is_right p ≡ true → has_equals (spelled_pattern p) ≡ false → Again (Args.Env p) 1 more
-unfolding net_words net_line misc_line env_word
-env_again p more h k = rw (k, pattern_again p h) refl
+env_text : (text : Text) (p : Pattern) (more : Line) → is_env text ≡ true → pattern_word text ≡ Ok p → word_at env_word (text ∷ more) ≡ Ok (p, more)
+unfolding env_word
+env_text [] p more h e = absurd cc
+env_text (b ∷ text) p more h e = let no : has_equals (b ∷ text) ≡ false = not_true (has_equals (b ∷ text)) h in rw (no, e) refl
+
+env_again : (p : Pattern) (more : Line) → is_right p ≡ true → is_env (spelled_pattern p) ≡ true → Again (Args.Env p) 1 more
+unfolding net_words net_line misc_line
+env_again p more h k = rw (env_text (spelled_pattern p) p more k (pattern_again p h)) refl
 
 manual_again : (domain : DomainName) (more : Line) → is_domain_name is_path domain ≡ true → ends_domain more ≡ true → Again (Args.Manual domain) 1 more
 unfolding net_words net_line task_line
@@ -84,9 +89,9 @@ net_again (Args.Inet kind address port) bits more h k =
     inet_again kind address port bits more b.0 b.1 c.1
 net_again (Args.Unix kind n) bits more h k = let b = both (is_set (unix_permissions kind) bits) (is_name n) h in unix_again kind n bits more b.0 b.1
 net_again (Args.Env p) bits more h k =
-    let c = both (bits == 1 && is_right p) (not (has_equals (spelled_pattern p))) h in
+    let c = both (bits == 1 && is_right p) (is_env (spelled_pattern p)) h in
     let b = both (bits == 1) (is_right p) c.0 in
-    subst (λ i. Again (Args.Env p) i more) (sym (eqb-true bits 1 b.0)) (env_again p more b.1 (not_true _ c.1))
+    subst (λ i. Again (Args.Env p) i more) (sym (eqb-true bits 1 b.0)) (env_again p more b.1 c.1)
 net_again (Args.Manual domain) bits more h k =
     let b = both (bits == 1) (is_domain_name is_path domain) h in
     subst (λ i. Again (Args.Manual domain) i more) (sym (eqb-true bits 1 b.0)) (manual_again domain more b.1 k)
@@ -145,11 +150,16 @@ network_right (word ∷ words) x e = by_words (texts_equal word (codes "inet")) 
     by_words false false f = absurd cc
 
 abbrev Env : Pattern → Type 0
-Env p = (is_right p ≡ true) × (has_equals (spelled_pattern p) ≡ false)
+Env p = (is_right p ≡ true) × (is_env (spelled_pattern p) ≡ true)
 
-env_by : (word : Text) (p : Pattern) (t : Bool) → has_equals word ≡ t → cond t (Err LineKind.Name) (pattern_word word) ≡ Ok p → Env p
-env_by word p true h e = absurd cc
-env_by word p false h e = let is = pattern_read word p e in (is.1, subst (λ t. has_equals t ≡ false) is.0 h)
+env_by : (b : ℕ) (word : Text) (p : Pattern) (t : Bool) → has_equals (b ∷ word) ≡ t → cond t (Err LineKind.Name) (pattern_word (b ∷ word)) ≡ Ok p → Env p
+env_by b word p true h e = absurd cc
+env_by b word p false h e = let is = pattern_read (b ∷ word) p e in (is.1, subst (λ t. is_env t ≡ true) is.0 (to_not (has_equals (b ∷ word)) h))
+
+env_found : (word : Text) (p : Pattern) → env_word word ≡ Ok p → Env p
+unfolding env_word
+env_found [] p e = absurd cc
+env_found (b ∷ word) p e = env_by b word p (has_equals (b ∷ word)) refl e
 
 env_read : (words : Line) (x : Pattern × Line) → word_at env_word words ≡ Ok x → Env x.0
 unfolding env_word
@@ -157,7 +167,7 @@ env_read [] x e = absurd cc
 env_read (word ∷ words) x e =
     let b = bind_ok (env_word word) (λ p. Ok (p, words)) x e in
     let made : Pattern × Line = (b.0, words) in
-    subst (λ (y : Pattern × Line). Env y.0) (ok_is made x b.2) (env_by word b.0 (has_equals word) refl b.1)
+    subst (λ (y : Pattern × Line). Env y.0) (ok_is made x b.2) (env_found word b.0 b.1)
 
 misc_right : (words : Line) (x : Whole) → misc_line words ≡ Ok x → Right x
 unfolding misc_line is_net
@@ -166,7 +176,7 @@ misc_right words x e =
     let b = bind_ok (word_at env_word a.0) (λ name. Ok (Args.Env name.0, perms 1, name.1)) x a.2 in
     let made : Whole = (Args.Env b.0.0, perms 1, b.0.1) in
     let is = env_read a.0 b.0 b.1 in
-    subst Right (ok_is made x b.2) (all (is_right b.0.0) (not (has_equals (spelled_pattern b.0.0))) is.0 (to_not _ is.1))
+    subst Right (ok_is made x b.2) (all (is_right b.0.0) (is_env (spelled_pattern b.0.0)) is.0 is.1)
 
 task_right : (words : Line) (x : Whole) → task_line words ≡ Ok x → Right x
 unfolding task_line is_net

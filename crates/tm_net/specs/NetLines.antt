@@ -93,12 +93,19 @@ network_line (word ∷ words) =
     if texts_equal word (codes "inet") then inet_line words else
     (if texts_equal word (codes "unix") then unix_line words else Err (keyword_kind (is_last words && (begins word (codes "inet") || begins word (codes "unix")))))
 
--- the name of an environment variable has no `=`
+-- an `=` stands in a text
 abbrev pub has_equals : Text → Bool
 has_equals text = list_any (λ b. b == 61) text
 
+-- the name of an environment variable is a pattern, not empty and without `=`; it may begin with `@`
 unfoldable pub env_word : Text → Result Pattern LineKind
-env_word word = if has_equals word then Err LineKind.Name else pattern_word word
+env_word [] = Err LineKind.Name
+env_word (b ∷ word) = if has_equals (b ∷ word) then Err LineKind.Name else pattern_word (b ∷ word)
+
+-- a text that can stand there
+abbrev pub is_env : Text → Bool
+is_env [] = false
+is_env (b ∷ word) = not (has_equals (b ∷ word))
 
 -- `env NAME`, which stands after `misc`
 unfoldable pub misc_line : List Text → Result (Args × Perms × List Text) LineKind
@@ -159,7 +166,7 @@ net_words (Args.Mount device dir type flags) bits = []
 unfoldable pub is_net : Args → ℕ → Bool
 is_net (Args.Inet kind address port) bits = is_set (inet_permissions kind) bits && is_address address && is_number port
 is_net (Args.Unix kind name) bits = is_set (unix_permissions kind) bits && is_name name
-is_net (Args.Env pattern_) bits = bits == 1 && is_right pattern_ && not (has_equals (spelled_pattern pattern_))
+is_net (Args.Env pattern_) bits = bits == 1 && is_right pattern_ && is_env (spelled_pattern pattern_)
 is_net (Args.Manual domain) bits = bits == 1 && is_domain_name is_path domain
 is_net (Args.Path name) bits = false
 is_net (Args.Execute name prefer) bits = false

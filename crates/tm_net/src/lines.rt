@@ -187,10 +187,15 @@ fn has_equals(text: &[u8]) -> bool
 fn env_word(alloc: Global, word: &[u8]) -> Result<Pattern, LineFault>
     ensures { Gives (λ x. x) result (env_word word.now) }
 {
-    if has_equals(word) {
-        Err(LineFault::Kind(LineKind::Name))
-    } else {
-        pattern_word(alloc, word)
+    match word {
+        [] => Err(LineFault::Kind(LineKind::Name)),
+        [_, ..] => {
+            if has_equals(word) {
+                Err(LineFault::Kind(LineKind::Name))
+            } else {
+                pattern_word(alloc, word)
+            }
+        }
     }
 }
 
