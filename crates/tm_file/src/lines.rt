@@ -1,5 +1,8 @@
 //! Reading the lines of files.
-ghost use Rattle.std.specs.Prelude.{◌≡◌, ◌≤◌, ◌++◌, ℕ, true, List, Ok, length, IfOk};
+ghost use Rattle.std.specs.Prelude.{◌≡◌, ◌≤◌, ◌++◌, ◌-◌, ℕ, true, List, Ok, length, drop, IfOk};
+ghost use Rattle.std.specs.List.{list_all};
+ghost use Rattle.tm_word.specs.Spelling.{words_of, joined};
+ghost use Rattle.tm_line.specs.WholeWords.{is_word};
 ghost use Rattle.tm_types.specs.declared.entry.Args.{Args};
 ghost use Rattle.tm_types.specs.declared.entry.Perms.{Perms};
 ghost use Rattle.tm_word.specs.Words.{Text};
@@ -185,5 +188,10 @@ pub fn read_file_acl(alloc: Global, words: &[Text]) -> Result<(Args, Perms, usiz
 pub fn round_trip()
     ensures written { (a : Args) (bits : ℕ) (more : List Text) → is_file a bits ≡ true → no_prefer more ≡ true → file_line (file_words a bits ++ more) ≡ Ok (a, perms bits, more) }
     ensures read { (words rest : List Text) (a : Args) (p : Perms) → file_line words ≡ Ok (a, p, rest) → is_file a p.bits ≡ true }
+    // How many words a line took tells which are left.
+    ensures left { (words rest : List Text) (a : Args) (p : Perms) → file_line words ≡ Ok (a, p, rest) → rest ≡ drop (length words - length rest) words }
+    // What is printed is made of words, which are found again in the line that joins them.
+    ensures words { (a : Args) (bits : ℕ) → is_file a bits ≡ true → list_all is_word (file_words a bits) ≡ true }
+    ensures text { (a : Args) (bits : ℕ) → is_file a bits ≡ true → words_of (joined (file_words a bits)) ≡ file_words a bits }
     ensures normal { (words more rest : List Text) (a : Args) (p : Perms) → file_line words ≡ Ok (a, p, rest) → no_prefer more ≡ true → file_line (file_words a p.bits ++ more) ≡ Ok (a, p, more) }
 {}

@@ -253,7 +253,7 @@ pub record Ends (r : AddrRange) : Type 0 where
   pub high : IsAddr r.high
   pub ordered : addr_le r.low r.high ≡ true
 
-ends : (r : AddrRange) → is_addr_range r ≡ true → Ends r
+pub ends : (r : AddrRange) → is_addr_range r ≡ true → Ends r
 ends r h =
     let b = both (is_addr r.low && is_addr r.high) (addr_le r.low r.high) h in
     let a = both (is_addr r.low) (is_addr r.high) b.0 in

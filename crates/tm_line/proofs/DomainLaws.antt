@@ -64,7 +64,7 @@ abbrev RightWords : List Text → Type 0
 RightWords [] = ⊥
 RightWords (first ∷ paths) = list_all is_path paths ≡ true
 
-right_list : List Text → Bool
+unfoldable pub right_list : List Text → Bool
 right_list [] = false
 right_list (first ∷ rest) = is_namespace_word is_path first && list_all is_path rest
 

@@ -7,4 +7,6 @@ pub mod NumberArgLaws
 pub mod AddrArgLaws
 pub mod PermLaws
 pub mod DomainLaws
+pub mod WholeLaws
+pub mod RestLaws
 mod LineExamples

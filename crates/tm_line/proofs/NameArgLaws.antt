@@ -47,9 +47,10 @@ one_read (b ∷ text) n h e =
 pub name_read : (text : Text) (n : NameUnion) → name_word text ≡ Ok n → is_name n ≡ true
 unfolding name_word is_name
 name_read text n e =
-    elim (or_found NameUnion.Group one_name text n e)
-    [ inl x ↦ subst (λ m. is_name m ≡ true) x.3 x.1
-    | inr x ↦ one_read text n x.0 x.1 ]
+    elim (or_found NameUnion.Group one_name text n e) [
+      | inl x ↦ subst (λ m. is_name m ≡ true) x.3 x.1
+      | inr x ↦ one_read text n x.0 x.1
+    ]
 
 pub name_at_again : (n : NameUnion) (more : List Text) → is_name n ≡ true → name_at (name_spelling n ∷ more) ≡ Ok (n, more)
 unfolding name_at

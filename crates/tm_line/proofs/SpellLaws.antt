@@ -34,14 +34,14 @@ reads-as b tail v is before rest place =
     rw ((is rest).0, (is rest).1) (ap (bytes_of (before ++ v ∷ [])) (skip-on (place + 1) tail rest ∙ ap (λ p. tokens p 0 rest) same))
 
 -- each byte below 256 outside 33 to 126 is read from its octal digits: by trying each
-below : ℕ → (ℕ → Bool) → Bool
+unfoldable pub below : ℕ → (ℕ → Bool) → Bool
 below zero p = true
 below (suc n) p = p n && below n p
 
 last_or : (k n : ℕ) → k < suc n → (k ≡ n) ⊎ (k < n)
 last_or k n h = grind (arith, nat_tests)
 
-below-at : (n : ℕ) (p : ℕ → Bool) (k : ℕ) → below n p ≡ true → k < n → p k ≡ true
+pub below-at : (n : ℕ) (p : ℕ → Bool) (k : ℕ) → below n p ≡ true → k < n → p k ≡ true
 unfolding below
 below-at zero p k e h = absurd (omega (arith, h))
 below-at (suc n) p k e h =

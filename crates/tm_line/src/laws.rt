@@ -1,8 +1,9 @@
 //! Laws of arguments: what is printed is read again, and what is read can be printed.
 ghost use Rattle.std.specs.Prelude.{◌≡◌, ◌<◌, ◌^◌, ◌++◌, ℕ, Bool, true, List, Ok, Result};
 ghost use Rattle.std.specs.Fmt.{decimal};
+ghost use Rattle.std.specs.List.{list_all};
 ghost use Rattle.tm_word.specs.Words.{Text, Word, Pattern};
-ghost use Rattle.tm_word.specs.Spelling.{spell};
+ghost use Rattle.tm_word.specs.Spelling.{spell, words_of, joined};
 ghost use Rattle.tm_word.specs.Printing.{spelled_pattern};
 ghost use Rattle.tm_number.specs.declared.Range.{Range};
 ghost use Rattle.tm_number.specs.declared.AddrRange.{AddrRange};
@@ -20,6 +21,7 @@ ghost use Rattle.tm_line.specs.Permissions.{perms_of, perms_spelling};
 ghost use Rattle.tm_line.specs.Arguments.{group_word, pattern_word, range_word, addr_range_word, name_word, number_word, address_word, plain_word};
 ghost use Rattle.tm_line.specs.Domains.{domain_at, domain_to_end};
 ghost use Rattle.tm_line.specs.DomainWords.{domain_parts, ends_domain};
+ghost use Rattle.tm_line.specs.WholeWords.{is_solid, is_word};
 ghost use Rattle.tm_line.specs.Printing.{name_spelling, number_spelling, address_spelling};
 ghost use Rattle.tm_line.specs.Written.{is_group, is_name, is_range, is_number, is_addr_range, is_address, is_set};
 
@@ -49,4 +51,18 @@ pub fn round_trip()
     ensures domain_read { (words : List Text) (name : DomainName) (rest : List Text) → domain_at words ≡ Ok (name, rest) → is_domain_name is_path name ≡ true }
     ensures to_end { (name : DomainName) → is_domain_name is_path name ≡ true → domain_to_end (domain_parts name) ≡ Ok name }
     ensures to_end_read { (words : List Text) (name : DomainName) → domain_to_end words ≡ Ok name → is_domain_name is_path name ≡ true }
+{}
+
+/// Printed words, as laws over every value: what a line can write is printed as words of a line, none of them empty and none with a
+/// byte that separates words; and words that are joined by single spaces are found again as the words of the line.
+pub fn printed_words()
+    ensures again { (words : List Text) → list_all is_word words ≡ true → words_of (joined words) ≡ words }
+    ensures group { (g : Word) → is_group g ≡ true → is_solid (spell g) ≡ true }
+    ensures pattern { (p : Pattern) → is_right p ≡ true → is_solid (spelled_pattern p) ≡ true }
+    ensures name { (n : NameUnion) → is_name n ≡ true → is_word (name_spelling n) ≡ true }
+    ensures number { (n : NumberUnion) → is_number n ≡ true → is_word (number_spelling n) ≡ true }
+    ensures address { (n : AddrUnion) → is_address n ≡ true → is_word (address_spelling n) ≡ true }
+    ensures perms { (row : Row) (bits : ℕ) → is_set row bits ≡ true → is_word (perms_spelling row bits) ≡ true }
+    ensures path { (text : Text) → is_path text ≡ true → is_word text ≡ true }
+    ensures domain { (name : DomainName) → is_domain_name is_path name ≡ true → list_all is_word (domain_parts name) ≡ true }
 {}

@@ -1,2 +1,4 @@
 pub mod NetLaws
+pub mod NetText
+pub mod NetRest
 mod NetExamples

@@ -1,5 +1,8 @@
 //! Reading the lines of network, environment and task.
-ghost use Rattle.std.specs.Prelude.{◌≡◌, ◌≤◌, ◌++◌, ◌==◌, ℕ, true, List, Ok, length, IfOk};
+ghost use Rattle.std.specs.Prelude.{◌≡◌, ◌≤◌, ◌++◌, ◌-◌, ℕ, true, List, Ok, length, drop, IfOk};
+ghost use Rattle.std.specs.List.{list_all};
+ghost use Rattle.tm_word.specs.Spelling.{words_of, joined};
+ghost use Rattle.tm_line.specs.WholeWords.{is_word};
 ghost use Rattle.tm_word.specs.Words.{Text};
 ghost use Rattle.tm_types.specs.declared.entry.Args.{Args};
 ghost use Rattle.tm_types.specs.declared.entry.Perms.{Perms};
@@ -279,5 +282,10 @@ pub fn read_net_acl(alloc: Global, words: &[Text]) -> Result<(Args, Perms, usize
 pub fn round_trip()
     ensures written { (a : Args) (bits : ℕ) (more : List Text) → is_net a bits ≡ true → ends_domain more ≡ true → net_line (net_words a bits ++ more) ≡ Ok (a, perms bits, more) }
     ensures read { (words rest : List Text) (a : Args) (p : Perms) → net_line words ≡ Ok (a, p, rest) → is_net a p.bits ≡ true }
+    // How many words a line took tells which are left.
+    ensures left { (words rest : List Text) (a : Args) (p : Perms) → net_line words ≡ Ok (a, p, rest) → rest ≡ drop (length words - length rest) words }
+    // What is printed is made of words, which are found again in the line that joins them.
+    ensures words { (a : Args) (bits : ℕ) → is_net a bits ≡ true → list_all is_word (net_words a bits) ≡ true }
+    ensures text { (a : Args) (bits : ℕ) → is_net a bits ≡ true → words_of (joined (net_words a bits)) ≡ net_words a bits }
     ensures normal { (words more rest : List Text) (a : Args) (p : Perms) → net_line words ≡ Ok (a, p, rest) → ends_domain more ≡ true → net_line (net_words a p.bits ++ more) ≡ Ok (a, p, more) }
 {}

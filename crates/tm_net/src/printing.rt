@@ -138,3 +138,130 @@ pub fn print_net_acl(
     let text = text_of(alloc, args, perms.bits)?;
     out.extend_from_slice(&text)
 }
+
+#[cfg(test)]
+mod tests {
+    use super::*;
+    use crate::{net_acl_at, read_net_acl};
+    use std::alloc::AllocError;
+    use tm_types::entry::LineKind;
+    use tm_types::step::LineFault;
+    use tm_word::normal_words;
+
+    /// The printed form of a whole line; none where the line is refused or has words past its arguments.
+    fn printed(alloc: Global, line: &str) -> Result<Option<Vec<u8>>, NoMemory> {
+        let words = normal_words(alloc, line.as_bytes())?;
+        match read_net_acl(alloc, words.as_slice()) {
+            Ok((args, perms, taken)) => {
+                if taken < words.len() {
+                    return Ok(None);
+                }
+                let mut out = Vec::new(alloc);
+                print_net_acl(alloc, &args, perms, &mut out)?;
+                Ok(Some(out))
+            }
+            Err(LineFault::Kind(_)) => Ok(None),
+            Err(LineFault::NoMemory) => Err(AllocError),
+        }
+    }
+
+    /// The kind of a bad line; none where it is accepted.
+    fn kind(alloc: Global, line: &str) -> Result<Option<LineKind>, NoMemory> {
+        let words = normal_words(alloc, line.as_bytes())?;
+        match net_acl_at(alloc, words.as_slice()) {
+            Ok(_) => Ok(None),
+            Err(LineFault::Kind(kind)) => Ok(Some(kind)),
+            Err(LineFault::NoMemory) => Err(AllocError),
+        }
+    }
+
+    #[test]
+    fn internet_sockets(rt: HostRuntime) -> Result<(), NoMemory> {
+        let alloc = rt.alloc();
+        for (line, text) in [
+            (
+                "network inet stream listen/bind/bind 1:0:0:2:0:0:0:3 @NG",
+                "network inet stream bind/listen 1:0:0:2::3 @NG",
+            ),
+            (
+                "network inet dgram send/send/send 0:0:0:0:0:0:0:1 5-5",
+                "network inet dgram send ::1 5",
+            ),
+            (
+                "network inet raw send 1:2:3:4:5:6:7:8 1-0x1",
+                "network inet raw send 1:2:3:4:5:6:7:8 1-0x1",
+            ),
+            (
+                "network inet stream connect 10.0.0.1-10.0.0.1 0x50",
+                "network inet stream connect 10.0.0.1 0x50",
+            ),
+            (
+                "network inet stream connect @AG 80",
+                "network inet stream connect @AG 80",
+            ),
+        ] {
+            match printed(alloc, line)? {
+                Some(out) => assert_eq!(rt; out.as_slice(), text.as_bytes(), "at {line}"),
+                None => assert!(rt; false, "refused: {line}"),
+            }
+        }
+        Ok(())
+    }
+
+    #[test]
+    fn other_lines(rt: HostRuntime) -> Result<(), NoMemory> {
+        let alloc = rt.alloc();
+        for (line, text) in [
+            (
+                "network unix seqpacket connect/listen/bind /n8",
+                "network unix seqpacket bind/listen/connect /n8",
+            ),
+            (
+                "network unix dgram bind/send/bind @G\\040x",
+                "network unix dgram bind/send @G\\040x",
+            ),
+            (
+                "network unix stream connect/bind/bind -",
+                "network unix stream bind/connect -",
+            ),
+            ("misc env LC_\\A", "misc env LC_\\A"),
+            ("misc env @odd/\\{a\\}/", "misc env @odd/\\{a\\}/"),
+            (
+                "task manual_domain_transition </a/\\*> /a /b\\*",
+                "task manual_domain_transition </a/\\*> /a /b\\*",
+            ),
+        ] {
+            match printed(alloc, line)? {
+                Some(out) => assert_eq!(rt; out.as_slice(), text.as_bytes(), "at {line}"),
+                None => assert!(rt; false, "refused: {line}"),
+            }
+        }
+        Ok(())
+    }
+
+    #[test]
+    fn bad_words(rt: HostRuntime) -> Result<(), NoMemory> {
+        let alloc = rt.alloc();
+        for (line, found) in [
+            ("network inet dgram send 0-0xffff", LineKind::Address),
+            (
+                "network inet raw bind/send/send g::1 5-5",
+                LineKind::Address,
+            ),
+            (
+                "network inet dgram bind/send 1:0:2:3:4:5:6:7 abc",
+                LineKind::Number,
+            ),
+            ("network unix bind/bind/send tmpfs", LineKind::Keyword),
+            ("network unix dgram connect /a", LineKind::Keyword),
+            ("network unix dgram send /\\{a\\}b", LineKind::Name),
+            ("misc env a=b", LineKind::Name),
+            ("misc env/env a", LineKind::Keyword),
+            ("task manual_domain_transition <foo> x /a", LineKind::Domain),
+            ("task manual_domain_transition", LineKind::Arity),
+        ] {
+            assert_eq!(rt; kind(alloc, line)?, Some(found), "at {line}");
+        }
+        Ok(())
+    }
+}
