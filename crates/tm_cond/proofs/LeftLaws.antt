@@ -88,7 +88,7 @@ name_uncut (b ∷ name) h =
     let split = both (is_name_byte b) (list_all is_name_byte name) h in
     list_all-append not_equals (spelling_of b) (spell name) ∙ all (list_all not_equals (spelling_of b)) (list_all not_equals (spell name)) (byte_uncut b split.0) (name_uncut name split.1)
 
-name_bytes : (name : Text) → list_all is_name_byte name ≡ true → list_all low_byte name ≡ true
+pub name_bytes : (name : Text) → list_all is_name_byte name ≡ true → list_all low_byte name ≡ true
 name_bytes [] h = refl
 name_bytes (b ∷ name) h =
     let split = both (is_name_byte b) (list_all is_name_byte name) h in

@@ -42,7 +42,7 @@ unfolding name_or_group right_text
 name_or_group_again (NameUnion.One p) h = quoted_name_again p h
 name_or_group_again (NameUnion.Group g) h = rw (group_again g h) refl
 
-quoted_too : (name : NameUnion) → is_quoted name ≡ true → is_quoted_or_group name ≡ true
+pub quoted_too : (name : NameUnion) → is_quoted name ≡ true → is_quoted_or_group name ≡ true
 quoted_too (NameUnion.One p) h = h
 quoted_too (NameUnion.Group g) h = absurd cc
 

@@ -63,7 +63,7 @@ cond_no_prefer c = clauses_no_prefer c.clauses c.grant_log
 
 -- ---- lines
 
-either : (a b : Bool) → (a || b) ≡ true → b ≡ false → a ≡ true
+pub either : (a b : Bool) → (a || b) ≡ true → b ≡ false → a ≡ true
 either true b h e = refl
 either false true h e = absurd cc
 either false false h e = absurd cc
@@ -96,7 +96,7 @@ net_first (Args.Path2 first second) bits more h = absurd cc
 net_first (Args.Mount device dir type flags) bits more h = absurd cc
 
 -- a line of a file is no line of another kind, and the other way round
-net_not : (a : Args) (bits : ℕ) → is_of_file a ≡ true → is_net a bits ≡ false
+pub net_not : (a : Args) (bits : ℕ) → is_of_file a ≡ true → is_net a bits ≡ false
 unfolding is_net
 net_not (Args.Path name) bits h = refl
 net_not (Args.Execute name prefer) bits h = refl
@@ -109,7 +109,7 @@ net_not (Args.Unix kind name) bits h = absurd cc
 net_not (Args.Env pattern_) bits h = absurd cc
 net_not (Args.Manual domain) bits h = absurd cc
 
-file_not : (a : Args) (bits : ℕ) → is_of_file a ≡ false → is_file a bits ≡ false
+pub file_not : (a : Args) (bits : ℕ) → is_of_file a ≡ false → is_file a bits ≡ false
 unfolding is_file
 file_not (Args.Inet kind address port) bits h = refl
 file_not (Args.Unix kind name) bits h = refl
@@ -122,7 +122,7 @@ file_not (Args.Device name mode major minor) bits h = absurd cc
 file_not (Args.Path2 first second) bits h = absurd cc
 file_not (Args.Mount device dir type flags) bits h = absurd cc
 
-other : (a b : Bool) → (a || b) ≡ true → a ≡ false → b ≡ true
+pub other : (a b : Bool) → (a || b) ≡ true → a ≡ false → b ≡ true
 other true b h e = absurd cc
 other false b h e = h
 

@@ -5,9 +5,11 @@
 
 ghost use Rattle.std.specs.Prelude.{◌≡◌, ◌++◌, true, List, Ok, IfOk, OnOk, OnErr};
 ghost use Rattle.tm_word.specs.Words.{Text};
-ghost use Rattle.tm_word.specs.Spelling.{joined};
+ghost use Rattle.std.specs.List.{list_all};
+ghost use Rattle.tm_word.specs.Spelling.{words_of, joined};
 ghost use Rattle.tm_types.specs.declared.entry.Entry.{Entry};
 ghost use Rattle.tm_line.specs.Lines.{Gives};
+ghost use Rattle.tm_line.specs.WholeWords.{is_word};
 ghost use Rattle.tm_entry.specs.Entries.{acl_line, entry_of, is_of_file, acl_words, entry_words, is_entry};
 
 use std::alloc::Global;
@@ -107,6 +109,9 @@ pub fn print_entry(alloc: Global, entry: &Entry, out: &mut Vec<u8>) -> Result<()
 /// one that a line can write, so that its printed words are its normal form.
 pub fn round_trip()
     ensures written { (entry : Entry) → is_entry entry ≡ true → entry_of (entry_words entry) ≡ Ok entry }
+    // What is printed is made of words, which are found again in the line that joins them.
+    ensures words { (entry : Entry) → is_entry entry ≡ true → list_all is_word (entry_words entry) ≡ true }
+    ensures text { (entry : Entry) → is_entry entry ≡ true → words_of (joined (entry_words entry)) ≡ entry_words entry }
     ensures read { (words : List Text) (entry : Entry) → entry_of words ≡ Ok entry → is_entry entry ≡ true }
     ensures normal { (words : List Text) (entry : Entry) → entry_of words ≡ Ok entry → entry_of (entry_words entry) ≡ Ok entry }
 {}
