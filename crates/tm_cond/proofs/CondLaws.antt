@@ -1,9 +1,8 @@
 -- Conditions: what is written is read again, and what is read can be written.
-use Rattle.std.proofs.Common.{◌≡◌, ℕ, zero, suc, ◌+◌, ◌<◌, ◌==◌, Bool, true, false, cond, ◌&&◌, List, [], ◌∷◌, ◌++◌, map, length, get_or, take, drop, Option, Some, None, Result, Ok, Err, refl, sym, ap, subst, ◌∙◌, arith, append_assoc}
-use Rattle.std.specs.Prelude.{codes}
+use Rattle.std.proofs.Common.{◌≡◌, ℕ, zero, suc, ◌+◌, ◌<◌, ◌==◌, Bool, true, false, ◌&&◌, List, [], ◌∷◌, ◌++◌, map, length, get_or, take, drop, Option, Some, None, Ok, Err, refl, sym, ap, subst, ◌∙◌, arith, append_assoc}
 use Rattle.std.specs.List.{list_all, position, position_from}
 use Rattle.std.proofs.Math.Seq.{take-append_seam, drop-append-add}
-use Rattle.std.proofs.lemmas.List.{append-nil, take_more}
+use Rattle.std.proofs.lemmas.List.{append-nil}
 use Rattle.std.proofs.lemmas.List.Folds.{list_all-append}
 use Rattle.std.proofs.lemmas.List.Quantifiers.{position-Some}
 use Rattle.std.proofs.lemmas.Iterator.Adapters.{position_from-zero}
@@ -14,7 +13,7 @@ use Rattle.tm_types.specs.declared.entry.Right.{Right}
 use Rattle.tm_types.specs.declared.entry.Clause.{Clause}
 use Rattle.tm_types.specs.declared.entry.Cond.{Cond}
 use Rattle.tm_line.specs.Lines.{◌>>=◌}
-use Rattle.tm_line.proofs.Steps.{bind_ok, done, ok_is, both, all, not_true}
+use Rattle.tm_line.proofs.Steps.{bind_ok, ok_is, both, all, not_true}
 use Rattle.tm_cond.specs.Attributes.{attr_word, attr_text, numeric_word, other_word, without_last}
 use Rattle.tm_cond.specs.Reading.{right_word, right_text, clause, operated, left_side, sides, clause_at, clause_word, operator, clause_text, cond_with, log_table, log_word, logged, with_word, cond_from, cond_of, log_words, cond_words}
 use Rattle.tm_cond.specs.Written.{is_attr, is_side, is_clause, is_cond}

@@ -22,9 +22,9 @@ use Rattle.tm_types.specs.declared.entry.StatPlace.{StatPlace}
 use Rattle.tm_types.specs.declared.entry.Attr.{Attr}
 use Rattle.tm_line.specs.Lines.{◌>>=◌}
 use Rattle.tm_line.specs.Arguments.{kinded, plain, plain_word}
-use Rattle.tm_line.proofs.Steps.{bind_ok, ok_is, kinded_ok, chosen, both, all, not_true}
+use Rattle.tm_line.proofs.Steps.{bind_ok, ok_is, kinded_ok, chosen, both, all}
 use Rattle.tm_line.proofs.SpellLaws.{word_again, word_small}
-use Rattle.tm_cond.specs.Attributes.{or_wrong, after, without_last, quoted, named, place_text, attr_text, numeric_word, other_table, other_word, argv_word, envp_word, or_read, or_rest, field_word, attr_word}
+use Rattle.tm_cond.specs.Attributes.{or_wrong, after, without_last, quoted, attr_text, numeric_word, other_table, other_word, argv_word, envp_word, or_read, or_rest, field_word, attr_word}
 use Rattle.tm_cond.specs.Written.{is_name_byte, is_attr}
 use Rattle.tm_cond.proofs.PieceLaws.{or_wrong_ok, after_found, without_last_again, without_last_other, without_last_found, quoted_again, quoted_found, named_fits}
 use Rattle.tm_cond.proofs.NumericLaws.{IsLeft, numeric_again, numeric_read}

@@ -1,21 +1,20 @@
 -- Numeric attributes: each word is read as its attribute, as a left word and as a right side, and what is read has a word.
-use Rattle.std.proofs.Common.{◌≡◌, ℕ, ◌==◌, Bool, true, false, not, [], ◌∷◌, Option, Some, None, Result, Ok, Err, refl, subst}
+use Rattle.std.proofs.Common.{◌≡◌, ◌==◌, true, not, Option, Some, None, Ok, refl, subst}
 use Rattle.std.specs.Prelude.{codes, option_map}
 use Rattle.std.specs.Option.{option_or}
 use Rattle.std.specs.List.{list_all}
 use Rattle.tm_word.specs.Words.{Text}
 use Rattle.tm_number.specs.Numbers.{number_of, value_of, range_of}
-use Rattle.tm_types.specs.declared.entry.LineKind.{LineKind}
 use Rattle.tm_types.specs.declared.entry.IdField.{IdField}
 use Rattle.tm_types.specs.declared.entry.StatPlace.{StatPlace}
 use Rattle.tm_types.specs.declared.entry.StatField.{StatField}
 use Rattle.tm_types.specs.declared.entry.Attr.{Attr}
 use Rattle.tm_types.specs.declared.entry.Right.{Right}
 use Rattle.tm_line.specs.Arguments.{range_word, number_word}
-use Rattle.tm_cond.specs.Attributes.{after, without_last, named, id_word, field_word, parent_word, field_table, parent_table, place_text, attr_text, task_at, field_at, stat_at, count_table, numeric_word, attr_word}
+use Rattle.tm_cond.specs.Attributes.{after, without_last, named, id_word, field_word, parent_word, parent_table, place_text, attr_text, task_at, field_at, stat_at, count_table, numeric_word, attr_word}
 use Rattle.tm_cond.specs.Reading.{or_numeric}
 use Rattle.tm_cond.specs.Written.{has_field, is_attr, is_numeric}
-use Rattle.tm_cond.proofs.PieceLaws.{then_some, map_some, either_some, AllRows, named_fits}
+use Rattle.tm_cond.proofs.PieceLaws.{then_some, map_some, either_some, named_fits}
 
 -- an attribute's word: it is read on the left, it has no `=`, and no `!` at its end
 pub record IsLeft (attr : Attr) : Type 0 where

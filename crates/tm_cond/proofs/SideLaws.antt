@@ -1,5 +1,5 @@
 -- Right sides: what is written is read again, and what is read can be written.
-use Rattle.std.proofs.Common.{◌≡◌, ◌==◌, Bool, true, false, cond, ◌&&◌, [], ◌∷◌, ◌++◌, Option, Some, None, Result, Ok, Err, refl, ap, subst}
+use Rattle.std.proofs.Common.{◌≡◌, ◌==◌, Bool, true, false, cond, [], ◌∷◌, ◌++◌, Result, Ok, Err, refl, subst}
 use Rattle.std.specs.Prelude.{codes}
 use Rattle.tm_word.specs.Words.{Text, Word, Pattern}
 use Rattle.tm_word.specs.Printing.{spelled_pattern}
@@ -13,7 +13,6 @@ use Rattle.tm_types.specs.declared.unions.NumberUnion.{NumberUnion}
 use Rattle.tm_rules.specs.Equality.{texts_equal}
 use Rattle.tm_line.specs.Lines.{◌>>=◌}
 use Rattle.tm_line.specs.Arguments.{kinded, group_word, pattern_word, number_word}
-use Rattle.tm_line.specs.Written.{is_group, is_number}
 use Rattle.tm_line.proofs.Steps.{bind_ok, done, ok_is, kinded_ok, both, all}
 use Rattle.tm_line.proofs.GroupLaws.{group_found, group_again}
 use Rattle.tm_line.proofs.NameArgLaws.{pattern_again, pattern_read}

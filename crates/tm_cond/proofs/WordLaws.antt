@@ -1,5 +1,5 @@
 -- Printed conditions are words of a line.
-use Rattle.std.proofs.Common.{◌≡◌, ℕ, ◌<◌, ◌≤◌, ◌^◌, ◌==◌, nat_lt, Bool, true, false, ◌&&◌, not, List, [], ◌∷◌, ◌++◌, map, length, Option, Some, None, refl, sym, ap, subst, ◌∙◌, arith, eq-eqb}
+use Rattle.std.proofs.Common.{◌≡◌, ℕ, ◌<◌, ◌^◌, ◌==◌, Bool, true, false, not, List, [], ◌∷◌, ◌++◌, map, length, Option, Some, None, refl, sym, subst, ◌∙◌, arith, eq-eqb}
 use Rattle.std.specs.Prelude.{codes}
 use Rattle.std.specs.List.{list_all}
 use Rattle.std.specs.Fmt.{decimal}
@@ -27,7 +27,7 @@ use Rattle.tm_line.proofs.Steps.{both, all}
 use Rattle.tm_line.proofs.WholeLaws.{solid_append, word_from, spell_solid, spelled_solid, pattern_solid, number_is}
 use Rattle.tm_cond.specs.Attributes.{id_text, field_text, kind_text, place_text, attr_text}
 use Rattle.tm_cond.specs.Reading.{right_text, operator, clause_text, log_words, cond_words}
-use Rattle.tm_cond.specs.Written.{is_name_byte, is_attr, is_numeric, is_kind, is_quoted, is_quoted_or_group, is_name_of, is_quoted_or_null, is_number_or_attr, is_side, is_clause, is_cond}
+use Rattle.tm_cond.specs.Written.{is_attr, is_numeric, is_kind, is_quoted, is_quoted_or_group, is_name_of, is_quoted_or_null, is_number_or_attr, is_side, is_clause, is_cond}
 use Rattle.tm_cond.proofs.LeftLaws.{name_bytes}
 use Rattle.tm_cond.proofs.SideLaws.{quoted_too}
 

@@ -15,7 +15,7 @@ use Rattle.tm_rules.specs.Equality.{texts_equal}
 use Rattle.tm_line.specs.Lines.{◌>>=◌}
 use Rattle.tm_line.specs.Arguments.{kinded, group_word, pattern_word, number_word}
 use Rattle.tm_line.specs.Printing.{number_spelling}
-use Rattle.tm_cond.specs.Attributes.{or_wrong, quoted, without_last, named, or_read, numeric_word, attr_word, attr_text, kind_word, kind_text}
+use Rattle.tm_cond.specs.Attributes.{or_wrong, quoted, without_last, named, numeric_word, attr_word, attr_text, kind_word, kind_text}
 
 -- Right sides
 
