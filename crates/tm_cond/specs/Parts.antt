@@ -1,5 +1,5 @@
 -- The parts of a condition, by its right side.
-use Rattle.std.specs.Prelude.{ℕ, Bool, false, not, ◌&&◌, ◌==◌, is_some}
+use Rattle.std.specs.Prelude.{Bool, false, not, ◌&&◌, ◌==◌, is_some}
 use Rattle.std.specs.Bool.{beq}
 use Rattle.std.specs.Option.{option_map_or}
 use Rattle.tm_types.specs.declared.entry.Attr.{Attr}

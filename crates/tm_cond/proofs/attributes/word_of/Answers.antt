@@ -1,4 +1,3 @@
-use Rattle.std.proofs.Common.{◌≡◌}
 use Rattle.tm_rules.specs.Condition.{word_of}
 use Rattle.tm_cond.proofs.attributes.word_of.Goals as goal
 

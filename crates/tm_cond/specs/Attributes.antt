@@ -1,0 +1,196 @@
+-- The words of conditions, read and written: the attributes, and the types of files.
+use Rattle.std.specs.Prelude.{ℕ, ◌-◌, ◌^◌, ◌==◌, nat_lt, ◌&&◌, Bool, if◌then◌else◌, List, [], ◌∷◌, ◌++◌, length, get_or, take, codes, Option, Some, None, option_map, option_and_then, Result, Ok, Err}
+use Rattle.std.specs.Option.{option_or}
+use Rattle.std.specs.Fmt.{decimal}
+use Rattle.tm_word.specs.Words.{Text}
+use Rattle.tm_word.specs.Spelling.{spell}
+use Rattle.tm_types.specs.declared.entry.LineKind.{LineKind}
+use Rattle.tm_types.specs.declared.entry.IdField.{IdField}
+use Rattle.tm_types.specs.declared.entry.StatPlace.{StatPlace}
+use Rattle.tm_types.specs.declared.entry.StatField.{StatField}
+use Rattle.tm_types.specs.declared.entry.FileKindWord.{FileKindWord}
+use Rattle.tm_types.specs.declared.entry.Attr.{Attr}
+use Rattle.tm_rules.specs.Equality.{texts_equal}
+use Rattle.tm_pattern.specs.Reading.{word_of}
+use Rattle.tm_line.specs.Lines.{◌>>=◌}
+use Rattle.tm_line.specs.Arguments.{kinded, plain_word}
+
+-- Pieces of a word
+
+-- what is there, or else the condition is wrong
+abbrev pub or_wrong : {A : Type 0} → Option A → Result A LineKind
+or_wrong (Some x) = Ok x
+or_wrong None = Err LineKind.Condition
+
+-- the text after this front
+abbrev pub after : Text → Text → Option Text
+after [] text = Some text
+after (a ∷ front) [] = None
+after (a ∷ front) (b ∷ text) = if a == b then after front text else None
+
+-- the text without its last byte, where that is this one
+abbrev pub ends_in : ℕ → Text → Bool
+ends_in byte text = nat_lt 0 (length text) && get_or text (length text - 1) 0 == byte
+
+unfoldable pub without_last : ℕ → Text → Option Text
+without_last byte text = if ends_in byte text then Some (take (length text - 1) text) else None
+
+-- what stands between two double quotes, the first byte and the last one
+abbrev pub quoted : Text → Result Text LineKind
+quoted [] = Err LineKind.Condition
+quoted (b ∷ text) = if b == 34 then or_wrong (without_last 34 text) else Err LineKind.Condition
+
+-- the value that a table has for this text
+abbrev pub named : {A : Type 0} → List (Text × A) → Text → Option A
+named [] text = None
+named (row ∷ table) text = if texts_equal text row.0 then Some row.1 else named table text
+
+-- Words of one table
+
+-- the ids of a process
+abbrev pub id_text : IdField → Text
+id_text IdField.Uid = codes "uid"
+id_text IdField.Euid = codes "euid"
+id_text IdField.Suid = codes "suid"
+id_text IdField.Fsuid = codes "fsuid"
+id_text IdField.Gid = codes "gid"
+id_text IdField.Egid = codes "egid"
+id_text IdField.Sgid = codes "sgid"
+id_text IdField.Fsgid = codes "fsgid"
+id_text IdField.Pid = codes "pid"
+id_text IdField.Ppid = codes "ppid"
+
+-- a value beside its own text
+abbrev pub row_of : {A : Type 0} → (A → Text) → A → Text × A
+row_of text x = (text x, x)
+
+abbrev pub id_table : List (Text × IdField)
+id_table =
+    row_of id_text IdField.Uid ∷ row_of id_text IdField.Euid ∷ row_of id_text IdField.Suid ∷ row_of id_text IdField.Fsuid ∷ row_of id_text IdField.Gid ∷ row_of id_text IdField.Egid ∷ row_of id_text IdField.Sgid ∷ row_of id_text IdField.Fsgid ∷ row_of id_text IdField.Pid ∷ row_of id_text IdField.Ppid ∷ []
+
+unfoldable pub id_word : Text → Option IdField
+id_word text = named id_table text
+
+-- the numbers of a file
+abbrev pub field_text : StatField → Text
+field_text StatField.Uid = codes "uid"
+field_text StatField.Gid = codes "gid"
+field_text StatField.Ino = codes "ino"
+field_text StatField.Perm = codes "perm"
+field_text StatField.Major = codes "major"
+field_text StatField.Minor = codes "minor"
+field_text StatField.DevMajor = codes "dev_major"
+field_text StatField.DevMinor = codes "dev_minor"
+
+abbrev pub field_table : List (Text × StatField)
+field_table =
+    row_of field_text StatField.Uid ∷ row_of field_text StatField.Gid ∷ row_of field_text StatField.Ino ∷ row_of field_text StatField.Perm ∷ row_of field_text StatField.Major ∷ row_of field_text StatField.Minor ∷ row_of field_text StatField.DevMajor ∷ row_of field_text StatField.DevMinor ∷ []
+
+unfoldable pub field_word : Text → Option StatField
+field_word text = named field_table text
+
+-- those of the folder that a file is in
+abbrev pub parent_table : List (Text × StatField)
+parent_table = row_of field_text StatField.Uid ∷ row_of field_text StatField.Gid ∷ row_of field_text StatField.Ino ∷ row_of field_text StatField.Perm ∷ []
+
+unfoldable pub parent_word : Text → Option StatField
+parent_word text = named parent_table text
+
+-- the types of files
+abbrev pub kind_text : FileKindWord → Text
+kind_text FileKindWord.File = codes "file"
+kind_text FileKindWord.Directory = codes "directory"
+kind_text FileKindWord.Symlink = codes "symlink"
+kind_text FileKindWord.Socket = codes "socket"
+kind_text FileKindWord.Fifo = codes "fifo"
+kind_text FileKindWord.Char = codes "char"
+kind_text FileKindWord.Block = codes "block"
+
+abbrev pub kind_table : List (Text × FileKindWord)
+kind_table =
+    row_of kind_text FileKindWord.File ∷ row_of kind_text FileKindWord.Directory ∷ row_of kind_text FileKindWord.Symlink ∷ row_of kind_text FileKindWord.Socket ∷ row_of kind_text FileKindWord.Fifo ∷ row_of kind_text FileKindWord.Char ∷ row_of kind_text FileKindWord.Block ∷ []
+
+unfoldable pub kind_word : Text → Option FileKindWord
+kind_word text = named kind_table text
+
+-- Attributes
+
+-- what stands in front of a file's attributes
+abbrev pub place_text : StatPlace → Text
+place_text StatPlace.Path1 = codes "path1."
+place_text StatPlace.Path2 = codes "path2."
+place_text StatPlace.Path1Parent = codes "path1.parent."
+place_text StatPlace.Path2Parent = codes "path2.parent."
+
+-- how an attribute is written
+unfoldable pub attr_text : Attr → Text
+attr_text (Attr.Task field) = codes "task." ++ id_text field
+attr_text Attr.Argc = codes "exec.argc"
+attr_text Attr.Envc = codes "exec.envc"
+attr_text (Attr.Stat place field) = place_text place ++ field_text field
+attr_text (Attr.Kind place) = place_text place ++ codes "type"
+attr_text (Attr.Argv n) = codes "exec.argv[" ++ decimal n ++ 93 ∷ []
+attr_text (Attr.Envp name) = codes "exec.envp[" ++ 34 ∷ spell name ++ 34 ∷ 93 ∷ []
+attr_text Attr.RealPath = codes "exec.realpath"
+attr_text Attr.Target = codes "symlink.target"
+
+-- an id of the process
+abbrev pub task_at : Text → Option Attr
+task_at text = option_and_then (λ rest. option_map Attr.Task (id_word rest)) (after (codes "task.") text)
+
+-- a number of a file, or of the folder that it is in
+abbrev pub field_at : StatPlace → Text → Option StatField
+field_at StatPlace.Path1 text = field_word text
+field_at StatPlace.Path2 text = field_word text
+field_at StatPlace.Path1Parent text = parent_word text
+field_at StatPlace.Path2Parent text = parent_word text
+
+abbrev pub stat_at : StatPlace → Text → Option Attr
+stat_at place text = option_and_then (λ rest. option_map (Attr.Stat place) (field_at place rest)) (after (place_text place) text)
+
+-- how many arguments and environment names there are
+abbrev pub count_table : List (Text × Attr)
+count_table = (codes "exec.argc", Attr.Argc) ∷ (codes "exec.envc", Attr.Envc) ∷ []
+
+-- a numeric attribute
+unfoldable pub numeric_word : Text → Option Attr
+numeric_word text =
+    option_or (task_at text) (option_or (named count_table text) (option_or (stat_at StatPlace.Path1 text) (option_or (stat_at StatPlace.Path2 text) (option_or (stat_at StatPlace.Path1Parent text) (stat_at StatPlace.Path2Parent text)))))
+
+-- the attributes without a number that are one word each
+abbrev pub other_table : List (Text × Attr)
+other_table =
+    (codes "path1.type", Attr.Kind StatPlace.Path1) ∷ (codes "path2.type", Attr.Kind StatPlace.Path2) ∷ (codes "exec.realpath", Attr.RealPath) ∷ (codes "symlink.target", Attr.Target) ∷ []
+
+unfoldable pub other_word : Text → Option Attr
+other_word text = named other_table text
+
+-- an argument by its place, a plain number below 2^32 before the closing bracket
+unfoldable pub argv_word : Text → Result Attr LineKind
+argv_word rest = do
+  digits ← or_wrong (without_last 93 rest)
+  n ← kinded LineKind.Condition (plain_word (2 ^ 32) digits)
+  Ok (Attr.Argv n)
+
+-- an environment name, a spelled word in double quotes before the closing bracket
+unfoldable pub envp_word : Text → Result Attr LineKind
+envp_word rest = do
+  text ← or_wrong (without_last 93 rest)
+  inner ← quoted text
+  name ← or_wrong (word_of inner)
+  Ok (Attr.Envp name)
+
+-- what is there, or what the other gives
+abbrev pub or_read : {A : Type 0} → Option A → Result A LineKind → Result A LineKind
+or_read (Some x) other = Ok x
+or_read None other = other
+
+-- what the rest of the text gives, or what the other gives
+abbrev pub or_rest : Option Text → (Text → Result Attr LineKind) → Result Attr LineKind → Result Attr LineKind
+or_rest (Some rest) read other = read rest
+or_rest None read other = other
+
+-- a left word
+unfoldable pub attr_word : Text → Result Attr LineKind
+attr_word text =
+    or_read (numeric_word text) (or_read (other_word text) (or_rest (after (codes "exec.argv[") text) argv_word (or_rest (after (codes "exec.envp[") text) envp_word (Err LineKind.Condition))))

@@ -1,0 +1,291 @@
+//! Printing conditions.
+ghost use Rattle.std.specs.Prelude.{◌≡◌, ◌++◌, [], ◌∷◌, map, IfOk, OnOk, OnErr};
+ghost use Rattle.std.specs.Fmt.{decimal};
+ghost use Rattle.tm_word.specs.Spelling.{spell};
+ghost use Rattle.tm_word.specs.Printing.{spelled_pattern};
+ghost use Rattle.tm_line.specs.Lines.{spaced};
+ghost use Rattle.tm_cond.specs.Attributes.{id_text, field_text, kind_text, attr_text};
+ghost use Rattle.tm_cond.specs.Reading.{right_text, operator, clause_text, log_words, cond_words};
+
+use crate::left::place_text;
+use std::alloc::Global;
+use tm_line::print_number;
+use tm_list::NoMemory;
+use tm_number::{Base, Number, write_number};
+use tm_pattern::print_pattern;
+use tm_types::entry::{Attr, Clause, Cond, FileKindWord, IdField, Right, StatField};
+use tm_types::unions::NameUnion;
+use tm_word::{Pattern, Word, write_word};
+
+fn id_text(field: IdField) -> &'static [u8]
+    ensures { result.now ≡ id_text field }
+{
+    match field {
+        IdField::Uid => b"uid",
+        IdField::Euid => b"euid",
+        IdField::Suid => b"suid",
+        IdField::Fsuid => b"fsuid",
+        IdField::Gid => b"gid",
+        IdField::Egid => b"egid",
+        IdField::Sgid => b"sgid",
+        IdField::Fsgid => b"fsgid",
+        IdField::Pid => b"pid",
+        IdField::Ppid => b"ppid",
+    }
+}
+
+fn field_text(field: StatField) -> &'static [u8]
+    ensures { result.now ≡ field_text field }
+{
+    match field {
+        StatField::Uid => b"uid",
+        StatField::Gid => b"gid",
+        StatField::Ino => b"ino",
+        StatField::Perm => b"perm",
+        StatField::Major => b"major",
+        StatField::Minor => b"minor",
+        StatField::DevMajor => b"dev_major",
+        StatField::DevMinor => b"dev_minor",
+    }
+}
+
+fn kind_text(kind: FileKindWord) -> &'static [u8]
+    ensures { result.now ≡ kind_text kind }
+{
+    match kind {
+        FileKindWord::File => b"file",
+        FileKindWord::Directory => b"directory",
+        FileKindWord::Symlink => b"symlink",
+        FileKindWord::Socket => b"socket",
+        FileKindWord::Fifo => b"fifo",
+        FileKindWord::Char => b"char",
+        FileKindWord::Block => b"block",
+    }
+}
+
+// Appends the digits of a number.
+fn push_decimal(alloc: Global, value: u32, out: &mut Vec<u8>) -> Result<(), NoMemory>
+    ensures { OnOk result (out.new.items ≡ out.old.items ++ decimal value) }
+{
+    let number = Number {
+        value: u64::from(value),
+        base: Base::Decimal,
+    };
+    write_number(alloc, &number, out)
+}
+
+// Appends a word between double quotes.
+fn push_name(alloc: Global, name: &Word, out: &mut Vec<u8>) -> Result<(), NoMemory>
+    ensures { OnOk result (out.new.items ≡ out.old.items ++ 34 ∷ spell name.now ++ 34 ∷ []) }
+{
+    out.push(b'"')?;
+    write_word(alloc, name, out)?;
+    out.extend_from_slice(b"\"")
+}
+
+// Appends a pattern between double quotes.
+fn push_pattern(alloc: Global, pattern: &Pattern, out: &mut Vec<u8>) -> Result<(), NoMemory>
+    ensures { OnOk result (out.new.items ≡ out.old.items ++ 34 ∷ spelled_pattern pattern.now ++ 34 ∷ []) }
+{
+    out.push(b'"')?;
+    print_pattern(alloc, pattern, out)?;
+    out.extend_from_slice(b"\"")
+}
+
+// Appends an attribute.
+#[tactic(auto, unfolding(crate::specs::Attributes::attr_text))]
+fn push_attr(alloc: Global, attr: &Attr, out: &mut Vec<u8>) -> Result<(), NoMemory>
+    ensures { OnOk result (out.new.items ≡ out.old.items ++ attr_text attr.now) }
+{
+    match attr {
+        Attr::Task(field) => {
+            out.extend_from_slice(b"task.")?;
+            out.extend_from_slice(id_text(*field))
+        }
+        Attr::Argc => out.extend_from_slice(b"exec.argc"),
+        Attr::Envc => out.extend_from_slice(b"exec.envc"),
+        Attr::Stat(place, field) => {
+            out.extend_from_slice(place_text(*place))?;
+            out.extend_from_slice(field_text(*field))
+        }
+        Attr::Kind(place) => {
+            out.extend_from_slice(place_text(*place))?;
+            out.extend_from_slice(b"type")
+        }
+        Attr::Argv(place) => {
+            out.extend_from_slice(b"exec.argv[")?;
+            push_decimal(alloc, *place, out)?;
+            out.extend_from_slice(b"]")
+        }
+        Attr::Envp(name) => {
+            out.extend_from_slice(b"exec.envp[")?;
+            push_name(alloc, name, out)?;
+            out.extend_from_slice(b"]")
+        }
+        Attr::RealPath => out.extend_from_slice(b"exec.realpath"),
+        Attr::Target => out.extend_from_slice(b"symlink.target"),
+    }
+}
+
+// Appends a right side.
+#[tactic(auto, unfolding(crate::specs::Reading::right_text))]
+fn push_right(alloc: Global, right: &Right, out: &mut Vec<u8>) -> Result<(), NoMemory>
+    ensures { OnOk result (out.new.items ≡ out.old.items ++ right_text right.now) }
+{
+    match right {
+        Right::Numbers(number) => print_number(alloc, number, out),
+        Right::Attr(attr) => push_attr(alloc, attr, out),
+        Right::Kind(kind) => out.extend_from_slice(kind_text(*kind)),
+        Right::Name(NameUnion::One(pattern)) => push_pattern(alloc, pattern, out),
+        Right::Name(NameUnion::Group(group)) => {
+            out.push(b'@')?;
+            write_word(alloc, group, out)
+        }
+        Right::Null => out.extend_from_slice(b"NULL"),
+    }
+}
+
+// Appends an operator.
+fn push_operator(equal: bool, out: &mut Vec<u8>) -> Result<(), NoMemory>
+    ensures { OnOk result (out.new.items ≡ out.old.items ++ operator equal) }
+{
+    if equal {
+        out.extend_from_slice(b"=")
+    } else {
+        out.extend_from_slice(b"!=")
+    }
+}
+
+// Appends a clause.
+#[tactic(auto, unfolding(crate::specs::Reading::clause_text))]
+fn push_clause(alloc: Global, clause: &Clause, out: &mut Vec<u8>) -> Result<(), NoMemory>
+    ensures { OnOk result (out.new.items ≡ out.old.items ++ clause_text clause.now) }
+{
+    push_attr(alloc, &clause.left, out)?;
+    push_operator(clause.equal, out)?;
+    push_right(alloc, &clause.right, out)
+}
+
+// Appends clauses, each after a space.
+fn push_clauses(alloc: Global, clauses: &[Clause], out: &mut Vec<u8>) -> Result<(), NoMemory>
+    ensures { OnOk result (out.new.items ≡ out.old.items ++ spaced (map clause_text clauses.now)) }
+{
+    for clause in clauses {
+        out.push(b' ')?;
+        push_clause(alloc, clause, out)?;
+    }
+    Ok(())
+}
+
+// Appends the word that says whether a grant is logged, after a space.
+fn push_log(log: Option<bool>, out: &mut Vec<u8>) -> Result<(), NoMemory>
+    ensures { OnOk result (out.new.items ≡ out.old.items ++ spaced (log_words log)) }
+{
+    match log {
+        None => Ok(()),
+        Some(true) => out.extend_from_slice(b" grant_log=yes"),
+        Some(false) => out.extend_from_slice(b" grant_log=no"),
+    }
+}
+
+// The conditions, each after a space.
+#[tactic(auto, unfolding(crate::specs::Reading::cond_words))]
+fn cond_text(alloc: Global, cond: &Cond) -> Result<Vec<u8>, NoMemory>
+    ensures { IfOk result (λ text. text.items ≡ spaced (cond_words cond.now)) }
+{
+    let mut text = Vec::new(alloc);
+    push_clauses(alloc, cond.clauses.as_slice(), &mut text)?;
+    push_log(cond.grant_log, &mut text)?;
+    Ok(text)
+}
+
+/// Appends the conditions of a line, each after a space: the clauses in written order, and `grant_log` last. After want of memory
+/// `out` is as before.
+pub fn print_cond(alloc: Global, cond: &Cond, out: &mut Vec<u8>) -> Result<(), NoMemory>
+    ensures ok { OnOk result (out.new.items ≡ out.old.items ++ spaced (cond_words cond.now)) }
+    ensures err { OnErr result (out.new.items ≡ out.old.items) }
+{
+    let text = cond_text(alloc, cond)?;
+    out.extend_from_slice(&text)
+}
+
+#[cfg(test)]
+mod tests {
+    use super::*;
+    use crate::read_cond;
+    use std::alloc::AllocError;
+    use tm_types::entry::LineKind;
+    use tm_types::step::LineFault;
+    use tm_word::normal_words;
+
+    // The printed conditions of a line; none where a word is no condition.
+    fn printed(alloc: Global, line: &[u8]) -> Result<Option<Vec<u8>>, NoMemory> {
+        let words = normal_words(alloc, line)?;
+        match read_cond(alloc, &words) {
+            Ok(cond) => {
+                let mut out = Vec::new(alloc);
+                print_cond(alloc, &cond, &mut out)?;
+                Ok(Some(out))
+            }
+            Err(LineFault::NoMemory) => Err(AllocError),
+            Err(LineFault::Kind(kind)) => match kind {
+                LineKind::Condition => Ok(None),
+                _ => Err(AllocError),
+            },
+        }
+    }
+
+    #[test]
+    fn conditions_of_accepted_lines(rt: HostRuntime) -> Result<(), NoMemory> {
+        for line in [
+            " path1.type!=directory task.uid=0",
+            " path1.ino=1 path1.dev_minor=0x10",
+            " path2.parent.uid=0 exec.envp[\"X\"]!=NULL path2.parent.uid=0",
+            " exec.realpath!=\"/a\" exec.argv[1]!=\"\\*\" path1.parent.perm=01777",
+            " symlink.target=\"a\\-b\" task.uid=0x0 path2.dev_major=8",
+            " exec.envp[\"A\\040B\"]!=\"c\\\\d\" exec.argv[0]=\"\" grant_log=no",
+        ] {
+            match printed(rt.alloc(), line.as_bytes())? {
+                Some(out) => assert_eq!(rt; out.as_slice(), line.as_bytes(), "at {line}"),
+                None => assert!(rt; false, "no condition: {line}"),
+            }
+        }
+        Ok(())
+    }
+
+    #[test]
+    fn conditions_in_normal_form(rt: HostRuntime) -> Result<(), NoMemory> {
+        for (line, text) in [
+            (
+                "grant_log=yes path1.parent.perm=01777  exec.realpath=@GRP",
+                " path1.parent.perm=01777 exec.realpath=@GRP grant_log=yes",
+            ),
+            (
+                "task.gid=0X1f task.uid!=00017 path1.major=5-5",
+                " task.gid=0x1F task.uid!=017 path1.major=5",
+            ),
+        ] {
+            match printed(rt.alloc(), line.as_bytes())? {
+                Some(out) => assert_eq!(rt; out.as_slice(), text.as_bytes(), "at {line}"),
+                None => assert!(rt; false, "no condition: {line}"),
+            }
+        }
+        Ok(())
+    }
+
+    #[test]
+    fn conditions_of_refused_lines(rt: HostRuntime) -> Result<(), NoMemory> {
+        for line in [
+            "task.uid=0 exec.argv[01]=\"x\"",
+            "exec.argv[4294967296]=\"a\"",
+            "exec.envp[X]=\"a\"",
+            "path1.parent.type=file",
+            "task.uid==0",
+            "grant_log=yes task.uid=0 grant_log=no",
+        ] {
+            let found = printed(rt.alloc(), line.as_bytes())?;
+            assert!(rt; found.is_none(), "at {line}");
+        }
+        Ok(())
+    }
+}

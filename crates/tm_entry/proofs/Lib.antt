@@ -1,0 +1,4 @@
+pub mod TextLaws
+pub mod EntryLaws
+pub mod EntryText
+mod Examples

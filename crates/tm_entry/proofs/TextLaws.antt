@@ -1,0 +1,36 @@
+-- The text of an entry: its line, and each condition after a space.
+use Rattle.std.proofs.Common.{◌≡◌, List, ◌∷◌, ◌++◌, refl}
+use Rattle.tm_word.specs.Words.{Text}
+use Rattle.tm_word.specs.Spelling.{joined}
+use Rattle.tm_types.specs.declared.entry.Args.{Args}
+use Rattle.tm_types.specs.declared.entry.Perms.{Perms}
+use Rattle.tm_types.specs.declared.entry.Entry.{Entry}
+use Rattle.tm_line.specs.Lines.{spaced}
+use Rattle.tm_line.proofs.JoinLaws.{joined_more}
+use Rattle.tm_file.specs.FileLines.{file_words}
+use Rattle.tm_net.specs.NetLines.{net_words}
+use Rattle.tm_cond.specs.Reading.{cond_words}
+use Rattle.tm_entry.specs.Entries.{acl_words, entry_words}
+
+-- a first word, and the words after it
+pub record Words (words : List Text) : Type 0 where
+  pub first : Text
+  pub rest : List Text
+  pub are : words ≡ first ∷ rest
+
+pub acl_first : (args : Args) (perms : Perms) → Words (acl_words args perms)
+unfolding acl_words file_words net_words
+acl_first (Args.Path name) perms = record { first = _; rest = _; are = refl }
+acl_first (Args.Execute name prefer) perms = record { first = _; rest = _; are = refl }
+acl_first (Args.PathNumber name number) perms = record { first = _; rest = _; are = refl }
+acl_first (Args.Device name mode major minor) perms = record { first = _; rest = _; are = refl }
+acl_first (Args.Path2 first second) perms = record { first = _; rest = _; are = refl }
+acl_first (Args.Mount device dir type flags) perms = record { first = _; rest = _; are = refl }
+acl_first (Args.Inet kind address port) perms = record { first = _; rest = _; are = refl }
+acl_first (Args.Unix kind name) perms = record { first = _; rest = _; are = refl }
+acl_first (Args.Env pattern_) perms = record { first = _; rest = _; are = refl }
+acl_first (Args.Manual domain) perms = record { first = _; rest = _; are = refl }
+
+pub entry_joined : (e : Entry) → joined (entry_words e) ≡ joined (acl_words e.args e.perms) ++ spaced (cond_words e.cond)
+unfolding entry_words
+entry_joined e = let w = acl_first e.args e.perms in rw w.are (joined_more w.first w.rest (cond_words e.cond))
