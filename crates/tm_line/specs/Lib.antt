@@ -1,0 +1,5 @@
+pub mod Lines
+pub mod Permissions
+pub mod Arguments
+pub mod Domains
+pub mod Printing

@@ -1,0 +1,218 @@
+//! Arguments of lines, each one word.
+ghost use Rattle.std.specs.Prelude.{◌≡◌, ◌^◌};
+ghost use Rattle.tm_line.specs.Lines.{Gives};
+ghost use Rattle.tm_line.specs.Arguments.{one_name, one_number, one_address, group_word, pattern_word, path_word, range_word, addr_range_word, name_word, number_word, address_word, plain_word, name_at, number_at, address_at};
+
+use std::alloc::Global;
+use tm_addr::read_addr_range;
+use tm_list::Seq;
+use tm_number::{AddrRange, Base, Range, read_number, read_range};
+use tm_pattern::{PatternFault, read_pattern, spelled_word};
+use tm_types::entry::LineKind;
+use tm_types::step::LineFault;
+use tm_types::unions::{AddrUnion, NameUnion, NumberUnion};
+use tm_word::{Pattern, Text, Word};
+
+/// Reads the name of a group, without the `@` in front: a spelled word that is not empty. Errors: `Name`.
+#[tactic(auto, unfolding(crate::specs::Arguments::group_word))]
+pub fn group_word(alloc: Global, text: &[u8]) -> Result<Word, LineFault>
+    ensures { Gives (λ word. word) result (group_word text.now) }
+{
+    match spelled_word(alloc, text) {
+        Err(_) => Err(LineFault::NoMemory),
+        Ok(None) => Err(LineFault::Kind(LineKind::Name)),
+        Ok(Some(word)) => {
+            if word.is_empty() {
+                Err(LineFault::Kind(LineKind::Name))
+            } else {
+                Ok(word)
+            }
+        }
+    }
+}
+
+/// Reads a pattern, which may begin with `@`. Errors: `Name`.
+#[tactic(auto, unfolding(crate::specs::Arguments::pattern_word))]
+pub fn pattern_word(alloc: Global, text: &[u8]) -> Result<Pattern, LineFault>
+    ensures { Gives (λ pattern. pattern) result (pattern_word text.now) }
+{
+    match read_pattern(alloc, text) {
+        Ok(pattern) => Ok(pattern),
+        Err(PatternFault::NoMemory) => Err(LineFault::NoMemory),
+        Err(PatternFault::BadElement(_)) => Err(LineFault::Kind(LineKind::Name)),
+        Err(PatternFault::LoneBrace(_)) => Err(LineFault::Kind(LineKind::Name)),
+        Err(PatternFault::EmptyPart(_)) => Err(LineFault::Kind(LineKind::Name)),
+    }
+}
+
+/// Reads a path, which is a pattern that begins with `/`, and keeps it as it is written. Errors: `Name`.
+#[tactic(auto, unfolding(crate::specs::Arguments::path_word, tm_domain::specs::Names::is_path))]
+pub fn path_word(alloc: Global, text: &[u8]) -> Result<Text, LineFault>
+    ensures { Gives (λ path. path) result (path_word text.now) }
+{
+    match text {
+        [] => Err(LineFault::Kind(LineKind::Name)),
+        [first, ..] => {
+            if *first != b'/' {
+                return Err(LineFault::Kind(LineKind::Name));
+            }
+            match read_pattern(alloc, text) {
+                Ok(_) => Ok(Seq::from_bytes(alloc, text)?),
+                Err(PatternFault::NoMemory) => Err(LineFault::NoMemory),
+                Err(PatternFault::BadElement(_)) => Err(LineFault::Kind(LineKind::Name)),
+                Err(PatternFault::LoneBrace(_)) => Err(LineFault::Kind(LineKind::Name)),
+                Err(PatternFault::EmptyPart(_)) => Err(LineFault::Kind(LineKind::Name)),
+            }
+        }
+    }
+}
+
+/// Reads a range of numbers. Errors: `Number`. Takes no memory.
+#[tactic(auto, unfolding(crate::specs::Arguments::range_word))]
+pub fn range_word(text: &[u8]) -> Result<Range, LineFault>
+    ensures { Gives (λ range. range) result (range_word text.now) }
+{
+    match read_range(text) {
+        Ok(range) => Ok(range),
+        Err(_) => Err(LineFault::Kind(LineKind::Number)),
+    }
+}
+
+/// Reads a range of addresses. Errors: `Address`. Takes no memory.
+#[tactic(auto, unfolding(crate::specs::Arguments::addr_range_word))]
+pub fn addr_range_word(text: &[u8]) -> Result<AddrRange, LineFault>
+    ensures { Gives (λ range. range) result (addr_range_word text.now) }
+{
+    match read_addr_range(text) {
+        Ok(range) => Ok(range),
+        Err(_) => Err(LineFault::Kind(LineKind::Address)),
+    }
+}
+
+fn one_name(alloc: Global, word: &[u8]) -> Result<NameUnion, LineFault>
+    ensures { Gives (λ name. name) result (one_name word.now) }
+{
+    Ok(NameUnion::One(pattern_word(alloc, word)?))
+}
+
+/// Reads a name argument: `@GROUP`, or a pattern that doesn't begin with `@`. Errors: `Name`.
+#[tactic(auto, unfolding(crate::specs::Arguments::name_word))]
+pub fn name_word(alloc: Global, word: &[u8]) -> Result<NameUnion, LineFault>
+    ensures { Gives (λ name. name) result (name_word word.now) }
+{
+    match word {
+        [b'@', group @ ..] => Ok(NameUnion::Group(group_word(alloc, group)?)),
+        _ => one_name(alloc, word),
+    }
+}
+
+fn one_number(word: &[u8]) -> Result<NumberUnion, LineFault>
+    ensures { Gives (λ number. number) result (one_number word.now) }
+{
+    Ok(NumberUnion::One(range_word(word)?))
+}
+
+/// Reads a number argument: `@GROUP` or a range. Errors: `Name` at a wrong group, else `Number`.
+#[tactic(auto, unfolding(crate::specs::Arguments::number_word))]
+pub fn number_word(alloc: Global, word: &[u8]) -> Result<NumberUnion, LineFault>
+    ensures { Gives (λ number. number) result (number_word word.now) }
+{
+    match word {
+        [b'@', group @ ..] => Ok(NumberUnion::Group(group_word(alloc, group)?)),
+        _ => one_number(word),
+    }
+}
+
+fn one_address(word: &[u8]) -> Result<AddrUnion, LineFault>
+    ensures { Gives (λ address. address) result (one_address word.now) }
+{
+    Ok(AddrUnion::One(addr_range_word(word)?))
+}
+
+/// Reads an address argument: `@GROUP` or a range of addresses. Errors: `Name` at a wrong group, else `Address`.
+#[tactic(auto, unfolding(crate::specs::Arguments::address_word))]
+pub fn address_word(alloc: Global, word: &[u8]) -> Result<AddrUnion, LineFault>
+    ensures { Gives (λ address. address) result (address_word word.now) }
+{
+    match word {
+        [b'@', group @ ..] => Ok(AddrUnion::Group(group_word(alloc, group)?)),
+        _ => one_address(word),
+    }
+}
+
+/// Reads a plain number from 0 to 255, as profiles and groups of lines have. Errors: `Number`. Takes no memory.
+#[tactic(auto, unfolding(crate::specs::Arguments::plain_word))]
+pub fn small_number(text: &[u8]) -> Result<u8, LineFault>
+    ensures { Gives (λ n. n) result (plain_word 256 text.now) }
+{
+    match read_number(text) {
+        Ok(number) => match number.base {
+            Base::Decimal => {
+                if number.value < 256 {
+                    Ok(number.value as u8)
+                } else {
+                    Err(LineFault::Kind(LineKind::Number))
+                }
+            }
+            Base::Octal => Err(LineFault::Kind(LineKind::Number)),
+            Base::Hex => Err(LineFault::Kind(LineKind::Number)),
+        },
+        Err(_) => Err(LineFault::Kind(LineKind::Number)),
+    }
+}
+
+/// Reads a plain number below 2^32. Errors: `Number`. Takes no memory.
+#[tactic(auto, unfolding(crate::specs::Arguments::plain_word))]
+pub fn plain_number(text: &[u8]) -> Result<u32, LineFault>
+    ensures { Gives (λ n. n) result (plain_word (2 ^ 32) text.now) }
+{
+    match read_number(text) {
+        Ok(number) => match number.base {
+            Base::Decimal => {
+                if number.value < 4294967296 {
+                    Ok(number.value as u32)
+                } else {
+                    Err(LineFault::Kind(LineKind::Number))
+                }
+            }
+            Base::Octal => Err(LineFault::Kind(LineKind::Number)),
+            Base::Hex => Err(LineFault::Kind(LineKind::Number)),
+        },
+        Err(_) => Err(LineFault::Kind(LineKind::Number)),
+    }
+}
+
+/// Reads a name argument at the front, and answers the words after it. Errors: `Arity` where no word is left, `Name`.
+#[tactic(auto, unfolding(crate::specs::Arguments::name_at))]
+pub fn name_at(alloc: Global, words: &[Text]) -> Result<(NameUnion, &[Text]), LineFault>
+    ensures { Gives (λ x. (x.0, x.1.now)) result (name_at words.now) }
+{
+    match words {
+        [] => Err(LineFault::Kind(LineKind::Arity)),
+        [word, rest @ ..] => Ok((name_word(alloc, word.bytes())?, rest)),
+    }
+}
+
+/// Reads a number argument at the front, and answers the words after it. Errors: `Arity` where no word is left, `Name` at a wrong
+/// group, else `Number`.
+#[tactic(auto, unfolding(crate::specs::Arguments::number_at))]
+pub fn number_at(alloc: Global, words: &[Text]) -> Result<(NumberUnion, &[Text]), LineFault>
+    ensures { Gives (λ x. (x.0, x.1.now)) result (number_at words.now) }
+{
+    match words {
+        [] => Err(LineFault::Kind(LineKind::Arity)),
+        [word, rest @ ..] => Ok((number_word(alloc, word.bytes())?, rest)),
+    }
+}
+
+/// Reads an address argument at the front, and answers the words after it. Errors: `Arity` where no word is left, `Name` at a
+/// wrong group, else `Address`.
+#[tactic(auto, unfolding(crate::specs::Arguments::address_at))]
+pub fn address_at(alloc: Global, words: &[Text]) -> Result<(AddrUnion, &[Text]), LineFault>
+    ensures { Gives (λ x. (x.0, x.1.now)) result (address_at words.now) }
+{
+    match words {
+        [] => Err(LineFault::Kind(LineKind::Arity)),
+        [word, rest @ ..] => Ok((address_word(alloc, word.bytes())?, rest)),
+    }
+}

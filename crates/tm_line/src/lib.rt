@@ -1,0 +1,19 @@
+//! What the readers and printers of lines share: keywords, lists of permissions, and arguments of one word or of a domain name.
+//! Stands on the word, number, address, pattern, types, rules and domain crates, whose grammars of single words it cites.
+//! Promises that each step gives what its reading function on words gives, that each printer appends the one text, and that what is printed is read again as the value printed.
+#![tactic(auto)]
+
+mod arguments;
+mod domains;
+mod permissions;
+mod printing;
+mod words;
+
+pub use arguments::{
+    addr_range_word, address_at, address_word, group_word, name_at, name_word, number_at,
+    number_word, path_word, pattern_word, plain_number, range_word, small_number,
+};
+pub use domains::{domain_at, domain_to_end};
+pub use permissions::{Row, mask_in, pieces_of, print_perms, read_perms, starts_in};
+pub use printing::{print_address, print_name, print_number};
+pub use words::{begins, joined, joined_after, keyword_at, option_at};
