@@ -3,6 +3,7 @@ use Rattle.std.specs.Prelude.{ℕ, ◌+◌, ◌^◌, ◌==◌, nat_lt, ◌&&◌,
 use Rattle.std.specs.List.{position, list_any}
 use Rattle.std.specs.Option.{option_or}
 use Rattle.tm_word.specs.Words.{Text}
+use Rattle.tm_word.specs.Spelling.{joined}
 use Rattle.tm_number.specs.declared.Base.{Base}
 use Rattle.tm_number.specs.declared.Number.{Number}
 use Rattle.tm_number.specs.declared.text.NumberFault.{NumberFault}
@@ -21,7 +22,8 @@ use Rattle.tm_domain.specs.Names.{domain_of}
 use Rattle.tm_profile.specs.declared.reading.Key.{Key}
 use Rattle.tm_profile.specs.declared.reading.Seen.{Seen}
 use Rattle.tm_profile.specs.declared.reading.Limits.{Limits}
-use Rattle.tm_profile.specs.Lines.{◌>>=◌, begins, after, is_last, or_kind, spaced, line_text}
+use Rattle.tm_line.specs.Lines.{◌>>=◌, begins, is_last}
+use Rattle.tm_profile.specs.Lines.{after, or_kind}
 use Rattle.tm_profile.specs.Slots.{slot_text}
 
 -- an unfinished word at the end is a missing one, any other wrong word is the profile's
@@ -64,8 +66,8 @@ namespace_at (word ∷ words) = if opens word then (namespace_of word >>= λ nam
 
 -- the words after `COMMENT=`, joined by one space and with none in front
 abbrev pub comment_of : Text → List Text → Text
-comment_of [] words = line_text words
-comment_of (b ∷ first) words = line_text ((b ∷ first) ∷ words)
+comment_of [] words = joined words
+comment_of (b ∷ first) words = joined ((b ∷ first) ∷ words)
 
 -- CONFIG
 

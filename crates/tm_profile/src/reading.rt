@@ -1,14 +1,16 @@
 //! Reading profile lines.
 ghost use Rattle.std.specs.Prelude.{◌≡◌, ◌<◌, ◌==◌, ◌∷◌, ◌++◌, ◌^◌, ℕ, Some, None, IfOk, IfSome, is_some, codes};
 ghost use Rattle.std.specs.List.{position, list_any};
-ghost use Rattle.tm_profile.specs.Lines.{Gives, or_kind, after, begins};
+ghost use Rattle.tm_line.specs.Lines.{Gives, begins};
+ghost use Rattle.tm_profile.specs.Lines.{or_kind, after};
 ghost use Rattle.tm_profile.specs.Reading.{wrong, at_end, plain, opens, namespace_of, namespace_at, comment_of, key_of, unseen, with_key, begins_mode, begins_grant, begins_reject, begins_key, seen_by, seen_after, setting_by, closed, setting_after, unlimited, limit_of, once, begins_limit, learning_by, limits_by, limits_with, limits_after, preference, begins_line, begins_some_slot, begins_effect, slot_of, slot_by, comment_by, numbered, numbered_by, version_by, effect_by, effect_at, line_of};
 
 use crate::slots::{begins_some_slot, slot_of};
-use crate::words::{after, begins, is_last, spaced};
+use crate::words::{after, is_last};
 use std::alloc::Global;
 use tm_domain::{DomainFault, read_domain};
-use tm_list::{Copied, NoMemory, Seq};
+use tm_line::{begins, joined, joined_after};
+use tm_list::{NoMemory, Seq};
 use tm_number::{Base, read_number};
 use tm_rules::bytes_equal;
 use tm_types::entry::LineKind;
@@ -161,13 +163,11 @@ fn namespace_at(alloc: Global, words: &[Text]) -> Result<(Text, &[Text]), LineFa
 fn comment_of(alloc: Global, first: &[u8], words: &[Text]) -> Result<Text, NoMemory>
     ensures { IfOk result (λ text. text ≡ comment_of first.now words.now) }
 {
-    match first {
-        [] => match words {
-            [] => Ok(Seq::new(alloc)),
-            [word, rest @ ..] => spaced(alloc, word.bytes(), rest),
-        },
-        [_, ..] => spaced(alloc, first, words),
-    }
+    let text = match first {
+        [] => joined(alloc, words)?,
+        [_, ..] => joined_after(alloc, first, words)?,
+    };
+    Ok(Seq::from_vec(text))
 }
 
 /// What a word of a setting says.

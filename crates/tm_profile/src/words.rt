@@ -1,25 +1,12 @@
 //! Tests of the words of a line.
-ghost use Rattle.std.specs.Prelude.{◌≡◌, ◌++◌, length, Some, None, MatchOption, IfOk};
+ghost use Rattle.std.specs.Prelude.{◌≡◌, ◌++◌, Some, None, MatchOption};
 ghost use Rattle.tm_rules.specs.Equality.{texts_equal};
-ghost use Rattle.tm_profile.specs.Lines.{begins, after, is_last, spaced};
+ghost use Rattle.tm_line.specs.Lines.{begins, is_last};
+ghost use Rattle.tm_profile.specs.Lines.{after};
 
-use std::alloc::Global;
-use tm_list::{NoMemory, Seq};
+use tm_line::begins;
 use tm_rules::bytes_equal;
 use tm_word::Text;
-
-/// Whether a text begins with this word, or is it.
-pub(crate) fn begins(word: &[u8], text: &[u8]) -> bool
-    ensures { result ≡ begins word.now text.now }
-{
-    match word {
-        [] => true,
-        [a, word @ ..] => match text {
-            [] => false,
-            [b, text @ ..] => *a == *b && begins(word, text),
-        },
-    }
-}
 
 /// Whether a text of two parts begins with this word, or is it.
 pub(crate) fn begins_joined(word: &[u8], front: &[u8], end: &[u8]) -> bool
@@ -68,16 +55,4 @@ pub(crate) fn is_last(words: &[Text]) -> bool
         [] => true,
         [_, ..] => false,
     }
-}
-
-/// A text and these words, each with a space in front.
-pub(crate) fn spaced(alloc: Global, first: &[u8], words: &[Text]) -> Result<Text, NoMemory>
-    ensures { IfOk result (λ text. text ≡ first.now ++ spaced words.now) }
-{
-    let mut made = Vec::from_slice(alloc, first)?;
-    for word in words {
-        made.push(b' ')?;
-        made.extend_from_slice(word.bytes())?;
-    }
-    Ok(Seq::from_vec(made))
 }
