@@ -1,0 +1,6 @@
+pub mod MapEnds
+pub mod LineLaws
+pub mod WordLaws
+pub mod EffectLaws
+pub mod TextLaws
+mod LineExamples
