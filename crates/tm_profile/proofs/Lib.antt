@@ -4,3 +4,5 @@ pub mod WordLaws
 pub mod EffectLaws
 pub mod TextLaws
 mod LineExamples
+pub mod FitLaws
+pub mod KeptLaws

@@ -8,6 +8,7 @@ use Rattle.tm_word.specs.Spelling.{is_separator, words_of, joined}
 use Rattle.tm_types.specs.declared.entry.LineKind.{LineKind}
 use Rattle.tm_types.specs.declared.policy.Profile.{Profile}
 use Rattle.tm_types.specs.declared.policy.Namespace.{Namespace}
+use Rattle.tm_types.specs.declared.policy.ProfileEffect.{ProfileEffect}
 use Rattle.tm_types.specs.declared.policy.ProfileLine.{ProfileLine}
 use Rattle.tm_types.specs.Slot.{slot_rank}
 use Rattle.tm_rules.specs.Equality.{texts_equal}
@@ -41,6 +42,19 @@ AreProfiles (profile ∷ profiles) = IsProfile profile × AreProfiles profiles
 -- profiles that a text can write, by rising numbers
 abbrev pub IsWritten : List (ℕ × Profile) → Type 0
 IsWritten profiles = Rises (λ n. n) profiles × AreProfiles profiles
+
+-- a limit, where it is written, fits
+abbrev pub IsLimit : Option ℕ → Type 0
+IsLimit None = Unit {0}
+IsLimit (Some limit) = limit < 2 ^ 32
+
+-- what a line says fits a profile
+abbrev pub IsEffect : ProfileEffect → Type 0
+IsEffect ProfileEffect.Version = Unit {0}
+IsEffect (ProfileEffect.Comment n comment) = (n < 256) × IsComment comment
+IsEffect (ProfileEffect.Preference n audit learning) = (n < 256) × IsLimit audit × IsLimit learning
+IsEffect (ProfileEffect.Config n setting) = n < 256
+IsEffect (ProfileEffect.Slot n slot setting) = n < 256
 
 -- the namespace after a line of it; a line of another one, or outside the grammar, is refused
 abbrev pub line_done : Result ProfileLine LineKind → Namespace → Option Namespace

@@ -1,13 +1,17 @@
 //! Printing profiles.
-ghost use Rattle.std.specs.Prelude.{◌≡◌, ◌∷◌, [], ◌++◌, ℕ, List, Some, codes, IfOk, OnOk, OnErr};
-ghost use Rattle.std.specs.List.{flat_map};
+ghost use Rattle.std.specs.Prelude.{◌≡◌, ◌∷◌, [], ◌++◌, ℕ, List, Some, Ok, true, codes, IfOk, OnOk, OnErr};
+ghost use Rattle.std.specs.List.{flat_map, list_all};
 ghost use Rattle.std.specs.Fmt.{decimal};
 ghost use Rattle.tm_types.specs.declared.policy.Profile.{Profile};
 ghost use Rattle.tm_types.specs.declared.policy.Namespace.{Namespace};
+ghost use Rattle.tm_types.specs.declared.policy.ProfileLine.{ProfileLine};
+ghost use Rattle.tm_word.specs.Words.{Text};
+ghost use Rattle.tm_rules.specs.Edit.{profile_line};
 ghost use Rattle.tm_rules.specs.Load.{lines_of};
 ghost use Rattle.tm_line.specs.Lines.{spaced};
 ghost use Rattle.tm_profile.specs.Printing.{line_text, headed, mode_text, grant_text, reject_text, setting_words, audit_text, learning_text, limit_words, comment_words, preference_words, config_words, slot_line, profile_text, profiles_text};
-ghost use Rattle.tm_profile.specs.Texts.{IsNamespaceWord, IsWritten, lines_into};
+ghost use Rattle.tm_profile.specs.Reading.{line_of};
+ghost use Rattle.tm_profile.specs.Texts.{is_word, IsNamespaceWord, IsWritten, lines_into};
 
 use crate::slots::slot_text;
 use std::alloc::Global;
@@ -278,7 +282,9 @@ pub fn print_profiles(
     out.extend_from_slice(&text)
 }
 
-/// A law, nothing to run: the printed text of profiles, read line by line into a namespace without profiles, gives these profiles.
+/// A law, nothing to run: the printed text of profiles, read line by line into a namespace without profiles, gives these profiles;
+/// and a line that was read from words keeps profiles that a text can write.
 pub fn round_trip()
-    ensures { (ns : Namespace) (profiles : List (ℕ × Profile)) → IsNamespaceWord ns.name → ns.profiles ≡ [] → IsWritten profiles → lines_into (lines_of (profiles_text ns.name profiles)) ns ≡ Some (record ns { profiles = profiles }) }
+    ensures again { (ns : Namespace) (profiles : List (ℕ × Profile)) → IsNamespaceWord ns.name → ns.profiles ≡ [] → IsWritten profiles → lines_into (lines_of (profiles_text ns.name profiles)) ns ≡ Some (record ns { profiles = profiles }) }
+    ensures kept { (words : List Text) (line : ProfileLine) (ns : Namespace) → list_all is_word words ≡ true → line_of words ≡ Ok line → IsWritten ns.profiles → IsWritten (profile_line line.effect ns).profiles }
 {}
