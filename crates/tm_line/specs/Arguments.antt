@@ -53,9 +53,10 @@ abbrev pub group_or : {A : Type 0} → (Word → A) → (Text → Result A LineK
 group_or group one [] = one []
 group_or group one (b ∷ word) = if b == 64 then (group_word word >>= λ name. Ok (group name)) else one (b ∷ word)
 
--- no group: one pattern, one range of numbers, one range of addresses
+-- no group: one pattern, not empty; one range of numbers; one range of addresses
 abbrev pub one_name : Text → Result NameUnion LineKind
-one_name text = pattern_word text >>= λ pattern_. Ok (NameUnion.One pattern_)
+one_name [] = Err LineKind.Name
+one_name (b ∷ text) = pattern_word (b ∷ text) >>= λ pattern_. Ok (NameUnion.One pattern_)
 
 abbrev pub one_number : Text → Result NumberUnion LineKind
 one_number text = range_word text >>= λ range. Ok (NumberUnion.One range)

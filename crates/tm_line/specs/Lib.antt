@@ -3,3 +3,5 @@ pub mod Permissions
 pub mod Arguments
 pub mod Domains
 pub mod Printing
+pub mod Written
+pub mod DomainWords

@@ -92,10 +92,13 @@ pub fn addr_range_word(text: &[u8]) -> Result<AddrRange, LineFault>
 fn one_name(alloc: Global, word: &[u8]) -> Result<NameUnion, LineFault>
     ensures { Gives (λ name. name) result (one_name word.now) }
 {
-    Ok(NameUnion::One(pattern_word(alloc, word)?))
+    match word {
+        [] => Err(LineFault::Kind(LineKind::Name)),
+        [_, ..] => Ok(NameUnion::One(pattern_word(alloc, word)?)),
+    }
 }
 
-/// Reads a name argument: `@GROUP`, or a pattern that doesn't begin with `@`. Errors: `Name`.
+/// Reads a name argument: `@GROUP`, or a pattern that isn't empty and doesn't begin with `@`. Errors: `Name`.
 #[tactic(auto, unfolding(crate::specs::Arguments::name_word))]
 pub fn name_word(alloc: Global, word: &[u8]) -> Result<NameUnion, LineFault>
     ensures { Gives (λ name. name) result (name_word word.now) }

@@ -5,6 +5,7 @@
 
 mod arguments;
 mod domains;
+mod laws;
 mod permissions;
 mod printing;
 mod words;
@@ -14,6 +15,7 @@ pub use arguments::{
     number_word, path_word, pattern_word, plain_number, range_word, small_number,
 };
 pub use domains::{domain_at, domain_to_end};
+pub use laws::round_trip;
 pub use permissions::{Row, mask_in, pieces_of, print_perms, read_perms, starts_in};
-pub use printing::{print_address, print_name, print_number};
+pub use printing::{print_address, print_domain, print_name, print_number};
 pub use words::{begins, joined, joined_after, keyword_at, option_at};

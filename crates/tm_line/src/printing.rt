@@ -1,6 +1,8 @@
 //! Printing arguments.
 ghost use Rattle.std.specs.Prelude.{◌≡◌, ◌++◌, ◌∷◌, IfOk, OnOk, OnErr};
 ghost use Rattle.tm_word.specs.Spelling.{spell};
+ghost use Rattle.tm_line.specs.Lines.{spaced};
+ghost use Rattle.tm_line.specs.DomainWords.{domain_parts};
 ghost use Rattle.tm_line.specs.Printing.{name_spelling, number_spelling, address_spelling};
 
 use std::alloc::Global;
@@ -8,7 +10,7 @@ use tm_addr::write_addr_range;
 use tm_list::NoMemory;
 use tm_number::write_range;
 use tm_pattern::print_pattern;
-use tm_types::unions::{AddrUnion, NameUnion, NumberUnion};
+use tm_types::unions::{AddrUnion, DomainName, NameUnion, NumberUnion};
 use tm_word::{Word, write_word};
 
 /// `@` and the spelled name of a group.
@@ -65,4 +67,22 @@ pub fn print_address(alloc: Global, address: &AddrUnion, out: &mut Vec<u8>) -> R
         AddrUnion::One(range) => write_addr_range(alloc, range, out),
         AddrUnion::Group(group) => print_group(alloc, group, out),
     }
+}
+
+/// The words of a domain name, each after a space.
+fn domain_spaced(alloc: Global, name: &DomainName) -> Result<Vec<u8>, NoMemory>
+    ensures { IfOk result (λ text. text.items ≡ spaced (domain_parts name.now)) }
+{
+    let mut text = Vec::from_slice(alloc, b" ")?;
+    text.extend_from_slice(name.bytes())?;
+    Ok(text)
+}
+
+/// Appends the words of a domain name, each after a space. After want of memory `out` is as before.
+pub fn print_domain(alloc: Global, name: &DomainName, out: &mut Vec<u8>) -> Result<(), NoMemory>
+    ensures ok { OnOk result (out.new.items ≡ out.old.items ++ spaced (domain_parts name.now)) }
+    ensures err { OnErr result (out.new.items ≡ out.old.items) }
+{
+    let text = domain_spaced(alloc, name)?;
+    out.extend_from_slice(&text)
 }

@@ -1,6 +1,6 @@
-//! Which requests the arguments of a network, environment or task line are for.
-//! Stands on tm_union and tm_pattern and the definitions of tm_rules.
-//! Promises that each argument is looked up by the definition, that the place of the first name is told, and takes no memory.
+//! The lines of network, environment and task: read and printed, and which requests their arguments are for.
+//! Stands on tm_line, which reads and prints arguments, on tm_union, tm_pattern and the definitions of tm_rules.
+//! Promises that reading is the grammar with the kind of the first wrong word, that what is printed is read again, and that each argument is looked up by the definition.
 #![tactic(auto)]
 
 ghost use Rattle.std.specs.Prelude.{◌≡◌, Option, slice_get};
@@ -17,6 +17,11 @@ ghost use Rattle.tm_rules.specs.Group.{addr_in};
 ghost use Rattle.tm_rules.specs.Search.{number_value, addr_value, args_grant};
 ghost use Rattle.tm_net.specs.Rows.{net_args_grant, env_grant};
 
+mod lines;
+mod printing;
+
+pub use lines::{net_acl_at, read_net_acl, round_trip};
+pub use printing::print_net_acl;
 use tm_number::Addr;
 use tm_pattern::matches;
 use tm_rules::texts_equal;
