@@ -17,9 +17,10 @@ use Rattle.tm_types.specs.declared.policy.ProfileLine.{ProfileLine}
 use Rattle.tm_rules.specs.Equality.{texts_equal}
 use Rattle.tm_rules.proofs.EqualityLaws.{both}
 use Rattle.tm_line.specs.Lines.{◌>>=◌, is_last}
+use Rattle.tm_namespace.specs.Namespaces.{opens, namespace_of, namespace_at}
 use Rattle.tm_profile.specs.declared.reading.Limits.{Limits}
 use Rattle.tm_profile.specs.Lines.{after, or_kind}
-use Rattle.tm_profile.specs.Reading.{at_end, plain_by, plain, opens, namespace_of, namespace_at, comment_of, unseen, setting_after, unlimited, limit_of, once, begins_limit, learning_by, limits_by, limits_with, limits_after, preference, slot_of, slot_by, comment_by, numbered, numbered_by, version_by, effect_by, effect_at, line, line_of}
+use Rattle.tm_profile.specs.Reading.{at_end, plain_by, plain, comment_of, unseen, setting_after, unlimited, limit_of, once, begins_limit, learning_by, limits_by, limits_with, limits_after, preference, slot_of, slot_by, comment_by, numbered, numbered_by, version_by, effect_by, effect_at, line, line_of}
 use Rattle.tm_profile.specs.Texts.{proper, is_word, IsComment, IsLimit, IsEffect}
 
 -- what is read has a property

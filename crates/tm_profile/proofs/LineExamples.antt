@@ -12,8 +12,9 @@ use Rattle.tm_types.specs.declared.policy.Function.{Function}
 use Rattle.tm_types.specs.declared.policy.SlotName.{SlotName}
 use Rattle.tm_types.specs.declared.policy.ProfileEffect.{ProfileEffect}
 use Rattle.tm_rules.specs.Policy.{kernel}
+use Rattle.tm_namespace.specs.Namespaces.{namespace_of, namespace_at}
 use Rattle.tm_profile.specs.Slots.{function_text, slot_text}
-use Rattle.tm_profile.specs.Reading.{line, namespace_of, namespace_at, key_of, seen_after, closed, setting_after, limits_with, limits_after, slot_of, begins_some_slot, begins_effect, numbered, effect_at, line_of}
+use Rattle.tm_profile.specs.Reading.{line, key_of, seen_after, closed, setting_after, limits_with, limits_after, slot_of, begins_some_slot, begins_effect, numbered, effect_at, line_of}
 
 -- the definitions that a line's reading goes through
 unfoldable computed : Unit {0}

@@ -26,7 +26,8 @@ use Rattle.tm_domain.proofs.NameLaws.{texts_same}
 use Rattle.tm_line.specs.Lines.{◌>>=◌, spaced}
 use Rattle.tm_line.proofs.JoinLaws.{joined_is}
 use Rattle.tm_profile.specs.Slots.{slot_text}
-use Rattle.tm_profile.specs.Reading.{opens, namespace_of, namespace_at, comment_of, effect_at, line, line_of}
+use Rattle.tm_namespace.proofs.NamespaceLaws.{named as named_at}
+use Rattle.tm_profile.specs.Reading.{comment_of, effect_at, line, line_of}
 use Rattle.tm_profile.specs.Printing.{line_text, headed, limit_words, setting_words, comment_words, preference_words, config_words, slot_line, profile_text, profiles_text}
 use Rattle.tm_profile.specs.Texts.{proper, is_word, IsNamespaceWord, IsComment, IsProfile, AreProfiles, IsWritten, line_done, words_into, lines_into}
 use Rattle.tm_profile.proofs.LineLaws.{proper_all, words_again, line_first}
@@ -128,32 +129,10 @@ profiles_written name (e ∷ es) h =
 
 -- Lines that are read one by one
 
-abbrev none : List Text
-none = []
-
-abbrev alone : Result Text LineKind → Result (Text × List Text) LineKind
-alone r = r >>= λ x. Ok (x, none)
-
-abbrev name_in : Result (Text × List Text) LineKind → Text
-name_in (Ok found) = found.0
-name_in (Err kind) = []
-
-abbrev rest_in : Result (Text × List Text) LineKind → List Text
-rest_in (Ok found) = found.1
-rest_in (Err kind) = []
-
-alone_is : (name : Text) (r : Result Text LineKind) → alone r ≡ Ok (name, none) → r ≡ Ok name
-alone_is name (Ok x) h = ap (λ r. Ok (name_in r)) h
-alone_is name (Err kind) h = absurd cc
-
-opened : (name : Text) (b : Bool) → (if b then alone (namespace_of name) else Ok (kernel, name ∷ [])) ≡ Ok (name, none) → (b ≡ true) × (namespace_of name ≡ Ok name)
-opened name false h = let same : (name ∷ []) ≡ none = ap rest_in h in absurd cc
-opened name true h = (refl, alone_is name (namespace_of name) h)
-
 -- a line that begins with its namespace word
 named : (name : Text) (ws : List Text) (e : ProfileEffect) → IsNamespaceWord name → effect_at ws ≡ Ok e → line_of (name ∷ ws) ≡ Ok (line name e)
-unfolding line_of namespace_at
-named name ws e h k = let o = opened name (opens name) h.1 in rw (o.0, o.1, k) refl
+unfolding line_of
+named name ws e h k = rw (named_at name ws h.1, k) refl
 
 same_name : (e : ProfileEffect) (ns : Namespace) → (profile_line e ns).name ≡ ns.name
 unfolding profile_line

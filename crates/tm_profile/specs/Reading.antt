@@ -16,9 +16,7 @@ use Rattle.tm_types.specs.declared.policy.ProfileEffect.{ProfileEffect}
 use Rattle.tm_types.specs.declared.policy.ProfileLine.{ProfileLine}
 use Rattle.tm_types.specs.Slot.{all_slots}
 use Rattle.tm_rules.specs.Equality.{texts_equal}
-use Rattle.tm_rules.specs.Policy.{kernel}
-use Rattle.tm_domain.specs.declared.DomainFault.{DomainFault}
-use Rattle.tm_domain.specs.Names.{domain_of}
+use Rattle.tm_namespace.specs.Namespaces.{namespace_at}
 use Rattle.tm_profile.specs.declared.reading.Key.{Key}
 use Rattle.tm_profile.specs.declared.reading.Seen.{Seen}
 use Rattle.tm_profile.specs.declared.reading.Limits.{Limits}
@@ -42,25 +40,6 @@ plain_by limit (Err fault) = None
 
 abbrev pub plain : ℕ → Text → Option ℕ
 plain limit text = plain_by limit (number_of text)
-
--- The namespace word
-
-abbrev pub opens : Text → Bool
-opens [] = false
-opens (b ∷ word) = b == 60
-
--- a domain name of one word
-abbrev pub name_by : Result Text DomainFault → Result Text LineKind
-name_by (Ok name) = Ok name
-name_by (Err fault) = Err LineKind.Domain
-
-unfoldable pub namespace_of : Text → Result Text LineKind
-namespace_of word = if list_any (λ b. b == 32) word then Err LineKind.Domain else name_by (domain_of word)
-
--- a first word that begins with `<` names the namespace; without one it is `<kernel>`
-unfoldable pub namespace_at : List Text → Result (Text × List Text) LineKind
-namespace_at [] = Ok (kernel, [])
-namespace_at (word ∷ words) = if opens word then (namespace_of word >>= λ name. Ok (name, words)) else Ok (kernel, word ∷ words)
 
 -- COMMENT
 

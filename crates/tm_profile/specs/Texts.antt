@@ -13,7 +13,8 @@ use Rattle.tm_types.specs.declared.policy.ProfileLine.{ProfileLine}
 use Rattle.tm_types.specs.Slot.{slot_rank}
 use Rattle.tm_rules.specs.Equality.{texts_equal}
 use Rattle.tm_rules.specs.Edit.{profile_line}
-use Rattle.tm_profile.specs.Reading.{namespace_at, line_of}
+use Rattle.tm_namespace.specs.Namespaces.{IsNamespace}
+use Rattle.tm_profile.specs.Reading.{line_of}
 
 -- no byte separates words
 abbrev pub proper : Text → Bool
@@ -25,7 +26,7 @@ is_word text = not (length text == 0) && proper text
 
 -- a word that names a namespace
 abbrev pub IsNamespaceWord : Text → Type 0
-IsNamespaceWord word = (is_word word ≡ true) × (namespace_at (word ∷ []) ≡ Ok (word, []))
+IsNamespaceWord word = (is_word word ≡ true) × IsNamespace word
 
 -- a comment is made of words joined by one space
 abbrev pub IsComment : Text → Type 0

@@ -1,16 +1,17 @@
 //! Reading profile lines.
 ghost use Rattle.std.specs.Prelude.{◌≡◌, ◌<◌, ◌==◌, ◌∷◌, ◌++◌, ◌^◌, ℕ, Some, None, IfOk, IfSome, is_some, codes};
-ghost use Rattle.std.specs.List.{position, list_any};
+ghost use Rattle.std.specs.List.{position};
 ghost use Rattle.tm_line.specs.Lines.{Gives, begins};
+ghost use Rattle.tm_namespace.specs.Namespaces.{namespace_at};
 ghost use Rattle.tm_profile.specs.Lines.{or_kind, after};
-ghost use Rattle.tm_profile.specs.Reading.{wrong, at_end, plain, opens, namespace_of, namespace_at, comment_of, key_of, unseen, with_key, begins_mode, begins_grant, begins_reject, begins_key, seen_by, seen_after, setting_by, closed, setting_after, unlimited, limit_of, once, begins_limit, learning_by, limits_by, limits_with, limits_after, preference, begins_line, begins_some_slot, begins_effect, slot_of, slot_by, comment_by, numbered, numbered_by, version_by, effect_by, effect_at, line_of};
+ghost use Rattle.tm_profile.specs.Reading.{wrong, at_end, plain, comment_of, key_of, unseen, with_key, begins_mode, begins_grant, begins_reject, begins_key, seen_by, seen_after, setting_by, closed, setting_after, unlimited, limit_of, once, begins_limit, learning_by, limits_by, limits_with, limits_after, preference, begins_line, begins_some_slot, begins_effect, slot_of, slot_by, comment_by, numbered, numbered_by, version_by, effect_by, effect_at, line_of};
 
 use crate::slots::{begins_some_slot, slot_of};
 use crate::words::{after, is_last};
 use std::alloc::Global;
-use tm_domain::{DomainFault, read_domain};
 use tm_line::{begins, joined, joined_after};
 use tm_list::{NoMemory, Seq};
+use tm_namespace::namespace_at;
 use tm_number::{Base, read_number};
 use tm_rules::bytes_equal;
 use tm_types::entry::LineKind;
@@ -100,62 +101,6 @@ fn amount(text: &[u8]) -> Option<u32>
     match plain(4294967296, text) {
         Some(number) => Some(number as u32),
         None => None,
-    }
-}
-
-/// Whether a word begins as a namespace word does.
-fn opens(word: &[u8]) -> bool
-    ensures { result ≡ opens word.now }
-{
-    match word {
-        [] => false,
-        [first, ..] => *first == b'<',
-    }
-}
-
-/// Whether a space stands in a word.
-fn has_space(word: &[u8]) -> bool
-    ensures { result ≡ list_any (λ b. b == 32) word.now }
-{
-    for byte in word {
-        if *byte == b' ' {
-            return true;
-        }
-    }
-    false
-}
-
-/// The namespace of a word that names one.
-#[tactic(auto, unfolding(crate::specs::Reading::namespace_of))]
-fn namespace_of(alloc: Global, word: &[u8]) -> Result<Text, LineFault>
-    ensures { Gives (λ x. x) result (namespace_of word.now) }
-{
-    if has_space(word) {
-        return Err(LineFault::Kind(LineKind::Domain));
-    }
-    match read_domain(alloc, word) {
-        Ok(name) => Ok(name),
-        Err(DomainFault::NoNamespace) => Err(LineFault::Kind(LineKind::Domain)),
-        Err(DomainFault::BadPath(_)) => Err(LineFault::Kind(LineKind::Domain)),
-        Err(DomainFault::TooLong) => Err(LineFault::Kind(LineKind::Domain)),
-        Err(DomainFault::NoMemory) => Err(LineFault::NoMemory),
-    }
-}
-
-/// The namespace of a line, and the words after its namespace word.
-#[tactic(auto, unfolding(crate::specs::Reading::namespace_at))]
-fn namespace_at(alloc: Global, words: &[Text]) -> Result<(Text, &[Text]), LineFault>
-    ensures { Gives (λ x. (x.0, x.1.now)) result (namespace_at words.now) }
-{
-    match words {
-        [] => Ok((Seq::from_bytes(alloc, b"<kernel>")?, words)),
-        [word, rest @ ..] => {
-            if opens(word.bytes()) {
-                Ok((namespace_of(alloc, word.bytes())?, rest))
-            } else {
-                Ok((Seq::from_bytes(alloc, b"<kernel>")?, words))
-            }
-        }
     }
 }
 
