@@ -1,18 +1,26 @@
-//! The rules of the exception policy: aggregators, and the domain transition controls.
-//! Stands on tm_pattern and the definitions of tm_rules.
-//! Promises that the first aggregator that matches decides, and takes no memory.
+//! The rules of the exception policy: its lines, aggregators, and the domain transition controls.
+//! Stands on tm_line and tm_namespace for the steps of lines, on tm_pattern, tm_domain, and the definitions of tm_rules.
+//! Promises that reading is the grammar with the first fault, that the first aggregator that matches decides, and that the controls decide in their order, both without memory.
 #![tactic(auto)]
 
-ghost use Rattle.std.specs.Prelude.{◌≡◌, ℕ, List, option_map};
-ghost use Rattle.std.specs.List.{find};
+ghost use Rattle.std.specs.Prelude.{◌≡◌, ◌==◌, ◌&&◌, not, ℕ, List, option_map};
+ghost use Rattle.std.specs.List.{find, list_any};
 ghost use Rattle.std.specs.Option.{option_copied};
 ghost use Rattle.tm_word.specs.declared.Component.{Component};
 ghost use Rattle.tm_word.specs.Matching.{matches};
 ghost use Rattle.tm_rules.specs.Search.{aggregated};
+ghost use Rattle.tm_rules.specs.Transition.{kind_number, control_matches, some_control, control_kind};
 
+mod reading;
+mod sides;
+
+pub use reading::read_exception;
+use tm_domain::last_word;
 use tm_pattern::matches;
-use tm_types::policy::Namespace;
-use tm_word::{Pattern, Word};
+use tm_rules::bytes_equal;
+use tm_types::policy::{Control, ControlKind, Namespace};
+use tm_types::unions::DomainName;
+use tm_word::{Pattern, Text, Word};
 
 // The second name of the first aggregator whose first name matches.
 fn find_name<'a>(aggregators: &'a [(Pattern, Word)], path: &Word) -> Option<&'a Word>
@@ -36,4 +44,97 @@ pub fn aggregated<'a>(namespace: &'a Namespace, path: &'a Word) -> &'a Word
         Some(name) => name,
         None => path,
     }
+}
+
+/// The place of a kind in the order in which they are tried.
+fn kind_number(kind: ControlKind) -> u8
+    ensures { result ≡ kind_number kind }
+{
+    kind as u8
+}
+
+/// Whether a control's program is `any` or the candidate, and its domain `any`, the domain's name, or a path that is its last word.
+#[tactic(auto, unfolding(tm_rules::specs::Transition::control_matches))]
+fn control_matches(domain: &DomainName, candidate: &[u8], control: &Control) -> bool
+    ensures { result ≡ control_matches domain.now candidate.now control.now }
+{
+    if let Some(program) = &control.program {
+        if !bytes_equal(program.bytes(), candidate) {
+            return false;
+        }
+    }
+    match &control.domain {
+        None => true,
+        Some(text) => {
+            if control.last {
+                bytes_equal(text.bytes(), last_word(domain))
+            } else {
+                bytes_equal(text.bytes(), domain.bytes())
+            }
+        }
+    }
+}
+
+/// Whether some control of this kind matches.
+fn has_control(controls: &[Control], domain: &DomainName, candidate: &[u8], kind: ControlKind) -> bool
+    ensures { result ≡ list_any (λ control. kind_number control.kind == kind_number kind && control_matches domain.now candidate.now control) controls.now }
+{
+    for control in controls {
+        if kind_number(control.kind) == kind_number(kind)
+            && control_matches(domain, candidate, control)
+        {
+            return true;
+        }
+    }
+    false
+}
+
+/// Whether some control of this kind matches in a namespace.
+fn some_control(
+    namespace: &Namespace,
+    domain: &DomainName,
+    candidate: &[u8],
+    kind: ControlKind,
+) -> bool
+    ensures { result ≡ some_control namespace.now domain.now candidate.now kind }
+{
+    has_control(namespace.controls.as_slice(), domain, candidate, kind)
+}
+
+/// Whether some control of this kind matches, and none that skips it.
+fn unskipped(
+    namespace: &Namespace,
+    domain: &DomainName,
+    candidate: &[u8],
+    kind: ControlKind,
+    skips: ControlKind,
+) -> bool
+    ensures { result ≡ (some_control namespace.now domain.now candidate.now kind && not (some_control namespace.now domain.now candidate.now skips)) }
+{
+    some_control(namespace, domain, candidate, kind)
+        && !some_control(namespace, domain, candidate, skips)
+}
+
+/// The kind of control that decides where an execute leads: `no_reset_domain` skips `reset_domain`, `no_initialize_domain` skips
+/// `initialize_domain`, and the first of `reset_domain`, `initialize_domain`, `no_keep_domain` and `keep_domain` that is left and
+/// matches decides; `Ordinary` where none does. Takes no memory.
+#[tactic(auto, unfolding(tm_rules::specs::Transition::control_kind))]
+pub fn control_kind(namespace: &Namespace, domain: &DomainName, candidate: &[u8]) -> ControlKind
+    ensures { result ≡ control_kind namespace.now domain.now candidate.now }
+{
+    let reset = ControlKind::Reset;
+    if unskipped(namespace, domain, candidate, reset, ControlKind::NoReset) {
+        return reset;
+    }
+    let initialize = ControlKind::Initialize;
+    if unskipped(namespace, domain, candidate, initialize, ControlKind::NoInitialize) {
+        return initialize;
+    }
+    if some_control(namespace, domain, candidate, ControlKind::NoKeep) {
+        return ControlKind::NoKeep;
+    }
+    if some_control(namespace, domain, candidate, ControlKind::Keep) {
+        return ControlKind::Keep;
+    }
+    ControlKind::Ordinary
 }

@@ -1,0 +1,11 @@
+use Rattle.std.proofs.Common.{◌≡◌, ◌==◌, ◌&&◌, drop}
+use Rattle.std.specs.List.{list_any}
+use Rattle.tm_types.specs.declared.policy.Control.{Control}
+use Rattle.tm_rules.specs.Transition.{kind_number, control_matches}
+use Rattle.tm_except.proofs.has_control.Given as goal
+
+-- from here on it finds what the whole finds
+abbrev pub invariant-loop-control : goal.invariant-loop-control
+invariant-loop-control l =
+    list_any (λ (control : Control). kind_number control.kind == kind_number l.kind && control_matches l.domain l.candidate control) (drop l.control-index l.controls)
+    ≡ list_any (λ (control : Control). kind_number control.kind == kind_number l.kind && control_matches l.domain l.candidate control) l.controls

@@ -1,0 +1,413 @@
+//! Reading exception lines.
+ghost use Rattle.std.specs.Prelude.{◌≡◌, ℕ, IfOk, Some};
+ghost use Rattle.tm_line.specs.Lines.{Gives, word_at};
+ghost use Rattle.tm_line.specs.Arguments.{group_word, pattern_word, range_word, addr_range_word, plain_word};
+ghost use Rattle.tm_line.specs.Written.{is_front};
+ghost use Rattle.tm_except.specs.Reading.{ended, member_word, literal_word, path_group, number_group, address_group, aggregator, group_line, acl_group, begins_list, begins_control, begins_rule, control_word, head_of, rule_by, rule_at, named_line, line_of};
+
+use crate::sides::control_line;
+use std::alloc::Global;
+use tm_line::{
+    addr_range_word, begins, group_word, pattern_word, range_word, small_number,
+};
+use tm_list::{Copied, NoMemory, Seq};
+use tm_namespace::{namespace_at, opens};
+use tm_number::{AddrRange, Range};
+use tm_pattern::spelled_word;
+use tm_rules::bytes_equal;
+use tm_types::entry::LineKind;
+use tm_types::policy::{ControlKind, ExceptLine, ExceptRule};
+use tm_types::step::LineFault;
+use tm_word::{Pattern, Text, Word};
+
+/// What a line's leading word begins.
+#[derive(Clone, Copy, PartialEq, Eq, Debug)]
+enum Head {
+    PathGroup,
+    NumberGroup,
+    AddressGroup,
+    Aggregator,
+    Control(ControlKind),
+    Acl,
+}
+
+/// Whether no word is left.
+fn ends(words: &[Text]) -> Result<(), LineFault>
+    ensures { Gives (λ x. x) result (ended tt words.now) }
+{
+    match words {
+        [] => Ok(()),
+        [_, ..] => Err(LineFault::Kind(LineKind::Arity)),
+    }
+}
+
+/// Whether a text begins with `/`.
+fn begins_with_slash(text: &[u8]) -> bool
+    ensures { result ≡ is_front 47 text.now }
+{
+    match text {
+        [] => false,
+        [first, ..] => *first == b'/',
+    }
+}
+
+/// Whether a text begins with `@`.
+fn begins_with_at(text: &[u8]) -> bool
+    ensures { result ≡ is_front 64 text.now }
+{
+    match text {
+        [] => false,
+        [first, ..] => *first == b'@',
+    }
+}
+
+/// The member of a path group: a pattern without `@` in front.
+#[tactic(auto, unfolding(crate::specs::Reading::member_word))]
+fn member_word(alloc: Global, text: &[u8]) -> Result<Pattern, LineFault>
+    ensures { Gives (λ x. x) result (member_word text.now) }
+{
+    if begins_with_at(text) {
+        return Err(LineFault::Kind(LineKind::Name));
+    }
+    pattern_word(alloc, text)
+}
+
+/// The name that a literal path spells.
+#[tactic(auto, unfolding(crate::specs::Reading::literal_word))]
+fn literal_word(alloc: Global, text: &[u8]) -> Result<Word, LineFault>
+    ensures { Gives (λ x. x) result (literal_word text.now) }
+{
+    if !begins_with_slash(text) {
+        return Err(LineFault::Kind(LineKind::Name));
+    }
+    match spelled_word(alloc, text)? {
+        Some(word) => Ok(word),
+        None => Err(LineFault::Kind(LineKind::Name)),
+    }
+}
+
+/// The name of a group as the first word, and the words after it.
+fn group_at(alloc: Global, words: &[Text]) -> Result<(Word, &[Text]), LineFault>
+    ensures { Gives (λ x. (x.0, x.1.now)) result (word_at group_word words.now) }
+{
+    match words {
+        [] => Err(LineFault::Kind(LineKind::Arity)),
+        [word, rest @ ..] => Ok((group_word(alloc, word.bytes())?, rest)),
+    }
+}
+
+/// A member of a path group as the first word, and the words after it.
+fn member_at(alloc: Global, words: &[Text]) -> Result<(Pattern, &[Text]), LineFault>
+    ensures { Gives (λ x. (x.0, x.1.now)) result (word_at member_word words.now) }
+{
+    match words {
+        [] => Err(LineFault::Kind(LineKind::Arity)),
+        [word, rest @ ..] => Ok((member_word(alloc, word.bytes())?, rest)),
+    }
+}
+
+/// A range of numbers as the first word, and the words after it.
+fn range_at(words: &[Text]) -> Result<(Range, &[Text]), LineFault>
+    ensures { Gives (λ x. (x.0, x.1.now)) result (word_at range_word words.now) }
+{
+    match words {
+        [] => Err(LineFault::Kind(LineKind::Arity)),
+        [word, rest @ ..] => Ok((range_word(word.bytes())?, rest)),
+    }
+}
+
+/// A range of addresses as the first word, and the words after it.
+fn addr_range_at(words: &[Text]) -> Result<(AddrRange, &[Text]), LineFault>
+    ensures { Gives (λ x. (x.0, x.1.now)) result (word_at addr_range_word words.now) }
+{
+    match words {
+        [] => Err(LineFault::Kind(LineKind::Arity)),
+        [word, rest @ ..] => Ok((addr_range_word(word.bytes())?, rest)),
+    }
+}
+
+/// A pattern as the first word, and the words after it.
+fn pattern_at(alloc: Global, words: &[Text]) -> Result<(Pattern, &[Text]), LineFault>
+    ensures { Gives (λ x. (x.0, x.1.now)) result (word_at pattern_word words.now) }
+{
+    match words {
+        [] => Err(LineFault::Kind(LineKind::Arity)),
+        [word, rest @ ..] => Ok((pattern_word(alloc, word.bytes())?, rest)),
+    }
+}
+
+/// A literal path as the first word, and the words after it.
+fn literal_at(alloc: Global, words: &[Text]) -> Result<(Word, &[Text]), LineFault>
+    ensures { Gives (λ x. (x.0, x.1.now)) result (word_at literal_word words.now) }
+{
+    match words {
+        [] => Err(LineFault::Kind(LineKind::Arity)),
+        [word, rest @ ..] => Ok((literal_word(alloc, word.bytes())?, rest)),
+    }
+}
+
+/// The number of an ACL group as the first word, and the words after it.
+fn number_at(words: &[Text]) -> Result<(u8, &[Text]), LineFault>
+    ensures { Gives (λ x. (x.0, x.1.now)) result (word_at (plain_word 256) words.now) }
+{
+    match words {
+        [] => Err(LineFault::Kind(LineKind::Arity)),
+        [word, rest @ ..] => Ok((small_number(word.bytes())?, rest)),
+    }
+}
+
+#[tactic(auto, unfolding(crate::specs::Reading::path_group))]
+fn path_group(alloc: Global, words: &[Text]) -> Result<ExceptRule, LineFault>
+    ensures { Gives (λ x. x) result (path_group words.now) }
+{
+    let (name, rest) = group_at(alloc, words)?;
+    let (member, rest) = member_at(alloc, rest)?;
+    ends(rest)?;
+    Ok(ExceptRule::PathGroup(name, member))
+}
+
+#[tactic(auto, unfolding(crate::specs::Reading::number_group))]
+fn number_group(alloc: Global, words: &[Text]) -> Result<ExceptRule, LineFault>
+    ensures { Gives (λ x. x) result (number_group words.now) }
+{
+    let (name, rest) = group_at(alloc, words)?;
+    let (member, rest) = range_at(rest)?;
+    ends(rest)?;
+    Ok(ExceptRule::NumberGroup(name, member))
+}
+
+#[tactic(auto, unfolding(crate::specs::Reading::address_group))]
+fn address_group(alloc: Global, words: &[Text]) -> Result<ExceptRule, LineFault>
+    ensures { Gives (λ x. x) result (address_group words.now) }
+{
+    let (name, rest) = group_at(alloc, words)?;
+    let (member, rest) = addr_range_at(rest)?;
+    ends(rest)?;
+    Ok(ExceptRule::AddressGroup(name, member))
+}
+
+#[tactic(auto, unfolding(crate::specs::Reading::aggregator))]
+fn aggregator(alloc: Global, words: &[Text]) -> Result<ExceptRule, LineFault>
+    ensures { Gives (λ x. x) result (aggregator words.now) }
+{
+    let (first, rest) = pattern_at(alloc, words)?;
+    let (second, rest) = literal_at(alloc, rest)?;
+    ends(rest)?;
+    Ok(ExceptRule::Aggregator(first, second))
+}
+
+/// These words, made anew.
+fn copied(alloc: Global, words: &[Text]) -> Result<Seq<Text>, NoMemory>
+    ensures { IfOk result (λ made. made ≡ words.now) }
+{
+    let mut made = Seq::new(alloc);
+    for word in words {
+        made.push(word.copy(alloc)?)?;
+    }
+    Ok(made)
+}
+
+/// The line of an ACL group, as words.
+fn group_line(alloc: Global, number: u8, words: &[Text]) -> Result<ExceptRule, LineFault>
+    ensures { Gives (λ x. x) result (group_line number words.now) }
+{
+    match words {
+        [] => Err(LineFault::Kind(LineKind::Arity)),
+        [_, ..] => Ok(ExceptRule::Acl(number, copied(alloc, words)?)),
+    }
+}
+
+#[tactic(auto, unfolding(crate::specs::Reading::acl_group))]
+fn acl_group(alloc: Global, words: &[Text]) -> Result<ExceptRule, LineFault>
+    ensures { Gives (λ x. x) result (acl_group words.now) }
+{
+    let (number, rest) = number_at(words)?;
+    group_line(alloc, number, rest)
+}
+
+/// The kind of control that a word names.
+#[tactic(auto, unfolding(crate::specs::Reading::control_word))]
+fn control_word(word: &[u8]) -> Option<ControlKind>
+    ensures { result ≡ control_word word.now }
+{
+    if bytes_equal(word, b"no_reset_domain") {
+        return Some(ControlKind::NoReset);
+    }
+    if bytes_equal(word, b"reset_domain") {
+        return Some(ControlKind::Reset);
+    }
+    if bytes_equal(word, b"no_initialize_domain") {
+        return Some(ControlKind::NoInitialize);
+    }
+    if bytes_equal(word, b"initialize_domain") {
+        return Some(ControlKind::Initialize);
+    }
+    if bytes_equal(word, b"no_keep_domain") {
+        return Some(ControlKind::NoKeep);
+    }
+    if bytes_equal(word, b"keep_domain") {
+        return Some(ControlKind::Keep);
+    }
+    None
+}
+
+/// What a leading word begins.
+#[tactic(auto, unfolding(crate::specs::Reading::head_of))]
+fn head_of(word: &[u8]) -> Option<Head>
+    ensures { result ≡ head_of word.now }
+{
+    if bytes_equal(word, b"path_group") {
+        return Some(Head::PathGroup);
+    }
+    if bytes_equal(word, b"number_group") {
+        return Some(Head::NumberGroup);
+    }
+    if bytes_equal(word, b"address_group") {
+        return Some(Head::AddressGroup);
+    }
+    if bytes_equal(word, b"aggregator") {
+        return Some(Head::Aggregator);
+    }
+    if bytes_equal(word, b"acl_group") {
+        return Some(Head::Acl);
+    }
+    match control_word(word) {
+        Some(kind) => Some(Head::Control(kind)),
+        None => None,
+    }
+}
+
+/// Whether the leading word of a group or an aggregator begins so.
+#[tactic(auto, unfolding(crate::specs::Reading::begins_list))]
+fn begins_list(word: &[u8]) -> bool
+    ensures { result ≡ begins_list word.now }
+{
+    if begins(word, b"path_group") {
+        return true;
+    }
+    if begins(word, b"number_group") {
+        return true;
+    }
+    if begins(word, b"address_group") {
+        return true;
+    }
+    if begins(word, b"aggregator") {
+        return true;
+    }
+    begins(word, b"acl_group")
+}
+
+/// Whether the leading word of a control begins so.
+#[tactic(auto, unfolding(crate::specs::Reading::begins_control))]
+fn begins_control(word: &[u8]) -> bool
+    ensures { result ≡ begins_control word.now }
+{
+    if begins(word, b"no_reset_domain") {
+        return true;
+    }
+    if begins(word, b"reset_domain") {
+        return true;
+    }
+    if begins(word, b"no_initialize_domain") {
+        return true;
+    }
+    if begins(word, b"initialize_domain") {
+        return true;
+    }
+    if begins(word, b"no_keep_domain") {
+        return true;
+    }
+    begins(word, b"keep_domain")
+}
+
+/// Whether a leading word begins so; `delete` may be one at the very front.
+#[tactic(auto, unfolding(crate::specs::Reading::begins_rule))]
+fn begins_rule(first: bool, word: &[u8]) -> bool
+    ensures { result ≡ begins_rule first word.now }
+{
+    if begins_list(word) {
+        return true;
+    }
+    if begins_control(word) {
+        return true;
+    }
+    first && begins(word, b"delete")
+}
+
+/// The kind of a wrong leading word.
+fn head_kind(first: bool, word: &[u8], words: &[Text]) -> LineKind
+    ensures { rule_by None first word.now words.now ≡ Err result }
+{
+    match words {
+        [] => {
+            if begins_rule(first, word) {
+                LineKind::Arity
+            } else {
+                LineKind::Keyword
+            }
+        }
+        [_, ..] => LineKind::Keyword,
+    }
+}
+
+/// The rule that a line writes, without `delete` and its namespace word.
+#[tactic(auto, unfolding(crate::specs::Reading::rule_at))]
+fn rule_at(alloc: Global, first: bool, words: &[Text]) -> Result<ExceptRule, LineFault>
+    ensures { Gives (λ x. x) result (rule_at first words.now) }
+{
+    match words {
+        [] => Err(LineFault::Kind(LineKind::Arity)),
+        [word, rest @ ..] => match head_of(word.bytes()) {
+            Some(Head::PathGroup) => path_group(alloc, rest),
+            Some(Head::NumberGroup) => number_group(alloc, rest),
+            Some(Head::AddressGroup) => address_group(alloc, rest),
+            Some(Head::Aggregator) => aggregator(alloc, rest),
+            Some(Head::Control(kind)) => Ok(ExceptRule::Control(control_line(alloc, kind, rest)?)),
+            Some(Head::Acl) => acl_group(alloc, rest),
+            None => Err(LineFault::Kind(head_kind(first, word.bytes(), rest))),
+        },
+    }
+}
+
+/// A line without its `delete`.
+#[tactic(auto, unfolding(crate::specs::Reading::named_line))]
+fn named_line(alloc: Global, delete: bool, words: &[Text]) -> Result<ExceptLine, LineFault>
+    ensures { Gives (λ x. x) result (named_line delete words.now) }
+{
+    match words {
+        [] => Err(LineFault::Kind(LineKind::Arity)),
+        [word, ..] => {
+            let first = !delete && !opens(word.bytes());
+            let (namespace, rest) = namespace_at(alloc, words)?;
+            let rule = rule_at(alloc, first, rest)?;
+            Ok(ExceptLine {
+                delete,
+                namespace,
+                rule,
+            })
+        }
+    }
+}
+
+/// Reads a line of the exception policy, of which these are the words. It may begin with `delete`, and then with a namespace word,
+/// else it is one of `<kernel>`; then comes a group and its member, an aggregator, a domain transition control, or an ACL group,
+/// whose line stays as words.
+///
+/// Errors: the kind of the first word at which the line can't go on, or want of memory. `Keyword` is a wrong leading word, `Arity`
+/// a missing or an extra word or an unfinished keyword at the end, `Name` a wrong group, pattern or path, `Number` and `Address` a
+/// wrong range or ACL group's number, `Domain` a wrong domain name or namespace word.
+#[tactic(auto, unfolding(crate::specs::Reading::line_of))]
+pub fn read_exception(alloc: Global, words: &[Text]) -> Result<ExceptLine, LineFault>
+    ensures { Gives (λ x. x) result (line_of words.now) }
+{
+    match words {
+        [] => Err(LineFault::Kind(LineKind::Arity)),
+        [word, rest @ ..] => {
+            if bytes_equal(word.bytes(), b"delete") {
+                named_line(alloc, true, rest)
+            } else {
+                named_line(alloc, false, words)
+            }
+        }
+    }
+}
