@@ -110,7 +110,6 @@ fn push_growth(
 }
 
 fn push_kinds(run: &Run, policy_opening: &Policy, out: &mut Vec<u8>) -> Result<(), NoMemory>
-    requires no_step { run.now.steps ≡ [] }
     ensures { OnOk result (out.new.items ≡ out.old.items ++ kinds_text run.now policy_opening.now) }
 {
     out.extend_from_slice(b" clean ")?;
@@ -119,9 +118,9 @@ fn push_kinds(run: &Run, policy_opening: &Policy, out: &mut Vec<u8>) -> Result<(
     push_yes_or_no(is_plain(policy_opening), out)
 }
 
-/// The line that a run without a step is summed up by: how many requests it has and how many of them are granted and denied, how
-/// many lines it learned, its steps, the live domains of its final policy, whether it is clean, and whether its opening policy is
-/// plain. A run with a step is left out by the condition, since its cleanness isn't judged yet. Fails for want of memory alone.
+/// The line that a run is summed up by: how many requests it has and how many of them are granted and denied, how many lines it
+/// learned, its steps, the live domains of its final policy, whether it is clean, and whether its opening policy is plain. Fails for
+/// want of memory alone.
 #[tactic(auto, unfolding(crate::specs::Summary::summary_text))]
 pub fn summary_line(
     alloc: Global,
@@ -129,7 +128,6 @@ pub fn summary_line(
     policy_opening: &Policy,
     policy_final: &Policy,
 ) -> Result<Vec<u8>, NoMemory>
-    requires no_step { run.now.steps ≡ [] }
     ensures { IfOk result (λ line. line.items ≡ summary_text run.now policy_opening.now policy_final.now) }
 {
     let mut line = Vec::new(alloc);
@@ -247,6 +245,23 @@ mod tests {
             let line = summary_line(alloc, &run, &policy, &policy)?;
             assert_eq!(rt; line.as_slice(), text.as_bytes());
         }
+        Ok(())
+    }
+
+    #[test]
+    fn a_run_with_steps_is_summed_up(rt: HostRuntime) -> Result<(), NoMemory> {
+        let alloc = rt.alloc();
+        let mut steps = Seq::new(alloc);
+        steps.push((Step::Attach, Reply::Attach(true)))?;
+        steps.push((Step::Fail(0), Reply::Fail(true)))?;
+        let run = Run {
+            steps,
+            takes: Seq::new(alloc),
+        };
+        let policy = policy(alloc, Seq::new(alloc));
+        let line = summary_line(alloc, &run, &policy, &policy)?;
+        let text = "requests 0 granted 0 denied 0 learned 0 steps 2 domains 0 clean no plain yes\n";
+        assert_eq!(rt; line.as_slice(), text.as_bytes());
         Ok(())
     }
 }

@@ -12,6 +12,7 @@ use Rattle.tm_types.specs.declared.step.Heard.{Heard}
 use Rattle.tm_types.specs.declared.step.Look.{Look}
 use Rattle.tm_types.specs.declared.step.Take.{Take}
 use Rattle.tm_types.specs.declared.step.Run.{Run}
+use Rattle.tm_run.specs.Steps.{with_steps}
 
 -- a mode's word, and `none` for a manual transition
 abbrev pub mode_text : Option Mode → Text
@@ -102,6 +103,6 @@ abbrev pub with_takes : Text → ℕ → List Take → Text
 with_takes before count [] = before
 with_takes before count (t ∷ takes) = with_takes (before ++ take_text (count + 1) t) (count + 1) takes
 
--- the line `run 1` and the takes in order, numbered from 1; it speaks of runs without a step, whose lines would stand between them
+-- the line `run 1`, the steps by number, and the takes in order, both numbered from 1
 unfoldable pub run_text : Run → Text
-run_text run = with_takes (codes "run 1\n") 0 run.takes
+run_text run = with_takes (with_steps (codes "run 1\n") 0 run.steps) 0 run.takes

@@ -3,6 +3,7 @@ ghost use Rattle.std.specs.Prelude.{◌≡◌, ◌++◌, ◌∷◌, [], IfOk, On
 ghost use Rattle.tm_run.specs.RunText.{granted_text, domains_text, take_line, take_text, audit_word, with_takes, run_text};
 
 use crate::look::{push_decimal, push_looks};
+use crate::steps::push_steps;
 use std::alloc::Global;
 use tm_list::NoMemory;
 use tm_types::step::{Run, Take};
@@ -84,15 +85,15 @@ fn run_text(alloc: Global, run: &Run) -> Result<Vec<u8>, NoMemory>
 {
     let mut text = Vec::new(alloc);
     text.extend_from_slice(b"run 1\n")?;
+    push_steps(alloc, run.steps.as_slice(), &mut text)?;
     push_takes(alloc, run.takes.as_slice(), &mut text)?;
     Ok(text)
 }
 
-/// Appends the text of a run without a step: the line `run 1`, and of each take one line with its number from 1, its process,
-/// the numbers of its domain before and after and its answer, then its looks and its audit text as one word. The lines of steps
-/// aren't printed yet, so a run that has one is left out by the condition. After want of memory `out` is as before.
+/// Appends the text of a run: the line `run 1`; of each step one line with its number from 1, its reply and its words; and of each
+/// take one line with its number from 1, its process, the numbers of its domain before and after and its answer, then its looks and
+/// its audit text as one word. After want of memory `out` is as before.
 pub fn print_run(alloc: Global, run: &Run, out: &mut Vec<u8>) -> Result<(), NoMemory>
-    requires no_step { run.now.steps ≡ [] }
     ensures ok { OnOk result (out.new.items ≡ out.old.items ++ run_text run.now) }
     ensures err { OnErr result (out.new.items ≡ out.old.items) }
 {
@@ -105,7 +106,7 @@ mod tests {
     use super::*;
     use tm_list::Seq;
     use tm_types::policy::Mode;
-    use tm_types::step::{Answered, Heard, Look};
+    use tm_types::step::{Answered, Heard, Look, Reply, Step};
     use tm_types::verdict::{EntryPlace, Move, Reason};
 
     fn look(alloc: Global, mode: Option<Mode>, reason: Reason, step: Move) -> Look {
@@ -199,6 +200,22 @@ mod tests {
         let out = printed(alloc, take(alloc, false, look, Some(audit))?)?;
         let text =
             "run 1\ntake 1 7 0 3 denied\nlook 0 enforcing ask stay 3,12 no@14\naudit a\\040b\\012\n";
+        assert_eq!(rt; out.as_slice(), text.as_bytes());
+        Ok(())
+    }
+
+    #[test]
+    fn steps_stand_before_takes(rt: HostRuntime) -> Result<(), NoMemory> {
+        let alloc = rt.alloc();
+        let mut steps = Seq::new(alloc);
+        steps.push((Step::Fail(0), Reply::Fail(true)))?;
+        let mut takes = Seq::new(alloc);
+        let look = look(alloc, Some(Mode::Learning), Reason::Learn, Move::Fail);
+        takes.push(take(alloc, true, look, None)?)?;
+        let mut out = Vec::new(alloc);
+        print_run(alloc, &Run { steps, takes }, &mut out)?;
+        let text =
+            "run 1\nstep 1 set fail 0\ntake 1 7 0 3 granted\nlook 0 learning learn fail - -\naudit -\n";
         assert_eq!(rt; out.as_slice(), text.as_bytes());
         Ok(())
     }
