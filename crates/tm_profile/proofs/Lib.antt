@@ -1,0 +1,8 @@
+pub mod MapEnds
+pub mod LineLaws
+pub mod WordLaws
+pub mod EffectLaws
+pub mod TextLaws
+mod LineExamples
+pub mod FitLaws
+pub mod KeptLaws

@@ -1,0 +1,9 @@
+use Rattle.tm_namespace.proofs.NamespaceLaws.{named, kernel_is, found_is}
+use Rattle.tm_namespace.proofs.namespaces.Goals as goal
+
+pub returns : goal.returns
+returns c = record {
+  named = named;
+  kernel = kernel_is;
+  found = found_is;
+}

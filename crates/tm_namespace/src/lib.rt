@@ -1,0 +1,119 @@
+//! The namespace word that a policy line may begin with.
+//! Stands on tm_domain, whose grammar of names it cites, and on the steps of tm_line.
+//! Promises that the namespace is that of its reading function, `<kernel>` where none is written, and that a namespace word is read whatever follows it.
+#![tactic(auto)]
+
+ghost use Rattle.std.specs.Prelude.{◌≡◌, ◌==◌, ◌∷◌, List, Ok};
+ghost use Rattle.std.specs.List.{list_any};
+ghost use Rattle.tm_word.specs.Words.{Text};
+ghost use Rattle.tm_line.specs.Lines.{Gives};
+ghost use Rattle.tm_rules.specs.Policy.{kernel};
+ghost use Rattle.tm_namespace.specs.Namespaces.{opens, namespace_of, namespace_at, IsNamespace};
+
+use std::alloc::Global;
+use tm_domain::{DomainFault, read_domain};
+use tm_list::Seq;
+use tm_types::entry::LineKind;
+use tm_types::step::LineFault;
+use tm_word::Text;
+
+/// Whether a word begins with `<`, as namespace words do and no other word of a line may.
+pub fn opens(word: &[u8]) -> bool
+    ensures { result ≡ opens word.now }
+{
+    match word {
+        [] => false,
+        [first, ..] => *first == b'<',
+    }
+}
+
+/// Whether a space stands in a word.
+fn has_space(word: &[u8]) -> bool
+    ensures { result ≡ list_any (λ b. b == 32) word.now }
+{
+    for byte in word {
+        if *byte == b' ' {
+            return true;
+        }
+    }
+    false
+}
+
+/// The namespace of a word that names one.
+#[tactic(auto, unfolding(crate::specs::Namespaces::namespace_of))]
+fn namespace_of(alloc: Global, word: &[u8]) -> Result<Text, LineFault>
+    ensures { Gives (λ x. x) result (namespace_of word.now) }
+{
+    if has_space(word) {
+        return Err(LineFault::Kind(LineKind::Domain));
+    }
+    match read_domain(alloc, word) {
+        Ok(name) => Ok(name),
+        Err(DomainFault::NoNamespace) => Err(LineFault::Kind(LineKind::Domain)),
+        Err(DomainFault::BadPath(_)) => Err(LineFault::Kind(LineKind::Domain)),
+        Err(DomainFault::TooLong) => Err(LineFault::Kind(LineKind::Domain)),
+        Err(DomainFault::NoMemory) => Err(LineFault::NoMemory),
+    }
+}
+
+/// Reads the namespace word that may stand at the front of a line's words: `<kernel>` or a path in angle brackets. Answers the
+/// namespace, which is `<kernel>` where no such word stands there, and the words after it.
+///
+/// Errors: kind `Domain` where the first word begins with `<` and is no namespace word, or want of memory.
+#[tactic(auto, unfolding(crate::specs::Namespaces::namespace_at))]
+pub fn namespace_at(alloc: Global, words: &[Text]) -> Result<(Text, &[Text]), LineFault>
+    ensures { Gives (λ x. (x.0, x.1.now)) result (namespace_at words.now) }
+{
+    match words {
+        [] => Ok((Seq::from_bytes(alloc, b"<kernel>")?, words)),
+        [word, rest @ ..] => {
+            if opens(word.bytes()) {
+                Ok((namespace_of(alloc, word.bytes())?, rest))
+            } else {
+                Ok((Seq::from_bytes(alloc, b"<kernel>")?, words))
+            }
+        }
+    }
+}
+
+/// A law, nothing to run: a namespace word is read whatever follows it, `<kernel>` is one, and each namespace that is read is one.
+pub fn namespaces()
+    ensures named { (name : Text) (words : List Text) → IsNamespace name → namespace_at (name ∷ words) ≡ Ok (name, words) }
+    ensures kernel { IsNamespace kernel }
+    ensures found { (words : List Text) (name : Text) (rest : List Text) → namespace_at words ≡ Ok (name, rest) → IsNamespace name }
+{}
+
+#[cfg(test)]
+mod tests {
+    use super::*;
+    use tm_list::NoMemory;
+    use tm_word::normal_words;
+
+    #[test]
+    fn namespaces_of_lines(rt: HostRuntime) -> Result<(), LineFault> {
+        for (line, namespace, left) in [
+            ("path_group A /a", "<kernel>", 3),
+            ("<kernel> path_group A /a", "<kernel>", 3),
+            ("</usr/sbin/sshd> x", "</usr/sbin/sshd>", 1),
+            ("", "<kernel>", 0),
+        ] {
+            let words = normal_words(rt.alloc(), line.as_bytes())?;
+            let (name, rest) = namespace_at(rt.alloc(), words.as_slice())?;
+            assert_eq!(rt; name.bytes(), namespace.as_bytes(), "at {line}");
+            assert_eq!(rt; rest.len(), left, "at {line}");
+        }
+        Ok(())
+    }
+
+    #[test]
+    fn words_that_name_no_namespace(rt: HostRuntime) -> Result<(), NoMemory> {
+        for line in ["<kern", "<a> x", "<> x", "</\\q> x"] {
+            let words = normal_words(rt.alloc(), line.as_bytes())?;
+            match namespace_at(rt.alloc(), words.as_slice()) {
+                Ok(_) => assert!(rt; false, "a namespace: {line}"),
+                Err(fault) => assert_eq!(rt; fault, LineFault::Kind(LineKind::Domain)),
+            }
+        }
+        Ok(())
+    }
+}

@@ -1,0 +1,244 @@
+-- Profile lines: what each word gives, and the kind of the first one at which the line can't go on.
+use Rattle.std.specs.Prelude.{ℕ, ◌+◌, ◌^◌, ◌==◌, nat_lt, ◌&&◌, ◌||◌, if◌then◌else◌, Bool, true, false, List, [], ◌∷◌, ◌++◌, take, drop, Option, Some, None, is_none, is_some, Result, Ok, Err, codes}
+use Rattle.std.specs.List.{position, list_any}
+use Rattle.std.specs.Option.{option_or}
+use Rattle.tm_word.specs.Words.{Text}
+use Rattle.tm_word.specs.Spelling.{joined}
+use Rattle.tm_number.specs.declared.Base.{Base}
+use Rattle.tm_number.specs.declared.Number.{Number}
+use Rattle.tm_number.specs.declared.text.NumberFault.{NumberFault}
+use Rattle.tm_number.specs.Numbers.{number_of, same_base}
+use Rattle.tm_types.specs.declared.entry.LineKind.{LineKind}
+use Rattle.tm_types.specs.declared.policy.Mode.{Mode}
+use Rattle.tm_types.specs.declared.policy.SlotName.{SlotName}
+use Rattle.tm_types.specs.declared.policy.Setting.{Setting}
+use Rattle.tm_types.specs.declared.policy.ProfileEffect.{ProfileEffect}
+use Rattle.tm_types.specs.declared.policy.ProfileLine.{ProfileLine}
+use Rattle.tm_types.specs.Slot.{all_slots}
+use Rattle.tm_rules.specs.Equality.{texts_equal}
+use Rattle.tm_namespace.specs.Namespaces.{namespace_at}
+use Rattle.tm_profile.specs.declared.reading.Key.{Key}
+use Rattle.tm_profile.specs.declared.reading.Seen.{Seen}
+use Rattle.tm_profile.specs.declared.reading.Limits.{Limits}
+use Rattle.tm_line.specs.Lines.{◌>>=◌, begins, is_last}
+use Rattle.tm_profile.specs.Lines.{after, or_kind}
+use Rattle.tm_profile.specs.Slots.{slot_text}
+
+-- an unfinished word at the end is a missing one, any other wrong word is the profile's
+abbrev pub wrong : Bool → LineKind
+wrong unfinished = if unfinished then LineKind.Arity else LineKind.Profile
+
+-- no word may be left
+abbrev pub at_end : {A : Type 0} → A → List Text → Result A LineKind
+at_end x [] = Ok x
+at_end x (word ∷ words) = Err LineKind.Profile
+
+-- a decimal without leading zeros, below a limit
+abbrev pub plain_by : ℕ → Result Number NumberFault → Option ℕ
+plain_by limit (Ok n) = if same_base n.base Base.Decimal && nat_lt n.value limit then Some n.value else None
+plain_by limit (Err fault) = None
+
+abbrev pub plain : ℕ → Text → Option ℕ
+plain limit text = plain_by limit (number_of text)
+
+-- COMMENT
+
+-- the words after `COMMENT=`, joined by one space and with none in front
+abbrev pub comment_of : Text → List Text → Text
+comment_of [] words = joined words
+comment_of (b ∷ first) words = joined ((b ∷ first) ∷ words)
+
+-- CONFIG
+
+-- what the words of a setting say
+unfoldable pub key_of : Text → Option Key
+key_of word =
+    if texts_equal word (codes "mode=disabled")
+    then Some (Key.Mode Mode.Disabled)
+    else if texts_equal word (codes "mode=learning")
+    then Some (Key.Mode Mode.Learning)
+    else if texts_equal word (codes "mode=permissive")
+    then Some (Key.Mode Mode.Permissive)
+    else if texts_equal word (codes "mode=enforcing")
+    then Some (Key.Mode Mode.Enforcing)
+    else if texts_equal word (codes "grant_log=yes")
+    then Some (Key.Grant true)
+    else if texts_equal word (codes "grant_log=no")
+    then Some (Key.Grant false)
+    else if texts_equal word (codes "reject_log=yes")
+    then Some (Key.Reject true)
+    else if texts_equal word (codes "reject_log=no")
+    then Some (Key.Reject false)
+    else None
+
+-- nothing was written yet
+abbrev pub unseen : Seen
+unseen = record { mode = None; grant = None; reject = None }
+
+-- each key may be written once
+abbrev pub with_key : Seen → Key → Option Seen
+with_key seen (Key.Mode mode) = if is_none seen.mode then Some (record seen { mode = Some mode }) else None
+with_key seen (Key.Grant log) = if is_none seen.grant then Some (record seen { grant = Some log }) else None
+with_key seen (Key.Reject log) = if is_none seen.reject then Some (record seen { reject = Some log }) else None
+
+-- a word of a mode begins so
+abbrev pub begins_mode : Text → Bool
+begins_mode word = begins word (codes "mode=disabled") || begins word (codes "mode=learning") || begins word (codes "mode=permissive") || begins word (codes "mode=enforcing")
+
+-- a word of the grant log begins so
+abbrev pub begins_grant : Text → Bool
+begins_grant word = begins word (codes "grant_log=yes") || begins word (codes "grant_log=no")
+
+-- a word of the reject log begins so
+abbrev pub begins_reject : Text → Bool
+begins_reject word = begins word (codes "reject_log=yes") || begins word (codes "reject_log=no")
+
+-- a word that may stand here begins so
+abbrev pub begins_key : Seen → Text → Bool
+begins_key seen word =
+    is_none seen.mode && begins_mode word || is_none seen.grant && begins_grant word || is_none seen.reject && begins_reject word
+
+abbrev pub seen_by : Option Key → Seen → Bool → Result Seen LineKind
+seen_by (Some key) seen unfinished = or_kind LineKind.Profile (with_key seen key)
+seen_by None seen unfinished = Err (wrong unfinished)
+
+-- the words so far and one more
+unfoldable pub seen_after : Seen → Text → Bool → Result Seen LineKind
+seen_after seen word last = seen_by (key_of word) seen (last && begins_key seen word)
+
+abbrev pub setting_by : Option Mode → Seen → Result Setting LineKind
+setting_by (Some mode) seen = Ok (record { mode = mode; grant = seen.grant; reject = seen.reject })
+setting_by None seen = Err LineKind.Profile
+
+-- the mode is there, and nothing follows
+unfoldable pub closed : Seen → List Text → Result Setting LineKind
+closed seen words = setting_by seen.mode seen >>= λ setting. at_end setting words
+
+-- the words up to `}`
+unfoldable pub setting_after : Seen → List Text → Result Setting LineKind
+setting_after seen [] = Err LineKind.Arity
+setting_after seen (word ∷ words) = if texts_equal word (codes "}") then closed seen words else (seen_after seen word (is_last words) >>= λ more. setting_after more words)
+
+-- PREFERENCE
+
+-- nothing was written yet
+abbrev pub unlimited : Limits
+unlimited = record { audit = None; learning = None }
+
+-- a decimal without leading zeros, below 2^32
+abbrev pub limit_of : Text → Bool → Result ℕ LineKind
+limit_of [] last = Err (wrong last)
+limit_of (b ∷ text) last = or_kind LineKind.Profile (plain (2 ^ 32) (b ∷ text))
+
+-- each limit may be written once
+abbrev pub once : {A : Type 0} → Option ℕ → Result A LineKind → Result A LineKind
+once None read = read
+once (Some n) read = Err LineKind.Profile
+
+-- a word that may stand here begins so
+abbrev pub begins_limit : Limits → Text → Bool
+begins_limit limits word = is_none limits.audit && begins word (codes "max_audit_log=") || is_none limits.learning && begins word (codes "max_learning_entry=")
+
+abbrev pub learning_by : Option Text → Limits → Text → Bool → Result Limits LineKind
+learning_by (Some text) limits word last = once limits.learning (limit_of text last >>= λ n. Ok (record limits { learning = Some n }))
+learning_by None limits word last = Err (wrong (last && begins_limit limits word))
+
+abbrev pub limits_by : Option Text → Limits → Text → Bool → Result Limits LineKind
+limits_by (Some text) limits word last = once limits.audit (limit_of text last >>= λ n. Ok (record limits { audit = Some n }))
+limits_by None limits word last = learning_by (after (codes "max_learning_entry=") word) limits word last
+
+-- the limits so far and one more
+unfoldable pub limits_with : Limits → Text → Bool → Result Limits LineKind
+limits_with limits word last = limits_by (after (codes "max_audit_log=") word) limits word last
+
+-- the words up to `}`
+unfoldable pub limits_after : Limits → List Text → Result Limits LineKind
+limits_after limits [] = Err LineKind.Arity
+limits_after limits (word ∷ words) = if texts_equal word (codes "}") then at_end limits words else (limits_with limits word (is_last words) >>= λ more. limits_after more words)
+
+-- what a line says of the limits of profile n
+abbrev pub preference : ℕ → List Text → Result ProfileEffect LineKind
+preference n words = limits_after unlimited words >>= λ limits. Ok (ProfileEffect.Preference n limits.audit limits.learning)
+
+-- The line
+
+-- what a word sets of this slot: whether a setting follows; false is `use_default`
+abbrev pub slot_word : SlotName → Text → Option (SlotName × Bool)
+slot_word slot word =
+    if texts_equal word (slot_text slot ++ codes "={")
+    then Some (slot, true)
+    else if texts_equal word (slot_text slot ++ codes "=use_default")
+    then Some (slot, false)
+    else None
+
+-- what a word sets of the first of these slots that it speaks of
+abbrev pub slot_in : List SlotName → Text → Option (SlotName × Bool)
+slot_in [] word = None
+slot_in (slot ∷ slots) word = option_or (slot_word slot word) (slot_in slots word)
+
+-- the slot that a word sets
+unfoldable pub slot_of : Text → Option (SlotName × Bool)
+slot_of word = slot_in all_slots word
+
+-- a word of the slot begins so
+abbrev pub begins_slot : Text → SlotName → Bool
+begins_slot word slot = begins word (slot_text slot ++ codes "={") || begins word (slot_text slot ++ codes "=use_default")
+
+-- a word of some slot begins so
+unfoldable pub begins_some_slot : Text → Bool
+begins_some_slot word = list_any (begins_slot word) all_slots
+
+-- a word that may stand after `N-` begins so
+unfoldable pub begins_effect : Text → Bool
+begins_effect word = begins word (codes "COMMENT=") || begins word (codes "PREFERENCE={") || begins word (codes "CONFIG={") || begins_some_slot word
+
+abbrev pub slot_by : ℕ → Option (SlotName × Bool) → Text → List Text → Result ProfileEffect LineKind
+slot_by n (Some (slot, true)) word words = setting_after unseen words >>= λ setting. Ok (ProfileEffect.Slot n slot (Some setting))
+slot_by n (Some (slot, false)) word words = at_end (ProfileEffect.Slot n slot None) words
+slot_by n None word words = Err (wrong (is_last words && begins_effect word))
+
+abbrev pub comment_by : ℕ → Option Text → Text → List Text → Result ProfileEffect LineKind
+comment_by n (Some first) word words = Ok (ProfileEffect.Comment n (comment_of first words))
+comment_by n None word words =
+    if texts_equal word (codes "PREFERENCE={")
+    then preference n words
+    else if texts_equal word (codes "CONFIG={")
+    then (setting_after unseen words >>= λ setting. Ok (ProfileEffect.Config n setting))
+    else slot_by n (slot_of word) word words
+
+-- what a line says of profile n: the word after `N-`, and the words that follow
+unfoldable pub numbered : ℕ → Text → List Text → Result ProfileEffect LineKind
+numbered n word words = comment_by n (after (codes "COMMENT=") word) word words
+
+-- a line's first word may go on after this one, which has no `-`
+abbrev pub begins_line : Text → Bool
+begins_line word = begins word (codes "PROFILE_VERSION=") || is_some (plain 256 word)
+
+abbrev pub numbered_by : Option ℕ → Text → List Text → Result ProfileEffect LineKind
+numbered_by (Some place) word words = or_kind LineKind.Profile (plain 256 (take place word)) >>= λ n. numbered n (drop (place + 1) word) words
+numbered_by None word words = Err (wrong (is_last words && begins_line word))
+
+-- the two versions that are read alike; without a number the word is unfinished
+abbrev pub version_by : Text → List Text → Result ProfileEffect LineKind
+version_by [] words = Err (if is_last words then LineKind.Arity else LineKind.Version)
+version_by (b ∷ text) words =
+    if texts_equal (b ∷ text) (codes "20150505") || texts_equal (b ∷ text) (codes "20110903") then at_end ProfileEffect.Version words else Err LineKind.Version
+
+abbrev pub effect_by : Option Text → Text → List Text → Result ProfileEffect LineKind
+effect_by (Some text) word words = version_by text words
+effect_by None word words = numbered_by (position (λ b. b == 45) word) word words
+
+-- what a line says, without its namespace word
+unfoldable pub effect_at : List Text → Result ProfileEffect LineKind
+effect_at [] = Err LineKind.Arity
+effect_at (word ∷ words) = effect_by (after (codes "PROFILE_VERSION=") word) word words
+
+abbrev pub line : Text → ProfileEffect → ProfileLine
+line name effect = record { namespace = name; effect = effect }
+
+-- a profile line
+unfoldable pub line_of : List Text → Result ProfileLine LineKind
+line_of words = do
+  found ← namespace_at words
+  effect ← effect_at found.1
+  Ok (line found.0 effect)
