@@ -1,6 +1,7 @@
 -- The printed text of the profiles, and the order of namespaces.
-use Rattle.std.specs.Prelude.{ℕ, Bool, true, false, ◌==◌, nat_lt, if◌then◌else◌, List, [], ◌∷◌}
+use Rattle.std.specs.Prelude.{ℕ, suc, Bool, true, false, ◌==◌, nat_lt, if◌then◌else◌, List, [], ◌∷◌, map}
 use Rattle.std.specs.List.{flat_map}
+use Rattle.std.specs.Borrow.{Bor}
 use Rattle.tm_word.specs.Words.{Text}
 use Rattle.tm_types.specs.declared.policy.Namespace.{Namespace}
 use Rattle.tm_types.specs.declared.policy.Policy.{Policy}
@@ -27,6 +28,19 @@ placed ordered (ns ∷ others) = placed (with_namespace ns ordered) others
 unfoldable pub by_name : List Namespace → List Namespace
 by_name namespaces = placed [] namespaces
 
--- the profiles of each namespace, by the order of names; one without a profile prints nothing
+-- the profiles of a namespace; nothing where it has none
+abbrev pub namespace_text : Namespace → Text
+namespace_text ns = profiles_text ns.name ns.profiles
+
+-- the profiles of each namespace, by the order of names
 unfoldable pub profile_text : Policy → Text
-profile_text policy = flat_map (λ ns. profiles_text ns.name ns.profiles) (by_name policy.namespaces)
+profile_text policy = flat_map namespace_text (by_name policy.namespaces)
+
+-- the namespaces that references lend
+abbrev pub lent : List (Bor Namespace) → List Namespace
+lent references = map (λ reference. reference.now) references
+
+-- how many namespaces a namespace goes behind
+abbrev pub place_for : Namespace → List Namespace → ℕ
+place_for ns [] = 0
+place_for ns (other ∷ others) = if comes_before ns.name other.name then 0 else suc (place_for ns others)

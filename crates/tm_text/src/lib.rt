@@ -5,6 +5,8 @@
 
 mod domains;
 mod managers;
+mod profiles;
 
 pub use domains::print_domain;
 pub use managers::print_manager;
+pub use profiles::print_profile;
