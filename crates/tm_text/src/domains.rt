@@ -140,3 +140,79 @@ pub fn print_domain(alloc: Global, policy: &Policy, out: &mut Vec<u8>) -> Result
     let text = domain_text(alloc, policy)?;
     out.extend_from_slice(&text)
 }
+
+#[cfg(test)]
+mod tests {
+    use super::*;
+    use std::alloc::AllocError;
+    use tm_entry::read_entry;
+    use tm_list::{Map, Seq};
+    use tm_word::normal_words;
+
+    // A domain in profile 1 with one entry, which is the line.
+    fn domain(alloc: Global, name: &[u8], line: &[u8]) -> Result<Domain, NoMemory> {
+        let words = normal_words(alloc, line)?;
+        let mut entries = Seq::new(alloc);
+        match read_entry(alloc, &words) {
+            Ok(entry) => entries.push(entry)?,
+            Err(_) => return Err(AllocError),
+        }
+        Ok(Domain {
+            name: Seq::from_bytes(alloc, name)?,
+            live: true,
+            profile: 1,
+            groups: Map::new(alloc),
+            quota_exceeded: false,
+            transition_failed: false,
+            entries,
+        })
+    }
+
+    // The printed domain policy of these domains, after what stood before.
+    fn printed(alloc: Global, first: Domain, second: Domain) -> Result<Vec<u8>, NoMemory> {
+        let mut domains = Seq::new(alloc);
+        domains.push(first)?;
+        domains.push(second)?;
+        let policy = Policy {
+            namespaces: Seq::new(alloc),
+            domains,
+            by_non_root: false,
+            managers: Seq::new(alloc),
+            opened: false,
+        };
+        let mut out = Vec::from_slice(alloc, b"# ")?;
+        print_domain(alloc, &policy, &mut out)?;
+        Ok(out)
+    }
+
+    #[test]
+    fn a_domain_without_groups_and_flags(rt: HostRuntime) -> Result<(), NoMemory> {
+        let alloc = rt.alloc();
+        let kernel = domain(alloc, b"<kernel>", b"file read /a")?;
+        let mut dead = domain(alloc, b"<kernel> /b", b"file read /b")?;
+        dead.live = false;
+        let out = printed(alloc, kernel, dead)?;
+        let text = "# <kernel>\nuse_profile 1\nfile read /a\n\n";
+        assert_eq!(rt; out.as_slice(), text.as_bytes());
+        Ok(())
+    }
+
+    #[test]
+    fn a_domain_with_groups_and_flags(rt: HostRuntime) -> Result<(), NoMemory> {
+        let alloc = rt.alloc();
+        let mut kernel = domain(alloc, b"<kernel>", b"misc env HOME")?;
+        kernel.groups.put(255, ())?;
+        kernel.groups.put(3, ())?;
+        kernel.quota_exceeded = true;
+        kernel.profile = 0;
+        let mut other = domain(alloc, b"<kernel> /b", b"file write/read /b")?;
+        other.quota_exceeded = true;
+        other.transition_failed = true;
+        let out = printed(alloc, kernel, other)?;
+        let text =
+            "# <kernel>\nuse_profile 0\nuse_group 3\nuse_group 255\nquota_exceeded\nmisc env HOME\n\n\
+<kernel> /b\nuse_profile 1\nquota_exceeded\ntransition_failed\nfile read/write /b\n\n";
+        assert_eq!(rt; out.as_slice(), text.as_bytes());
+        Ok(())
+    }
+}

@@ -100,3 +100,118 @@ pub fn print_profile(alloc: Global, policy: &Policy, out: &mut Vec<u8>) -> Resul
     let text = profile_text(alloc, policy)?;
     out.extend_from_slice(&text)
 }
+
+#[cfg(test)]
+mod tests {
+    use super::*;
+    use tm_list::{Map, Seq};
+    use tm_types::policy::{Config, Logs, Mode, Profile};
+    use tm_types::unions::Groups;
+
+    // A profile of that mode.
+    fn profile(alloc: Global, mode: Mode) -> Profile {
+        Profile {
+            comment: Seq::new(alloc),
+            max_audit_log: 1024,
+            max_learning_entry: 2048,
+            config: Config {
+                mode,
+                logs: Logs {
+                    grant: false,
+                    reject: false,
+                },
+            },
+            slots: Map::new(alloc),
+        }
+    }
+
+    // A namespace without profiles.
+    fn namespace(alloc: Global, name: &[u8]) -> Result<Namespace, NoMemory> {
+        Ok(Namespace {
+            name: Seq::from_bytes(alloc, name)?,
+            profiles: Map::new(alloc),
+            groups: Groups {
+                paths: Seq::new(alloc),
+                numbers: Seq::new(alloc),
+                addrs: Seq::new(alloc),
+            },
+            aggregators: Seq::new(alloc),
+            controls: Seq::new(alloc),
+            acl_groups: Map::new(alloc),
+        })
+    }
+
+    // The printed profiles of these namespaces.
+    fn printed(alloc: Global, first: Namespace, second: Namespace) -> Result<Vec<u8>, NoMemory> {
+        let mut namespaces = Seq::new(alloc);
+        namespaces.push(first)?;
+        namespaces.push(second)?;
+        let policy = Policy {
+            namespaces,
+            domains: Seq::new(alloc),
+            by_non_root: false,
+            managers: Seq::new(alloc),
+            opened: false,
+        };
+        let mut out = Vec::new(alloc);
+        print_profile(alloc, &policy, &mut out)?;
+        Ok(out)
+    }
+
+    #[test]
+    fn profiles_of_one_namespace(rt: HostRuntime) -> Result<(), NoMemory> {
+        let alloc = rt.alloc();
+        let mut kernel = namespace(alloc, b"<kernel>")?;
+        kernel.profiles.put(1, profile(alloc, Mode::Enforcing))?;
+        kernel.profiles.put(0, profile(alloc, Mode::Disabled))?;
+        let out = printed(alloc, namespace(alloc, b"<a>")?, kernel)?;
+        let text = "<kernel> PROFILE_VERSION=20150505\n\
+<kernel> 0-COMMENT=\n\
+<kernel> 0-PREFERENCE={ max_audit_log=1024 max_learning_entry=2048 }\n\
+<kernel> 0-CONFIG={ mode=disabled grant_log=no reject_log=no }\n\
+<kernel> 1-COMMENT=\n\
+<kernel> 1-PREFERENCE={ max_audit_log=1024 max_learning_entry=2048 }\n\
+<kernel> 1-CONFIG={ mode=enforcing grant_log=no reject_log=no }\n";
+        assert_eq!(rt; out.as_slice(), text.as_bytes());
+        Ok(())
+    }
+
+    #[test]
+    fn namespaces_by_their_names(rt: HostRuntime) -> Result<(), NoMemory> {
+        let alloc = rt.alloc();
+        let mut kernel = namespace(alloc, b"<kernel>")?;
+        kernel.profiles.put(9, profile(alloc, Mode::Learning))?;
+        let mut other = namespace(alloc, b"</s>")?;
+        other.profiles.put(9, profile(alloc, Mode::Permissive))?;
+        let out = printed(alloc, kernel, other)?;
+        let text = "</s> PROFILE_VERSION=20150505\n\
+</s> 9-COMMENT=\n\
+</s> 9-PREFERENCE={ max_audit_log=1024 max_learning_entry=2048 }\n\
+</s> 9-CONFIG={ mode=permissive grant_log=no reject_log=no }\n\
+<kernel> PROFILE_VERSION=20150505\n\
+<kernel> 9-COMMENT=\n\
+<kernel> 9-PREFERENCE={ max_audit_log=1024 max_learning_entry=2048 }\n\
+<kernel> 9-CONFIG={ mode=learning grant_log=no reject_log=no }\n";
+        assert_eq!(rt; out.as_slice(), text.as_bytes());
+        Ok(())
+    }
+
+    #[test]
+    fn a_text_before_another_one(rt: HostRuntime) -> Result<(), NoMemory> {
+        for (left, right, before) in [
+            ("", "", false),
+            ("", "a", true),
+            ("a", "", false),
+            ("a", "ab", true),
+            ("b", "ab", false),
+            ("aa", "ab", true),
+        ] {
+            assert_eq!(rt;
+                comes_before(left.as_bytes(), right.as_bytes()),
+                before,
+                "at {left} {right}"
+            );
+        }
+        Ok(())
+    }
+}
