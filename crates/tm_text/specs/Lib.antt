@@ -1,0 +1,3 @@
+pub mod DomainText
+pub mod ManagerText
+pub mod ProfileText

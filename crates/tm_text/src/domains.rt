@@ -1,0 +1,218 @@
+//! Printing the domains.
+ghost use Rattle.std.specs.Prelude.{◌≡◌, ◌∷◌, [], ◌++◌, decimal, codes, IfOk, OnOk, OnErr};
+ghost use Rattle.std.specs.List.{flat_map};
+ghost use Rattle.tm_text.specs.DomainText.{line_text, flag_line, number_line, group_line, entry_line, name_lines, flag_lines, block_text, live_text, domain_text};
+
+use std::alloc::Global;
+use tm_entry::print_entry;
+use tm_list::NoMemory;
+use tm_number::{Base, Number, write_number};
+use tm_types::entry::Entry;
+use tm_types::policy::{Domain, Policy};
+
+/// Appends a line, or a part of it.
+pub(crate) fn push_line(line: &[u8], out: &mut Vec<u8>) -> Result<(), NoMemory>
+    ensures { OnOk result (out.new.items ≡ out.old.items ++ line_text line.now) }
+{
+    out.extend_from_slice(line)?;
+    out.push(b'\n')?;
+    Ok(())
+}
+
+/// Appends a line where its flag is set, or a part of it.
+pub(crate) fn push_flag(word: &[u8], flag: bool, out: &mut Vec<u8>) -> Result<(), NoMemory>
+    ensures { OnOk result (out.new.items ≡ out.old.items ++ flag_line word.now flag) }
+{
+    if flag { push_line(word, out) } else { Ok(()) }
+}
+
+/// Appends the line of a keyword and a number, or a part of it.
+fn push_number(alloc: Global, word: &[u8], value: u8, out: &mut Vec<u8>) -> Result<(), NoMemory>
+    ensures { OnOk result (out.new.items ≡ out.old.items ++ number_line word.now value) }
+{
+    let number = Number {
+        value: u64::from(value),
+        base: Base::Decimal,
+    };
+    out.extend_from_slice(word)?;
+    out.push(b' ')?;
+    write_number(alloc, &number, out)?;
+    out.push(b'\n')?;
+    Ok(())
+}
+
+/// Appends the lines of the ACL groups that a domain uses, or a part of them.
+fn push_groups(alloc: Global, groups: &[(u8, ())], out: &mut Vec<u8>) -> Result<(), NoMemory>
+    ensures { OnOk result (out.new.items ≡ out.old.items ++ flat_map group_line groups.now) }
+{
+    for (group, _) in groups {
+        push_number(alloc, b"use_group", *group, out)?;
+    }
+    Ok(())
+}
+
+/// Appends the line of an entry, or a part of it.
+fn push_entry(alloc: Global, entry: &Entry, out: &mut Vec<u8>) -> Result<(), NoMemory>
+    ensures { OnOk result (out.new.items ≡ out.old.items ++ entry_line entry.now) }
+{
+    print_entry(alloc, entry, out)?;
+    out.push(b'\n')?;
+    Ok(())
+}
+
+/// Appends the lines of entries, or a part of them.
+fn push_entries(alloc: Global, entries: &[Entry], out: &mut Vec<u8>) -> Result<(), NoMemory>
+    ensures { OnOk result (out.new.items ≡ out.old.items ++ flat_map entry_line entries.now) }
+{
+    for entry in entries {
+        push_entry(alloc, entry, out)?;
+    }
+    Ok(())
+}
+
+/// Appends the name and the profile of a domain, or a part of them.
+fn push_name(alloc: Global, domain: &Domain, out: &mut Vec<u8>) -> Result<(), NoMemory>
+    ensures { OnOk result (out.new.items ≡ out.old.items ++ name_lines domain.now) }
+{
+    push_line(domain.name.bytes(), out)?;
+    push_number(alloc, b"use_profile", domain.profile, out)
+}
+
+/// Appends the flags of a domain that are set, or a part of them.
+fn push_flags(domain: &Domain, out: &mut Vec<u8>) -> Result<(), NoMemory>
+    ensures { OnOk result (out.new.items ≡ out.old.items ++ flag_lines domain.now) }
+{
+    push_flag(b"quota_exceeded", domain.quota_exceeded, out)?;
+    push_flag(b"transition_failed", domain.transition_failed, out)
+}
+
+/// Appends the lines of a domain, or a part of them.
+#[tactic(auto, unfolding(crate::specs::DomainText::block_text))]
+fn push_block(alloc: Global, domain: &Domain, out: &mut Vec<u8>) -> Result<(), NoMemory>
+    ensures { OnOk result (out.new.items ≡ out.old.items ++ block_text domain.now) }
+{
+    push_name(alloc, domain, out)?;
+    push_groups(alloc, domain.groups.as_slice(), out)?;
+    push_flags(domain, out)?;
+    push_entries(alloc, domain.entries.as_slice(), out)?;
+    out.push(b'\n')?;
+    Ok(())
+}
+
+/// Appends the lines of a domain that is live, or a part of them.
+fn push_live(alloc: Global, domain: &Domain, out: &mut Vec<u8>) -> Result<(), NoMemory>
+    ensures { OnOk result (out.new.items ≡ out.old.items ++ live_text domain.now) }
+{
+    if domain.live {
+        push_block(alloc, domain, out)
+    } else {
+        Ok(())
+    }
+}
+
+/// Appends the lines of the live domains among these, or a part of them.
+fn push_domains(alloc: Global, domains: &[Domain], out: &mut Vec<u8>) -> Result<(), NoMemory>
+    ensures { OnOk result (out.new.items ≡ out.old.items ++ flat_map live_text domains.now) }
+{
+    for domain in domains {
+        push_live(alloc, domain, out)?;
+    }
+    Ok(())
+}
+
+/// The text of the domains.
+#[tactic(auto, unfolding(crate::specs::DomainText::domain_text))]
+fn domain_text(alloc: Global, policy: &Policy) -> Result<Vec<u8>, NoMemory>
+    ensures { IfOk result (λ text. text.items ≡ domain_text policy.now) }
+{
+    let mut text = Vec::new(alloc);
+    push_domains(alloc, policy.domains.as_slice(), &mut text)?;
+    Ok(text)
+}
+
+/// Appends the printed domain policy: for each live domain, by its number, its name, `use_profile N`, `use_group N` by rising
+/// number, `quota_exceeded` and `transition_failed` where they are set, its entries in order, and an empty line. After want of
+/// memory `out` is as before.
+pub fn print_domain(alloc: Global, policy: &Policy, out: &mut Vec<u8>) -> Result<(), NoMemory>
+    ensures ok { OnOk result (out.new.items ≡ out.old.items ++ domain_text policy.now) }
+    ensures err { OnErr result (out.new.items ≡ out.old.items) }
+{
+    let text = domain_text(alloc, policy)?;
+    out.extend_from_slice(&text)
+}
+
+#[cfg(test)]
+mod tests {
+    use super::*;
+    use std::alloc::AllocError;
+    use tm_entry::read_entry;
+    use tm_list::{Map, Seq};
+    use tm_word::normal_words;
+
+    // A domain in profile 1 with one entry, which is the line.
+    fn domain(alloc: Global, name: &[u8], line: &[u8]) -> Result<Domain, NoMemory> {
+        let words = normal_words(alloc, line)?;
+        let mut entries = Seq::new(alloc);
+        match read_entry(alloc, &words) {
+            Ok(entry) => entries.push(entry)?,
+            Err(_) => return Err(AllocError),
+        }
+        Ok(Domain {
+            name: Seq::from_bytes(alloc, name)?,
+            live: true,
+            profile: 1,
+            groups: Map::new(alloc),
+            quota_exceeded: false,
+            transition_failed: false,
+            entries,
+        })
+    }
+
+    // The printed domain policy of these domains, after what stood before.
+    fn printed(alloc: Global, first: Domain, second: Domain) -> Result<Vec<u8>, NoMemory> {
+        let mut domains = Seq::new(alloc);
+        domains.push(first)?;
+        domains.push(second)?;
+        let policy = Policy {
+            namespaces: Seq::new(alloc),
+            domains,
+            by_non_root: false,
+            managers: Seq::new(alloc),
+            opened: false,
+        };
+        let mut out = Vec::from_slice(alloc, b"# ")?;
+        print_domain(alloc, &policy, &mut out)?;
+        Ok(out)
+    }
+
+    #[test]
+    fn a_domain_without_groups_and_flags(rt: HostRuntime) -> Result<(), NoMemory> {
+        let alloc = rt.alloc();
+        let kernel = domain(alloc, b"<kernel>", b"file read /a")?;
+        let mut dead = domain(alloc, b"<kernel> /b", b"file read /b")?;
+        dead.live = false;
+        let out = printed(alloc, kernel, dead)?;
+        let text = "# <kernel>\nuse_profile 1\nfile read /a\n\n";
+        assert_eq!(rt; out.as_slice(), text.as_bytes());
+        Ok(())
+    }
+
+    #[test]
+    fn a_domain_with_groups_and_flags(rt: HostRuntime) -> Result<(), NoMemory> {
+        let alloc = rt.alloc();
+        let mut kernel = domain(alloc, b"<kernel>", b"misc env HOME")?;
+        kernel.groups.put(255, ())?;
+        kernel.groups.put(3, ())?;
+        kernel.quota_exceeded = true;
+        kernel.profile = 0;
+        let mut other = domain(alloc, b"<kernel> /b", b"file write/read /b")?;
+        other.quota_exceeded = true;
+        other.transition_failed = true;
+        let out = printed(alloc, kernel, other)?;
+        let text =
+            "# <kernel>\nuse_profile 0\nuse_group 3\nuse_group 255\nquota_exceeded\nmisc env HOME\n\n\
+<kernel> /b\nuse_profile 1\nquota_exceeded\ntransition_failed\nfile read/write /b\n\n";
+        assert_eq!(rt; out.as_slice(), text.as_bytes());
+        Ok(())
+    }
+}

@@ -1,0 +1,12 @@
+//! The printed files of a policy: its domains, its managers and its profiles.
+//! Stands on tm_entry and tm_profile, whose lines it joins, and on the types of policies.
+//! Promises that each printer appends the one text of the policy's part, without a condition, and that `out` is as before after want of memory.
+#![tactic(auto)]
+
+mod domains;
+mod managers;
+mod profiles;
+
+pub use domains::print_domain;
+pub use managers::print_manager;
+pub use profiles::print_profile;

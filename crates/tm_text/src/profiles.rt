@@ -1,0 +1,217 @@
+//! Printing the profiles, namespace by namespace in the order of their names.
+ghost use Rattle.std.specs.Prelude.{◌≡◌, ◌++◌, ◌≤◌, length, IfOk, OnOk, OnErr};
+ghost use Rattle.std.specs.List.{flat_map};
+ghost use Rattle.tm_text.specs.ProfileText.{comes_before, with_namespace, placed, by_name, namespace_text, profile_text, lent, place_for};
+
+use std::alloc::Global;
+use tm_list::NoMemory;
+use tm_profile::print_profiles;
+use tm_types::policy::{Namespace, Policy};
+
+/// Whether a text comes before another one by its bytes.
+fn comes_before(left: &[u8], right: &[u8]) -> bool
+    ensures { result ≡ comes_before left.now right.now }
+{
+    let mut left = left;
+    let mut right = right;
+    loop {
+        match left {
+            [] => return !right.is_empty(),
+            [a, more @ ..] => match right {
+                [] => return false,
+                [b, others @ ..] => {
+                    if *a != *b {
+                        return *a < *b;
+                    }
+                    left = more;
+                    right = others;
+                }
+            },
+        }
+    }
+}
+
+/// The place of the first namespace whose name comes after this one's; past the last where there is none.
+fn place_of(ns: &Namespace, ordered: &[&Namespace]) -> usize
+    ensures within { result ≤ length ordered.now }
+    ensures place { result ≡ place_for ns.now (lent ordered.now) }
+{
+    for (place, other) in ordered.iter().enumerate() {
+        if comes_before(ns.name.bytes(), other.name.bytes()) {
+            return place;
+        }
+    }
+    ordered.len()
+}
+
+/// Puts a namespace into its place.
+#[tactic(auto, using(crate::proofs::LentLaws::lent_placed))]
+fn put_in_place<'a>(ordered: &mut Vec<&'a Namespace>, ns: &'a Namespace) -> Result<(), NoMemory>
+    ensures { OnOk result (lent ordered.new.items ≡ with_namespace ns.now (lent ordered.old.items)) }
+{
+    let place = place_of(ns, ordered);
+    ordered.insert(place, ns)?;
+    Ok(())
+}
+
+/// The namespaces in the order of their names' bytes.
+#[tactic(auto, unfolding(crate::specs::ProfileText::by_name))]
+fn by_name(alloc: Global, namespaces: &[Namespace]) -> Result<Vec<&Namespace>, NoMemory>
+    ensures { IfOk result (λ ordered. lent ordered.items ≡ by_name namespaces.now) }
+{
+    let mut ordered = Vec::new(alloc);
+    for ns in namespaces {
+        put_in_place(&mut ordered, ns)?;
+    }
+    Ok(ordered)
+}
+
+/// Appends the profiles of these namespaces, or a part of them.
+fn push_namespaces(
+    alloc: Global,
+    namespaces: &[&Namespace],
+    out: &mut Vec<u8>,
+) -> Result<(), NoMemory>
+    ensures { OnOk result (out.new.items ≡ out.old.items ++ flat_map namespace_text (lent namespaces.now)) }
+{
+    for ns in namespaces {
+        print_profiles(alloc, &ns.name, &ns.profiles, out)?;
+    }
+    Ok(())
+}
+
+/// The text of the profiles.
+#[tactic(auto, unfolding(crate::specs::ProfileText::profile_text))]
+fn profile_text(alloc: Global, policy: &Policy) -> Result<Vec<u8>, NoMemory>
+    ensures { IfOk result (λ text. text.items ≡ profile_text policy.now) }
+{
+    let mut text = Vec::new(alloc);
+    let ordered = by_name(alloc, policy.namespaces.as_slice())?;
+    push_namespaces(alloc, &ordered, &mut text)?;
+    Ok(text)
+}
+
+/// Appends the printed profiles: for each namespace that has one, by the order of its name's bytes, the line `PROFILE_VERSION` and
+/// the lines of its profiles by their numbers, each with the namespace word in front. After want of memory `out` is as before.
+pub fn print_profile(alloc: Global, policy: &Policy, out: &mut Vec<u8>) -> Result<(), NoMemory>
+    ensures ok { OnOk result (out.new.items ≡ out.old.items ++ profile_text policy.now) }
+    ensures err { OnErr result (out.new.items ≡ out.old.items) }
+{
+    let text = profile_text(alloc, policy)?;
+    out.extend_from_slice(&text)
+}
+
+#[cfg(test)]
+mod tests {
+    use super::*;
+    use tm_list::{Map, Seq};
+    use tm_types::policy::{Config, Logs, Mode, Profile};
+    use tm_types::unions::Groups;
+
+    // A profile of that mode.
+    fn profile(alloc: Global, mode: Mode) -> Profile {
+        Profile {
+            comment: Seq::new(alloc),
+            max_audit_log: 1024,
+            max_learning_entry: 2048,
+            config: Config {
+                mode,
+                logs: Logs {
+                    grant: false,
+                    reject: false,
+                },
+            },
+            slots: Map::new(alloc),
+        }
+    }
+
+    // A namespace without profiles.
+    fn namespace(alloc: Global, name: &[u8]) -> Result<Namespace, NoMemory> {
+        Ok(Namespace {
+            name: Seq::from_bytes(alloc, name)?,
+            profiles: Map::new(alloc),
+            groups: Groups {
+                paths: Seq::new(alloc),
+                numbers: Seq::new(alloc),
+                addrs: Seq::new(alloc),
+            },
+            aggregators: Seq::new(alloc),
+            controls: Seq::new(alloc),
+            acl_groups: Map::new(alloc),
+        })
+    }
+
+    // The printed profiles of these namespaces.
+    fn printed(alloc: Global, first: Namespace, second: Namespace) -> Result<Vec<u8>, NoMemory> {
+        let mut namespaces = Seq::new(alloc);
+        namespaces.push(first)?;
+        namespaces.push(second)?;
+        let policy = Policy {
+            namespaces,
+            domains: Seq::new(alloc),
+            by_non_root: false,
+            managers: Seq::new(alloc),
+            opened: false,
+        };
+        let mut out = Vec::new(alloc);
+        print_profile(alloc, &policy, &mut out)?;
+        Ok(out)
+    }
+
+    #[test]
+    fn profiles_of_one_namespace(rt: HostRuntime) -> Result<(), NoMemory> {
+        let alloc = rt.alloc();
+        let mut kernel = namespace(alloc, b"<kernel>")?;
+        kernel.profiles.put(1, profile(alloc, Mode::Enforcing))?;
+        kernel.profiles.put(0, profile(alloc, Mode::Disabled))?;
+        let out = printed(alloc, namespace(alloc, b"<a>")?, kernel)?;
+        let text = "<kernel> PROFILE_VERSION=20150505\n\
+<kernel> 0-COMMENT=\n\
+<kernel> 0-PREFERENCE={ max_audit_log=1024 max_learning_entry=2048 }\n\
+<kernel> 0-CONFIG={ mode=disabled grant_log=no reject_log=no }\n\
+<kernel> 1-COMMENT=\n\
+<kernel> 1-PREFERENCE={ max_audit_log=1024 max_learning_entry=2048 }\n\
+<kernel> 1-CONFIG={ mode=enforcing grant_log=no reject_log=no }\n";
+        assert_eq!(rt; out.as_slice(), text.as_bytes());
+        Ok(())
+    }
+
+    #[test]
+    fn namespaces_by_their_names(rt: HostRuntime) -> Result<(), NoMemory> {
+        let alloc = rt.alloc();
+        let mut kernel = namespace(alloc, b"<kernel>")?;
+        kernel.profiles.put(9, profile(alloc, Mode::Learning))?;
+        let mut other = namespace(alloc, b"</s>")?;
+        other.profiles.put(9, profile(alloc, Mode::Permissive))?;
+        let out = printed(alloc, kernel, other)?;
+        let text = "</s> PROFILE_VERSION=20150505\n\
+</s> 9-COMMENT=\n\
+</s> 9-PREFERENCE={ max_audit_log=1024 max_learning_entry=2048 }\n\
+</s> 9-CONFIG={ mode=permissive grant_log=no reject_log=no }\n\
+<kernel> PROFILE_VERSION=20150505\n\
+<kernel> 9-COMMENT=\n\
+<kernel> 9-PREFERENCE={ max_audit_log=1024 max_learning_entry=2048 }\n\
+<kernel> 9-CONFIG={ mode=learning grant_log=no reject_log=no }\n";
+        assert_eq!(rt; out.as_slice(), text.as_bytes());
+        Ok(())
+    }
+
+    #[test]
+    fn a_text_before_another_one(rt: HostRuntime) -> Result<(), NoMemory> {
+        for (left, right, before) in [
+            ("", "", false),
+            ("", "a", true),
+            ("a", "", false),
+            ("a", "ab", true),
+            ("b", "ab", false),
+            ("aa", "ab", true),
+        ] {
+            assert_eq!(rt;
+                comes_before(left.as_bytes(), right.as_bytes()),
+                before,
+                "at {left} {right}"
+            );
+        }
+        Ok(())
+    }
+}
