@@ -11,12 +11,14 @@ usage: tomoyo_run step
 
 Works on the files of the current folder.
 
-  step   plays the trace under the policy, and stores the run
+  step   plays the trace under the policy, learns where a profile says so, and
+         stores the run and the policy as it stands afterwards
 
 Files that are read: profile, domain_policy and trace, which have to be there;
 exception_policy, manager, edits, answers and schedule, which count as empty
-where they are missing. File that is stored: run. One line that sums the run
-up goes to standard output.
+where they are missing. Files that are stored, in this order: run, audit,
+profile.new, domain_policy.new, manager.new. One line that sums the run up
+goes to standard output.
 
 Exit statuses:
    0  done

@@ -9,6 +9,8 @@ mod fetches;
 mod forms;
 mod play;
 mod status;
+#[cfg(test)]
+mod tests;
 mod top;
 mod words;
 
