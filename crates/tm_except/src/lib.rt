@@ -11,9 +11,11 @@ ghost use Rattle.tm_word.specs.Matching.{matches};
 ghost use Rattle.tm_rules.specs.Search.{aggregated};
 ghost use Rattle.tm_rules.specs.Transition.{kind_number, control_matches, some_control, control_kind};
 
+mod printing;
 mod reading;
 mod sides;
 
+pub use printing::{print_lists, print_rule, round_trip};
 pub use reading::read_exception;
 use tm_domain::last_word;
 use tm_pattern::matches;

@@ -1,1 +1,2 @@
 pub mod NamespaceLaws
+pub mod Steps

@@ -42,6 +42,11 @@ pub named : (name : Text) (words : List Text) → IsNamespace name → namespace
 unfolding namespace_at
 named name words h = let o = opened name (opens name) h in rw (o.0, o.1) refl
 
+-- it begins with `<`
+pub opens_is : (name : Text) → IsNamespace name → opens name ≡ true
+unfolding namespace_at
+opens_is name h = (opened name (opens name) h).0
+
 pub kernel_is : IsNamespace kernel
 unfolding namespace_at namespace_of domain_of is_path pattern_of parsed step ended token_at
 kernel_is = refl

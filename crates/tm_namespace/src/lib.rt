@@ -3,7 +3,7 @@
 //! Promises that the namespace is that of its reading function, `<kernel>` where none is written, and that a namespace word is read whatever follows it.
 #![tactic(auto)]
 
-ghost use Rattle.std.specs.Prelude.{◌≡◌, ◌==◌, ◌∷◌, List, Ok};
+ghost use Rattle.std.specs.Prelude.{◌≡◌, ◌==◌, ◌∷◌, List, true, Ok};
 ghost use Rattle.std.specs.List.{list_any};
 ghost use Rattle.tm_word.specs.Words.{Text};
 ghost use Rattle.tm_line.specs.Lines.{Gives};
@@ -76,9 +76,10 @@ pub fn namespace_at(alloc: Global, words: &[Text]) -> Result<(Text, &[Text]), Li
     }
 }
 
-/// A law, nothing to run: a namespace word is read whatever follows it, `<kernel>` is one, and each namespace that is read is one.
+/// A law, nothing to run: a namespace word begins with `<` and is read whatever follows it, `<kernel>` is one, and each namespace that is read is one.
 pub fn namespaces()
     ensures named { (name : Text) (words : List Text) → IsNamespace name → namespace_at (name ∷ words) ≡ Ok (name, words) }
+    ensures front { (name : Text) → IsNamespace name → opens name ≡ true }
     ensures kernel { IsNamespace kernel }
     ensures found { (words : List Text) (name : Text) (rest : List Text) → namespace_at words ≡ Ok (name, rest) → IsNamespace name }
 {}

@@ -1,5 +1,5 @@
 -- What is read from words fits a profile.
-use Rattle.std.proofs.Common.{◌≡◌, ℕ, zero, suc, ◌+◌, ◌<◌, ◌^◌, ◌==◌, nat_lt, Bool, true, false, ◌&&◌, ◌||◌, not, List, [], ◌∷◌, length, take, drop, Some, None, Result, Ok, Err, refl, subst, arith}
+use Rattle.std.proofs.Common.{◌≡◌, ℕ, zero, suc, ◌+◌, ◌<◌, ◌^◌, ◌==◌, nat_lt, Bool, true, false, ◌&&◌, ◌||◌, not, List, [], ◌∷◌, length, take, drop, Some, None, Result, Ok, Err, refl, arith}
 use Rattle.std.specs.Prelude.{Option, codes, if◌then◌else◌}
 use Rattle.std.specs.List.{list_all, position}
 use Rattle.std.proofs.lemmas.Bool.{ltb-true, ne_eqb}
@@ -18,31 +18,15 @@ use Rattle.tm_rules.specs.Equality.{texts_equal}
 use Rattle.tm_rules.proofs.EqualityLaws.{both}
 use Rattle.tm_line.specs.Lines.{◌>>=◌, is_last}
 use Rattle.tm_namespace.specs.Namespaces.{opens, namespace_of, namespace_at}
+use Rattle.tm_namespace.proofs.Steps.{OkIs, then_ok, then_any, if_ok, ok_of}
 use Rattle.tm_profile.specs.declared.reading.Limits.{Limits}
 use Rattle.tm_profile.specs.Lines.{after, or_kind}
 use Rattle.tm_profile.specs.Reading.{at_end, plain_by, plain, comment_of, unseen, setting_after, unlimited, limit_of, once, begins_limit, learning_by, limits_by, limits_with, limits_after, preference, slot_of, slot_by, comment_by, numbered, numbered_by, version_by, effect_by, effect_at, line, line_of}
 use Rattle.tm_profile.specs.Texts.{proper, is_word, IsComment, IsLimit, IsEffect}
 
--- what is read has a property
-abbrev pub OkIs : {A : Type 0} → (A → Type 0) → Result A LineKind → Type 0
-OkIs P (Ok x) = P x
-OkIs P (Err kind) = Unit {0}
-
 abbrev SomeIs : {A : Type 0} → (A → Type 0) → Option A → Type 0
 SomeIs P (Some x) = P x
 SomeIs P None = Unit {0}
-
-then_ok : {A B : Type 0} (P : A → Type 0) (Q : B → Type 0) (r : Result A LineKind) (f : A → Result B LineKind) → OkIs P r → ((x : A) → P x → OkIs Q (f x)) → OkIs Q (r >>= f)
-then_ok P Q (Ok x) f h k = k x h
-then_ok P Q (Err kind) f h k = tt
-
-then_any : {A B : Type 0} (Q : B → Type 0) (r : Result A LineKind) (f : A → Result B LineKind) → ((x : A) → OkIs Q (f x)) → OkIs Q (r >>= f)
-then_any Q (Ok x) f k = k x
-then_any Q (Err kind) f k = tt
-
-if_ok : {A : Type 0} (P : A → Type 0) (b : Bool) (x y : Result A LineKind) → OkIs P x → OkIs P y → OkIs P (if b then x else y)
-if_ok P true x y h k = h
-if_ok P false x y h k = k
 
 end_ok : {A : Type 0} (P : A → Type 0) (x : A) (words : List Text) → P x → OkIs P (at_end x words)
 end_ok P x [] h = h
@@ -181,4 +165,4 @@ line_ok words all =
 
 -- a line that was read fits
 pub line_fits : (words : List Text) (l : ProfileLine) → list_all is_word words ≡ true → line_of words ≡ Ok l → IsEffect l.effect
-line_fits words l all e = subst (OkIs LineFits) e (line_ok words all)
+line_fits words l all e = ok_of LineFits (line_of words) l (line_ok words all) e

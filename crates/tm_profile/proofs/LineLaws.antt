@@ -11,7 +11,7 @@ use Rattle.tm_rules.specs.Load.{lines_of}
 use Rattle.tm_rules.proofs.EqualityLaws.{both}
 use Rattle.tm_addr.proofs.Free.{Free, free_append, split_at}
 use Rattle.tm_line.specs.Lines.{spaced}
-use Rattle.tm_profile.specs.Printing.{line_text}
+use Rattle.tm_namespace.specs.Namespaces.{line_text}
 use Rattle.tm_profile.specs.Texts.{proper, is_word}
 
 not_true : (b : Bool) → not b ≡ true → b ≡ false

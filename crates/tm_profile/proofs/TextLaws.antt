@@ -28,7 +28,8 @@ use Rattle.tm_line.proofs.JoinLaws.{joined_is}
 use Rattle.tm_profile.specs.Slots.{slot_text}
 use Rattle.tm_namespace.proofs.NamespaceLaws.{named as named_at}
 use Rattle.tm_profile.specs.Reading.{comment_of, effect_at, line, line_of}
-use Rattle.tm_profile.specs.Printing.{line_text, headed, limit_words, setting_words, comment_words, preference_words, config_words, slot_line, profile_text, profiles_text}
+use Rattle.tm_namespace.specs.Namespaces.{line_text}
+use Rattle.tm_profile.specs.Printing.{headed, limit_words, setting_words, comment_words, preference_words, config_words, slot_line, profile_text, profiles_text}
 use Rattle.tm_profile.specs.Texts.{proper, is_word, IsNamespaceWord, IsComment, IsProfile, AreProfiles, IsWritten, line_done, words_into, lines_into}
 use Rattle.tm_profile.proofs.LineLaws.{proper_all, words_again, line_first}
 use Rattle.tm_profile.proofs.EffectLaws.{applied, applied_append, setting_of, slot_effect, effects_of, with_profiles, SlotsRise, profiles_made}

@@ -7,12 +7,8 @@ use Rattle.tm_types.specs.declared.policy.Mode.{Mode}
 use Rattle.tm_types.specs.declared.policy.Config.{Config}
 use Rattle.tm_types.specs.declared.policy.SlotName.{SlotName}
 use Rattle.tm_types.specs.declared.policy.Profile.{Profile}
-use Rattle.tm_line.specs.Lines.{spaced}
+use Rattle.tm_namespace.specs.Namespaces.{line_text}
 use Rattle.tm_profile.specs.Slots.{slot_text}
-
--- a line begins with the namespace word, has its words after one space each, and ends with byte 10
-abbrev pub line_text : Text → List Text → Text
-line_text ns words = ns ++ (spaced words ++ 10 ∷ [])
 
 -- `N-` and a word
 abbrev pub headed : ℕ → Text → Text

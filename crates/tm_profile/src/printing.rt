@@ -9,7 +9,8 @@ ghost use Rattle.tm_word.specs.Words.{Text};
 ghost use Rattle.tm_rules.specs.Edit.{profile_line};
 ghost use Rattle.tm_rules.specs.Load.{lines_of};
 ghost use Rattle.tm_line.specs.Lines.{spaced};
-ghost use Rattle.tm_profile.specs.Printing.{line_text, headed, mode_text, grant_text, reject_text, setting_words, audit_text, learning_text, limit_words, comment_words, preference_words, config_words, slot_line, profile_text, profiles_text};
+ghost use Rattle.tm_namespace.specs.Namespaces.{line_text};
+ghost use Rattle.tm_profile.specs.Printing.{headed, mode_text, grant_text, reject_text, setting_words, audit_text, learning_text, limit_words, comment_words, preference_words, config_words, slot_line, profile_text, profiles_text};
 ghost use Rattle.tm_profile.specs.Reading.{line_of};
 ghost use Rattle.tm_profile.specs.Texts.{is_word, IsNamespaceWord, IsWritten, lines_into};
 

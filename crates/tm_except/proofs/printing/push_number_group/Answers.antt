@@ -1,0 +1,12 @@
+use Rattle.std.proofs.Common.{rules, ◌≡◌, ◌∷◌, [], ◌++◌, sym}
+use Rattle.std.specs.Prelude.{codes}
+use Rattle.tm_word.specs.Spelling.{spell}
+use Rattle.tm_except.specs.Printing.{range_text, number_group_words}
+use Rattle.tm_except.proofs.printing.push_number_group.Goals as goal
+
+pub returns : goal.returns
+unfolding number_group_words
+returns c =
+    let first : c.deref.result.now ≡ spell c.args.name.now = search rules in
+    let second : c.deref-2.result.now ≡ range_text c.args.member.now = search rules in
+    rw (sym first, sym second) c.push_three.ensures
