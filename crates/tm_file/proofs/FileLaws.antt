@@ -1,5 +1,5 @@
 -- The lines of files: what is written is read again, and what is read can be written.
-use Rattle.std.proofs.Common.{◌≡◌, ℕ, ◌<◌, ◌≤◌, ◌^◌, ◌==◌, nat_lt, Bool, true, false, cond, ◌&&◌, not, List, [], ◌∷◌, ◌++◌, length, Option, Some, None, Result, Ok, inl, inr, refl, sym, ap, subst, ◌∙◌, arith}
+use Rattle.std.proofs.Common.{◌≡◌, ℕ, ◌<◌, ◌^◌, ◌==◌, nat_lt, Bool, true, false, cond, ◌&&◌, not, List, [], ◌∷◌, ◌++◌, length, Option, Some, None, Result, Ok, inl, inr, refl, sym, ap, subst, ◌∙◌, arith}
 use Rattle.std.specs.Prelude.{codes}
 use Rattle.std.proofs.lemmas.Bool.{eqb-true, eq-eqb, ltb-true}
 use Rattle.tm_word.specs.Words.{Text}
@@ -11,17 +11,17 @@ use Rattle.tm_types.specs.declared.unions.NameUnion.{NameUnion}
 use Rattle.tm_rules.specs.Equality.{texts_equal}
 use Rattle.tm_domain.proofs.NameLaws.{same_texts}
 use Rattle.tm_line.specs.declared.permissions.Row.{Row}
-use Rattle.tm_line.specs.Lines.{◌>>=◌, is_last, keyword_kind, keyword_at}
+use Rattle.tm_line.specs.Lines.{◌>>=◌, is_last, keyword_at}
 use Rattle.tm_line.specs.Permissions.{names, pieces_of, perm_on, perms_of, perms_spelling}
 use Rattle.tm_line.specs.Arguments.{name_at, number_at}
 use Rattle.tm_line.specs.Printing.{name_spelling, number_spelling}
 use Rattle.tm_line.specs.Written.{is_name, is_number, is_set}
-use Rattle.tm_line.proofs.Steps.{bind_ok, done, ok_is, both, all, not_true}
+use Rattle.tm_line.proofs.Steps.{bind_ok, ok_is, both, all, not_true}
 use Rattle.tm_line.proofs.NameArgLaws.{name_at_again, name_at_read}
 use Rattle.tm_line.proofs.NumberArgLaws.{number_at_again, number_at_read}
 use Rattle.tm_line.proofs.PermLaws.{all_to, all_at, perms_again, perms_read}
 use Rattle.tm_file.specs.Preferences.{prefer_words, is_prefer, no_prefer, path_at}
-use Rattle.tm_file.specs.FileLines.{row_of, row_in, is_unfinished, args_at, mount_at, perms, with_perms, row_line, perms_line, file_line, file_words, is_file}
+use Rattle.tm_file.specs.FileLines.{row_of, row_in, args_at, mount_at, perms, with_perms, row_line, perms_line, file_line, file_words, is_file}
 use Rattle.tm_file.proofs.PreferLaws.{IsPath, name_alone, no_preference, preference, path_read}
 
 abbrev Line : Type 0

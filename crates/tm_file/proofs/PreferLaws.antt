@@ -1,5 +1,5 @@
 -- Preferences: what is written is read again, and what is read can be written.
-use Rattle.std.proofs.Common.{◌≡◌, ◌==◌, Bool, true, false, cond, ◌&&◌, not, List, [], ◌∷◌, ◌++◌, Option, Some, None, Result, Ok, Err, ◌⊎◌, inl, inr, refl, sym, ap, subst, ◌∙◌}
+use Rattle.std.proofs.Common.{◌≡◌, Bool, true, false, cond, ◌&&◌, not, List, [], ◌∷◌, ◌++◌, Option, Some, None, Ok, ◌⊎◌, inl, inr, refl, sym, subst, ◌∙◌}
 use Rattle.std.specs.Prelude.{codes, is_some}
 use Rattle.tm_word.specs.Words.{Text}
 use Rattle.tm_types.specs.declared.entry.Args.{Args}
@@ -8,19 +8,18 @@ use Rattle.tm_types.specs.declared.entry.Prefer.{Prefer}
 use Rattle.tm_types.specs.declared.unions.NameUnion.{NameUnion}
 use Rattle.tm_rules.specs.Equality.{texts_equal}
 use Rattle.tm_rules.specs.Transition.{is_domain_name}
-use Rattle.tm_domain.specs.Names.{begins_with_slash, is_path, is_pattern}
-use Rattle.tm_pattern.specs.Reading.{pattern_of}
+use Rattle.tm_domain.specs.Names.{begins_with_slash, is_path}
 use Rattle.tm_line.specs.Lines.{◌>>=◌}
 use Rattle.tm_line.specs.Arguments.{path_word, name_at}
 use Rattle.tm_line.specs.Domains.{domain_at}
 use Rattle.tm_line.specs.DomainWords.{domain_parts, ends_domain}
 use Rattle.tm_line.specs.Written.{is_front, is_name}
-use Rattle.tm_line.proofs.Steps.{bind_ok, done, ok_is, chosen, both, all, not_true, to_not}
+use Rattle.tm_line.proofs.Steps.{bind_ok, ok_is, chosen, both, not_true, to_not}
 use Rattle.std.proofs.lemmas.Bool.{eqb-true}
 use Rattle.tm_line.specs.Printing.{name_spelling}
 use Rattle.tm_line.proofs.NameArgLaws.{name_at_again, name_at_read}
 use Rattle.tm_line.proofs.DomainLaws.{path_begins, domain_again, at_right, parts_begin}
-use Rattle.tm_file.specs.Preferences.{turn_of, place_at, turn_or_place, prefer_at, with_prefer, path_at, prefer_words, is_prefer, no_prefer}
+use Rattle.tm_file.specs.Preferences.{turn_of, turn_or_place, prefer_at, with_prefer, path_at, prefer_words, is_prefer, no_prefer}
 
 -- ---- preferences
 

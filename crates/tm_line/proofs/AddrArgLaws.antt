@@ -1,7 +1,6 @@
 -- Address arguments: what is written is read again, and what is read can be written.
 use Rattle.std.proofs.Common.{◌≡◌, ℕ, ◌+◌, ◌-◌, ◌*◌, ◌/◌, ◌%◌, ◌<◌, ◌≤◌, ◌^◌, ◌==◌, nat_lt, nat_le, Bool, true, false, cond, ◌&&◌, List, [], ◌∷◌, ◌++◌, length, take, drop, Option, Some, None, option_map, option_and_then, IfSome, Result, Ok, Err, inl, inr, refl, sym, ap, subst, ◌∙◌, arith}
 use Rattle.std.proofs.lemmas.Bool.{eqb-true, ltb-true, lt-ltb, leb-true, le-leb}
-use Rattle.std.proofs.lemmas.List.{append-nil}
 use Rattle.std.specs.List.{list_any, position, slice_split}
 use Rattle.std.specs.Str.Parse.{digits_value}
 use Rattle.tm_word.specs.Words.{Text}
@@ -14,9 +13,9 @@ use Rattle.tm_number.specs.Addresses.{addr_le}
 use Rattle.tm_number.specs.Numbers.{is_numeral, number_of}
 use Rattle.tm_number.proofs.NumberLaws.{value_below}
 use Rattle.tm_addr.specs.declared.reading.AddrFault.{AddrFault}
-use Rattle.tm_addr.specs.Reading.{octet_by, octet_in, octet_of, quad_of, v4_at, v4_of, group_of, no_groups, with_group, with_quad, with_last, last_of, groups_after, few, groups, side_of, gap_at, whole, around, v6_at, v6_of, found_as, addr_of, single, same_family, ends_of, range, range_at, range_of}
+use Rattle.tm_addr.specs.Reading.{octet_by, octet_in, octet_of, quad_of, v4_at, v4_of, group_of, with_group, with_quad, with_last, last_of, groups_after, few, groups, side_of, gap_at, whole, around, v6_at, v6_of, found_as, addr_of, single, same_family, ends_of, range, range_at, range_of}
 use Rattle.tm_addr.specs.Printing.{IsAddr, addr_spelling, addr_range_spelling, same_addr}
-use Rattle.tm_addr.proofs.Bounds.{group_fits, pow_at_most, raised_fits}
+use Rattle.tm_addr.proofs.Bounds.{group_fits, raised_fits}
 use Rattle.tm_addr.proofs.Groups.{small_group}
 use Rattle.tm_addr.proofs.Free.{Free}
 use Rattle.tm_addr.proofs.V4Laws.{v4_free}
@@ -27,7 +26,7 @@ use Rattle.tm_types.specs.declared.unions.AddrUnion.{AddrUnion}
 use Rattle.tm_line.specs.Arguments.{addr_range_word, one_address, address_word, address_at}
 use Rattle.tm_line.specs.Printing.{address_spelling}
 use Rattle.tm_line.specs.Written.{is_front, is_addr, is_addr_range, is_address}
-use Rattle.tm_line.proofs.Steps.{bind_ok, ok_is, kinded_ok, both, all}
+use Rattle.tm_line.proofs.Steps.{bind_ok, ok_is, kinded_ok, both}
 use Rattle.tm_line.proofs.GroupLaws.{or_again, or_one, or_found}
 
 -- ---- addresses that are read fit their family

@@ -1,9 +1,9 @@
 -- Domain names in lines: a right name's words are read as that name, and what is read is right.
-use Rattle.std.proofs.Common.{◌≡◌, ℕ, suc, ◌+◌, ◌-◌, ◌||◌, ◌==◌, nat_le, Bool, true, false, ◌&&◌, not, List, [], ◌∷◌, ◌++◌, length, take, drop, Result, Ok, Err, refl, sym, ap, subst, ◌∙◌, arith}
+use Rattle.std.proofs.Common.{◌≡◌, suc, ◌-◌, ◌||◌, ◌==◌, nat_le, Bool, true, false, ◌&&◌, List, [], ◌∷◌, ◌++◌, length, take, drop, Result, Ok, Err, refl, sym, ap, subst, ◌∙◌, arith}
 use Rattle.std.specs.Prelude.{codes}
 use Rattle.std.proofs.lemmas.Bool.{eqb-true}
 use Rattle.tm_rules.specs.Equality.{texts_equal}
-use Rattle.std.specs.List.{slice_split, list_all, prefix_len, join_with_byte}
+use Rattle.std.specs.List.{list_all}
 use Rattle.std.proofs.lemmas.List.Splits.{join_with_byte-slice_split}
 use Rattle.tm_word.specs.Words.{Text}
 use Rattle.tm_word.specs.Spelling.{joined}
@@ -15,12 +15,12 @@ use Rattle.tm_domain.specs.declared.DomainFault.{DomainFault}
 use Rattle.tm_domain.specs.Names.{begins_with_slash, is_pattern, is_path, is_read, domain_of}
 use Rattle.tm_domain.proofs.NameLaws.{same_name, right_name}
 use Rattle.tm_addr.proofs.Cuts.{pieces_of}
-use Rattle.tm_line.specs.Lines.{◌>>=◌, spaced}
+use Rattle.tm_line.specs.Lines.{spaced}
 use Rattle.tm_line.specs.Arguments.{kinded}
 use Rattle.tm_line.specs.Domains.{domain_words, paths_in, domain_at, domain_to_end}
 use Rattle.tm_line.specs.DomainWords.{domain_parts, ends_domain}
 use Rattle.tm_line.proofs.JoinLaws.{joined_is}
-use Rattle.tm_line.proofs.Steps.{bind_ok, done, ok_is, kinded_ok, both, not_true}
+use Rattle.tm_line.proofs.Steps.{bind_ok, ok_is, kinded_ok, both, not_true}
 
 -- ---- the words in front that begin with `/`
 

@@ -1,5 +1,5 @@
 -- Worked examples of the steps of lines: what is right, wrong, missing, extra and unfinished.
-use Rattle.std.proofs.Common.{◌≡◌, true, false, List, [], ◌∷◌, Ok, Err, refl}
+use Rattle.std.proofs.Common.{◌≡◌, true, false, [], ◌∷◌, Ok, Err, refl}
 use Rattle.std.specs.Prelude.{codes}
 use Rattle.tm_number.specs.Numbers.{range_of, value_of, number_of}
 use Rattle.tm_addr.specs.Reading.{addr_of, v4_of, v6_of, quad_of, octet_of, side_of, groups_after, last_of}
@@ -9,8 +9,6 @@ use Rattle.tm_pattern.specs.Tokens.{token_at}
 use Rattle.tm_pattern.specs.Reading.{step, ended, parsed, pattern_of, word_of}
 use Rattle.tm_types.specs.declared.entry.LineKind.{LineKind}
 use Rattle.tm_types.specs.declared.unions.NameUnion.{NameUnion}
-use Rattle.tm_types.specs.declared.unions.NumberUnion.{NumberUnion}
-use Rattle.tm_types.specs.declared.unions.AddrUnion.{AddrUnion}
 use Rattle.tm_domain.specs.Names.{domain_of, is_path}
 use Rattle.tm_line.specs.declared.permissions.Row.{Row}
 use Rattle.tm_line.specs.Lines.{keyword_at, option_at}

@@ -1,5 +1,5 @@
 -- Name arguments: what is written is read again, and what is read can be written.
-use Rattle.std.proofs.Common.{◌≡◌, ◌==◌, true, false, ◌&&◌, not, List, [], ◌∷◌, Ok, inl, inr, refl, ap, subst, ◌∙◌}
+use Rattle.std.proofs.Common.{◌≡◌, ◌==◌, true, false, List, [], ◌∷◌, Ok, inl, inr, refl, subst, ◌∙◌}
 use Rattle.tm_word.specs.Words.{Text, Pattern}
 use Rattle.tm_word.specs.Printing.{spelled_pattern}
 use Rattle.tm_pattern.specs.Reading.{pattern_of}

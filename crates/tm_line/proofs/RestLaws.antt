@@ -1,5 +1,5 @@
 -- What is left of the words after a step is the end of them.
-use Rattle.std.proofs.Common.{◌≡◌, ℕ, ◌+◌, ◌-◌, ◌≤◌, Bool, true, false, cond, ◌&&◌, List, [], ◌∷◌, ◌++◌, length, take, drop, Result, Ok, Err, refl, sym, ap, subst, ◌∙◌, arith, append_assoc, length-append}
+use Rattle.std.proofs.Common.{◌≡◌, ◌+◌, ◌-◌, ◌&&◌, List, [], ◌∷◌, ◌++◌, length, take, drop, Result, Ok, refl, sym, ap, subst, ◌∙◌, arith, append_assoc, length-append}
 use Rattle.std.proofs.Math.Seq.{drop-append-add}
 use Rattle.std.proofs.lemmas.List.{take-append-drop}
 use Rattle.tm_word.specs.Words.{Text}
@@ -9,10 +9,10 @@ use Rattle.tm_types.specs.declared.unions.NumberUnion.{NumberUnion}
 use Rattle.tm_types.specs.declared.unions.AddrUnion.{AddrUnion}
 use Rattle.tm_rules.specs.Equality.{texts_equal}
 use Rattle.tm_rules.specs.Words.{DomainName}
-use Rattle.tm_line.specs.Lines.{◌>>=◌, begins, is_last, keyword_kind, keyword_at, word_at}
+use Rattle.tm_line.specs.Lines.{begins, is_last, keyword_kind, keyword_at, word_at}
 use Rattle.tm_line.specs.Arguments.{name_word, number_word, address_word, name_at, number_at, address_at}
 use Rattle.tm_line.specs.Domains.{domain_words, paths_in, domain_at}
-use Rattle.tm_line.proofs.Steps.{bind_ok, done, ok_is, chosen}
+use Rattle.tm_line.proofs.Steps.{bind_ok, ok_is, chosen}
 
 -- these are words and then the rest
 abbrev pub Rest : List Text → List Text → Type 0

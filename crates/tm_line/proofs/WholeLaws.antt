@@ -1,10 +1,9 @@
 -- What is printed is made of words: they are found again in the line that joins them.
-use Rattle.std.proofs.Common.{◌≡◌, ℕ, suc, ◌+◌, ◌-◌, ◌*◌, ◌/◌, ◌%◌, ◌<◌, ◌≤◌, ◌^◌, ◌==◌, nat_lt, nat_le, Bool, true, false, cond, ◌&&◌, ◌||◌, not, List, [], ◌∷◌, ◌++◌, length, take, drop, Option, Some, None, Result, Ok, Err, refl, sym, ap, subst, ◌∙◌, arith, eq-eqb}
+use Rattle.std.proofs.Common.{◌≡◌, ℕ, suc, ◌-◌, ◌*◌, ◌<◌, ◌≤◌, ◌^◌, ◌==◌, nat_lt, nat_le, Bool, true, false, cond, ◌&&◌, ◌||◌, not, List, [], ◌∷◌, ◌++◌, length, take, drop, Some, Result, Ok, Err, refl, sym, ap, subst, ◌∙◌, arith, eq-eqb}
 use Rattle.std.specs.Prelude.{codes, bit_and}
 use Rattle.std.specs.List.{list_all, flat_map, filter, slice_split, onto_first}
 use Rattle.std.specs.Char.{digit_value}
 use Rattle.std.specs.Fmt.{digits, decimal}
-use Rattle.std.specs.Str.Parse.{AllDigits}
 use Rattle.std.proofs.lemmas.Bool.{ne_eqb, lt-ltb, le-ltb, ltb-true, leb-true}
 use Rattle.std.proofs.lemmas.Fmt.{decimal_is_IsNumeral, digits_is_IsNumeral}
 use Rattle.std.proofs.lemmas.List.{append-nil}
@@ -22,8 +21,8 @@ use Rattle.tm_number.specs.declared.AddrRange.{AddrRange}
 use Rattle.tm_number.specs.declared.Base.{Base}
 use Rattle.tm_number.specs.declared.Range.{Range}
 use Rattle.tm_number.specs.Numbers.{spelling, range_spelling, same_base}
-use Rattle.tm_addr.specs.Printing.{IsAddr, addr_spelling, v6_spelling, same_addr, addr_range_spelling}
-use Rattle.tm_addr.proofs.Free.{Free, free_append, free_digits}
+use Rattle.tm_addr.specs.Printing.{IsAddr, addr_spelling, same_addr, addr_range_spelling}
+use Rattle.tm_addr.proofs.Free.{Free, free_digits}
 use Rattle.tm_addr.proofs.V4Laws.{v4_free}
 use Rattle.tm_addr.proofs.V6Laws.{v6_free}
 use Rattle.tm_pattern.specs.Grammar.{is_right_element, is_full, is_right_component, are_right, is_right}
@@ -50,7 +49,7 @@ use Rattle.tm_line.specs.DomainWords.{domain_parts}
 use Rattle.tm_line.specs.Printing.{name_spelling, number_spelling, address_spelling}
 use Rattle.tm_line.specs.Written.{is_group, begins_name, is_name, is_range, is_number, is_addr_range, is_address, is_set}
 use Rattle.tm_line.specs.WholeWords.{is_solid, is_word}
-use Rattle.tm_line.proofs.Steps.{both, all, not_true, to_not}
+use Rattle.tm_line.proofs.Steps.{both, all, not_true}
 use Rattle.tm_line.proofs.JoinLaws.{joined_is}
 use Rattle.tm_line.proofs.SpellLaws.{below, below-at}
 use Rattle.tm_line.proofs.NumberArgLaws.{ends, number_again}

@@ -7,9 +7,7 @@ use Rattle.tm_number.specs.declared.Range.{Range}
 use Rattle.tm_number.specs.declared.AddrRange.{AddrRange}
 use Rattle.tm_number.specs.declared.text.NumberFault.{NumberFault}
 use Rattle.tm_number.specs.Numbers.{same_base, number_of, range_of}
-use Rattle.tm_addr.specs.declared.reading.AddrFault.{AddrFault}
 use Rattle.tm_addr.specs.Reading.{range_of as addr_range_of}
-use Rattle.tm_pattern.specs.declared.reading.PatternFault.{PatternFault}
 use Rattle.tm_pattern.specs.Reading.{pattern_of, word_of}
 use Rattle.tm_types.specs.declared.entry.LineKind.{LineKind}
 use Rattle.tm_types.specs.declared.unions.NameUnion.{NameUnion}

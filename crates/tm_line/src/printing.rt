@@ -86,3 +86,83 @@ pub fn print_domain(alloc: Global, name: &DomainName, out: &mut Vec<u8>) -> Resu
     let text = domain_spaced(alloc, name)?;
     out.extend_from_slice(&text)
 }
+
+#[cfg(test)]
+mod tests {
+    use super::*;
+    use crate::{
+        Row, address_word, domain_at, domain_to_end, group_word, joined, name_word, number_word,
+        option_at, path_word, plain_number, print_perms, read_perms, small_number,
+    };
+    use tm_types::entry::LineKind;
+    use tm_types::step::LineFault;
+    use tm_word::normal_words;
+
+    #[test]
+    fn arguments_printed(rt: HostRuntime) -> Result<(), LineFault> {
+        let alloc = rt.alloc();
+        let mut out = Vec::new(alloc);
+        print_name(alloc, &name_word(alloc, b"/tmp/\\*\\-a")?, &mut out)?;
+        print_name(alloc, &name_word(alloc, b"@G\\040x")?, &mut out)?;
+        print_number(alloc, &number_word(alloc, b"0X1f-0777")?, &mut out)?;
+        print_number(alloc, &number_word(alloc, b"@n")?, &mut out)?;
+        print_address(alloc, &address_word(alloc, b"::0-1::")?, &mut out)?;
+        print_address(alloc, &address_word(alloc, b"@a")?, &mut out)?;
+        assert_eq!(rt;
+            out.as_slice(),
+            b"/tmp/\\*\\-a@G\\040x0x1F-0777@n::-1::@a".as_slice()
+        );
+        assert_eq!(rt; group_word(alloc, b"a")?.bytes(), b"a".as_slice());
+        assert_eq!(rt; path_word(alloc, b"/\\*")?.bytes(), b"/\\*".as_slice());
+        Ok(())
+    }
+
+    #[test]
+    fn permissions_printed(rt: HostRuntime) -> Result<(), LineFault> {
+        let alloc = rt.alloc();
+        for (row, word, text) in [
+            (Row::Path, "unmount/read/execute", "execute/read/unmount"),
+            (Row::PathNumber, "chgrp/create/chgrp", "create/chgrp"),
+            (Row::Device, "mkchar", "mkchar"),
+            (Row::Pair, "pivot_root/link", "link/pivot_root"),
+            (Row::Listening, "connect/listen", "listen/connect"),
+            (Row::Sending, "send/bind", "bind/send"),
+        ] {
+            let bits = read_perms(alloc, row, word.as_bytes(), false)?;
+            let mut out = Vec::new(alloc);
+            print_perms(alloc, row, bits, &mut out)?;
+            assert_eq!(rt; out.as_slice(), text.as_bytes(), "at {word}");
+        }
+        Ok(())
+    }
+
+    #[test]
+    fn names_of_domains(rt: HostRuntime) -> Result<(), LineFault> {
+        let alloc = rt.alloc();
+        let words = normal_words(alloc, b"<kernel>  /a /b x")?;
+        let (name, rest) = domain_at(alloc, words.as_slice())?;
+        assert_eq!(rt; name.bytes(), b"<kernel> /a /b".as_slice());
+        assert_eq!(rt; rest.len(), 1);
+        let (stands, rest) = option_at(b"x", rest);
+        assert!(rt; stands);
+        assert!(rt; rest.is_empty());
+        let words = normal_words(alloc, b"</a> /b")?;
+        let name = domain_to_end(alloc, words.as_slice())?;
+        let mut out = joined(alloc, words.as_slice())?;
+        print_domain(alloc, &name, &mut out)?;
+        assert_eq!(rt; out.as_slice(), b"</a> /b </a> /b".as_slice());
+        Ok(())
+    }
+
+    #[test]
+    fn plain_numbers(rt: HostRuntime) {
+        assert_eq!(rt; small_number(b"255"), Ok(255));
+        assert_eq!(rt; plain_number(b"4294967295"), Ok(4294967295));
+        for text in ["", "256", "01", "0x1", "-1", "1-1"] {
+            match small_number(text.as_bytes()) {
+                Err(LineFault::Kind(kind)) => assert_eq!(rt; kind, LineKind::Number, "at {text}"),
+                _ => assert!(rt; false, "a number: {text}"),
+            }
+        }
+    }
+}

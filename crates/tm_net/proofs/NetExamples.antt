@@ -1,5 +1,5 @@
 -- Worked examples of network, environment and task lines: each word right, wrong, missing and unfinished.
-use Rattle.std.proofs.Common.{◌≡◌, List, [], ◌∷◌, Ok, Err, refl}
+use Rattle.std.proofs.Common.{◌≡◌, [], ◌∷◌, Ok, Err, refl}
 use Rattle.std.specs.Prelude.{codes}
 use Rattle.tm_number.specs.Numbers.{range_of, value_of, number_of}
 use Rattle.tm_pattern.specs.Tokens.{token_at}
@@ -12,7 +12,6 @@ use Rattle.tm_line.specs.Domains.{domain_words, domain_at}
 use Rattle.tm_addr.specs.Reading.{addr_of, v4_of, v6_of, quad_of, octet_of, side_of, groups_after, last_of}
 use Rattle.tm_addr.specs.Reading.{range_of as addr_range_of}
 use Rattle.tm_addr.specs.Reading.{group_of as hex_group_of}
-use Rattle.tm_line.specs.declared.permissions.Row.{Row}
 use Rattle.tm_types.specs.declared.entry.Args.{Args}
 use Rattle.tm_types.specs.declared.entry.InetKind.{InetKind}
 use Rattle.tm_types.specs.declared.entry.UnixKind.{UnixKind}

@@ -1,5 +1,5 @@
 -- The lines of network, environment and task: what is written is read again, and what is read can be written.
-use Rattle.std.proofs.Common.{◌≡◌, ℕ, ◌==◌, Bool, true, false, cond, ◌&&◌, ◌||◌, not, List, [], ◌∷◌, ◌++◌, Result, Ok, Err, refl, sym, ap, subst, ◌∙◌}
+use Rattle.std.proofs.Common.{◌≡◌, ℕ, ◌==◌, Bool, true, false, cond, ◌&&◌, ◌||◌, List, [], ◌∷◌, ◌++◌, Ok, Err, refl, sym, subst}
 use Rattle.std.specs.Prelude.{codes}
 use Rattle.std.proofs.lemmas.Bool.{eqb-true}
 use Rattle.tm_word.specs.Words.{Text, Pattern}
@@ -22,7 +22,7 @@ use Rattle.tm_line.specs.Lines.{◌>>=◌, begins, is_last, keyword_kind, keywor
 use Rattle.tm_line.specs.Permissions.{perms_of, perms_spelling}
 use Rattle.tm_line.specs.Arguments.{pattern_word, name_at, number_at, address_at}
 use Rattle.tm_line.specs.Domains.{domain_at}
-use Rattle.tm_line.specs.DomainWords.{domain_parts, ends_domain}
+use Rattle.tm_line.specs.DomainWords.{ends_domain}
 use Rattle.tm_line.specs.Printing.{name_spelling, number_spelling, address_spelling}
 use Rattle.tm_line.specs.Written.{is_name, is_number, is_address, is_set}
 use Rattle.tm_line.proofs.Steps.{bind_ok, ok_is, both, all, not_true, to_not}

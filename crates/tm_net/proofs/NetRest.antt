@@ -1,9 +1,8 @@
 -- What a network, environment or task line leaves is the end of the words.
-use Rattle.std.proofs.Common.{◌≡◌, ℕ, ◌-◌, Bool, true, false, cond, ◌&&◌, ◌||◌, List, [], ◌∷◌, length, drop, Option, Some, None, Result, Ok, Err, refl, subst}
+use Rattle.std.proofs.Common.{◌≡◌, ℕ, ◌-◌, Bool, true, false, cond, ◌&&◌, ◌||◌, List, [], ◌∷◌, length, drop, Option, Some, None, Ok, Err, refl, subst}
 use Rattle.std.specs.Prelude.{codes}
-use Rattle.tm_word.specs.Words.{Text, Pattern}
+use Rattle.tm_word.specs.Words.{Text}
 use Rattle.tm_types.specs.declared.entry.Args.{Args}
-use Rattle.tm_types.specs.declared.entry.LineKind.{LineKind}
 use Rattle.tm_types.specs.declared.entry.Perms.{Perms}
 use Rattle.tm_rules.specs.Equality.{texts_equal}
 use Rattle.tm_line.specs.declared.permissions.Row.{Row}

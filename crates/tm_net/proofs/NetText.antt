@@ -1,5 +1,5 @@
 -- The printed words of a network, environment or task line are words, and are found again in the line that joins them.
-use Rattle.std.proofs.Common.{◌≡◌, ℕ, ◌==◌, Bool, true, false, ◌&&◌, List, [], ◌∷◌, refl}
+use Rattle.std.proofs.Common.{◌≡◌, ℕ, ◌==◌, true, ◌&&◌, List, [], ◌∷◌, refl}
 use Rattle.std.specs.Prelude.{codes}
 use Rattle.std.specs.List.{list_all}
 use Rattle.tm_word.specs.Words.{Text}
@@ -11,7 +11,6 @@ use Rattle.tm_types.specs.declared.entry.InetKind.{InetKind}
 use Rattle.tm_types.specs.declared.entry.UnixKind.{UnixKind}
 use Rattle.tm_rules.specs.Transition.{is_domain_name}
 use Rattle.tm_domain.specs.Names.{is_path}
-use Rattle.tm_line.specs.declared.permissions.Row.{Row}
 use Rattle.tm_line.specs.Permissions.{perms_spelling}
 use Rattle.tm_line.specs.Printing.{name_spelling, number_spelling, address_spelling}
 use Rattle.tm_line.specs.Written.{is_name, is_number, is_address, is_set}
