@@ -1,5 +1,5 @@
 -- Entries: what is written is read again, and what is read can be written.
-use Rattle.std.proofs.Common.{◌≡◌, ℕ, ◌==◌, Bool, true, false, cond, ◌&&◌, ◌||◌, not, List, [], ◌∷◌, ◌++◌, Option, Some, None, Result, Ok, Err, refl, sym, ap, subst, ◌∙◌}
+use Rattle.std.proofs.Common.{◌≡◌, ℕ, Bool, true, false, cond, ◌&&◌, ◌||◌, List, [], ◌∷◌, ◌++◌, Option, Some, None, Ok, Err, refl, subst, ◌∙◌}
 use Rattle.std.specs.Prelude.{codes, map}
 use Rattle.tm_word.specs.Words.{Text}
 use Rattle.tm_types.specs.declared.entry.LineKind.{LineKind}
@@ -12,8 +12,7 @@ use Rattle.tm_types.specs.declared.entry.Cond.{Cond}
 use Rattle.tm_types.specs.declared.entry.Entry.{Entry}
 use Rattle.tm_rules.specs.Equality.{texts_equal}
 use Rattle.tm_line.specs.Lines.{◌>>=◌, begins, is_last}
-use Rattle.tm_line.specs.DomainWords.{ends_domain}
-use Rattle.tm_line.proofs.Steps.{bind_ok, done, ok_is, both, all}
+use Rattle.tm_line.proofs.Steps.{bind_ok, ok_is, both, all}
 use Rattle.tm_file.specs.FileLines.{file_line, file_words, is_file}
 use Rattle.tm_file.specs.Preferences.{no_prefer}
 use Rattle.tm_file.proofs.PreferLaws.{ends_prefer}

@@ -1,8 +1,7 @@
 -- A printed entry is made of words, which are found again in the line that joins them.
-use Rattle.std.proofs.Common.{◌≡◌, ◌&&◌, ◌||◌, Bool, true, false, cond, List, ◌++◌, refl, ◌∙◌}
+use Rattle.std.proofs.Common.{◌≡◌, ◌||◌, Bool, true, false, cond, refl, ◌∙◌}
 use Rattle.std.specs.List.{list_all}
 use Rattle.std.proofs.lemmas.List.Folds.{list_all-append}
-use Rattle.tm_word.specs.Words.{Text}
 use Rattle.tm_word.specs.Spelling.{words_of, joined}
 use Rattle.tm_types.specs.declared.entry.Args.{Args}
 use Rattle.tm_types.specs.declared.entry.Perms.{Perms}
