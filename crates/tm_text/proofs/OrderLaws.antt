@@ -1,5 +1,5 @@
 -- Namespaces put into their places: each stays, and they are in the order of their names.
-use Rattle.std.proofs.Common.{◌≡◌, ◌∷◌, [], ℕ, ◌==◌, nat_lt, Bool, true, false, if◌then◌else◌, List, length, arith, refl, sym}
+use Rattle.std.proofs.Common.{◌≡◌, ◌∷◌, [], ℕ, ◌==◌, nat_lt, Bool, true, false, if◌then◌else◌, List, ◌++◌, arith, refl, sym, subst, append-nil}
 use Rattle.std.specs.List.Sorted.{IsPermutation}
 use Rattle.std.proofs.lemmas.List.Sorted.{IsPermutation-refl, IsPermutation-cons, IsPermutation-trans, IsPermutation-swap}
 use Rattle.tm_word.specs.Words.{Text}
@@ -40,3 +40,35 @@ all_ordered ordered (ns ∷ others) h = all_ordered (with_namespace ns ordered) 
 pub names_ordered : (namespaces : List Namespace) → IsOrdered (by_name namespaces)
 unfolding by_name
 names_ordered namespaces = all_ordered [] namespaces tt
+
+-- a namespace that goes to the front
+pub moved : (ns : Namespace) (front others : List Namespace) → IsPermutation (front ++ ns ∷ others) (ns ∷ front ++ others)
+moved ns [] others = IsPermutation-refl (ns ∷ others)
+moved ns (first ∷ front) others =
+    IsPermutation-trans (first ∷ front ++ ns ∷ others) (first ∷ ns ∷ front ++ others) (ns ∷ first ∷ front ++ others)
+    (IsPermutation-cons first (front ++ ns ∷ others) (ns ∷ front ++ others) (moved ns front others))
+    (IsPermutation-swap (first ∷ ns ∷ front ++ others) (ns ∷ first ∷ front ++ others) 0 1 (omega arith) (omega arith) refl)
+
+-- a namespace in its place is there, and the others too
+pub one_kept : (ns : Namespace) (ordered others : List Namespace) → IsPermutation (ordered ++ ns ∷ others) (with_namespace ns ordered ++ others)
+one_kept ns [] others = IsPermutation-refl (ns ∷ others)
+one_kept ns (first ∷ ordered) others = at (comes_before ns.name first.name) (one_kept ns ordered others)
+  where
+    at
+        : (here : Bool)
+        → IsPermutation (ordered ++ ns ∷ others) (with_namespace ns ordered ++ others)
+        → IsPermutation (first ∷ ordered ++ ns ∷ others) ((if here then ns ∷ first ∷ ordered else first ∷ with_namespace ns ordered) ++ others)
+    at true rest = moved ns (first ∷ ordered) others
+    at false rest = IsPermutation-cons first (ordered ++ ns ∷ others) (with_namespace ns ordered ++ others) rest
+
+pub all_kept : (ordered others : List Namespace) → IsPermutation (ordered ++ others) (placed ordered others)
+all_kept ordered [] = subst (λ (front : List Namespace). IsPermutation front ordered) (sym (append-nil ordered)) (IsPermutation-refl ordered)
+all_kept ordered (ns ∷ others) =
+    IsPermutation-trans (ordered ++ ns ∷ others) (with_namespace ns ordered ++ others) (placed (with_namespace ns ordered) others)
+    (one_kept ns ordered others)
+    (all_kept (with_namespace ns ordered) others)
+
+-- ordering keeps each namespace
+pub names_kept : (namespaces : List Namespace) → IsPermutation namespaces (by_name namespaces)
+unfolding by_name
+names_kept namespaces = all_kept [] namespaces

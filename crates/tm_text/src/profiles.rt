@@ -1,6 +1,9 @@
 //! Printing the profiles, namespace by namespace in the order of their names.
-ghost use Rattle.std.specs.Prelude.{◌≡◌, ◌++◌, ◌≤◌, length, IfOk, OnOk, OnErr};
+ghost use Rattle.std.specs.Prelude.{◌≡◌, ◌++◌, ◌≤◌, List, length, IfOk, OnOk, OnErr};
 ghost use Rattle.std.specs.List.{flat_map};
+ghost use Rattle.std.specs.List.Sorted.{IsPermutation};
+ghost use Rattle.tm_types.specs.declared.policy.Namespace.{Namespace};
+ghost use Rattle.tm_text.specs.Order.{IsOrdered};
 ghost use Rattle.tm_text.specs.ProfileText.{comes_before, with_namespace, placed, by_name, namespace_text, profile_text, lent, place_for};
 
 use std::alloc::Global;
@@ -100,6 +103,12 @@ pub fn print_profile(alloc: Global, policy: &Policy, out: &mut Vec<u8>) -> Resul
     let text = profile_text(alloc, policy)?;
     out.extend_from_slice(&text)
 }
+
+/// The order of namespaces, as a law over all lists of them: each is kept, and none stands right before one whose name comes first.
+pub fn name_order()
+    ensures kept { (namespaces : List Namespace) → IsPermutation namespaces (by_name namespaces) }
+    ensures ordered { (namespaces : List Namespace) → IsOrdered (by_name namespaces) }
+{}
 
 #[cfg(test)]
 mod tests {
