@@ -1,1 +1,3 @@
+pub mod Examples
 pub mod LentLaws
+pub mod OrderLaws

@@ -1,3 +1,4 @@
 pub mod DomainText
 pub mod ManagerText
+pub mod Order
 pub mod ProfileText

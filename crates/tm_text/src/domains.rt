@@ -149,8 +149,13 @@ mod tests {
     use tm_list::{Map, Seq};
     use tm_word::normal_words;
 
-    // A domain in profile 1 with one entry, which is the line.
-    fn domain(alloc: Global, name: &[u8], line: &[u8]) -> Result<Domain, NoMemory> {
+    // A live domain in profile 1 with these groups and one entry, which is the line.
+    fn domain(
+        alloc: Global,
+        name: &[u8],
+        groups: Map<u8, ()>,
+        line: &[u8],
+    ) -> Result<Domain, NoMemory> {
         let words = normal_words(alloc, line)?;
         let mut entries = Seq::new(alloc);
         match read_entry(alloc, &words) {
@@ -161,18 +166,17 @@ mod tests {
             name: Seq::from_bytes(alloc, name)?,
             live: true,
             profile: 1,
-            groups: Map::new(alloc),
+            groups,
             quota_exceeded: false,
             transition_failed: false,
             entries,
         })
     }
 
-    // The printed domain policy of these domains, after what stood before.
-    fn printed(alloc: Global, first: Domain, second: Domain) -> Result<Vec<u8>, NoMemory> {
+    // The printed domain policy of this domain, after what stood before.
+    fn printed(alloc: Global, domain: Domain) -> Result<Vec<u8>, NoMemory> {
         let mut domains = Seq::new(alloc);
-        domains.push(first)?;
-        domains.push(second)?;
+        domains.push(domain)?;
         let policy = Policy {
             namespaces: Seq::new(alloc),
             domains,
@@ -187,31 +191,37 @@ mod tests {
 
     #[test]
     fn a_domain_without_groups_and_flags(rt: HostRuntime) -> Result<(), NoMemory> {
-        let alloc = rt.alloc();
-        let kernel = domain(alloc, b"<kernel>", b"file read /a")?;
-        let mut dead = domain(alloc, b"<kernel> /b", b"file read /b")?;
+        let groups = Map::new(rt.alloc());
+        let kernel = domain(rt.alloc(), b"<kernel>", groups, b"file read /a")?;
+        let out = printed(rt.alloc(), kernel)?;
+        assert_eq!(rt;
+            out.as_slice(),
+            b"# <kernel>\nuse_profile 1\nfile read /a\n\n".as_slice()
+        );
+        Ok(())
+    }
+
+    #[test]
+    fn a_domain_that_is_not_live(rt: HostRuntime) -> Result<(), NoMemory> {
+        let groups = Map::new(rt.alloc());
+        let mut dead = domain(rt.alloc(), b"<kernel> /b", groups, b"file read /a")?;
         dead.live = false;
-        let out = printed(alloc, kernel, dead)?;
-        let text = "# <kernel>\nuse_profile 1\nfile read /a\n\n";
-        assert_eq!(rt; out.as_slice(), text.as_bytes());
+        let out = printed(rt.alloc(), dead)?;
+        assert_eq!(rt; out.as_slice(), b"# ".as_slice());
         Ok(())
     }
 
     #[test]
     fn a_domain_with_groups_and_flags(rt: HostRuntime) -> Result<(), NoMemory> {
-        let alloc = rt.alloc();
-        let mut kernel = domain(alloc, b"<kernel>", b"misc env HOME")?;
-        kernel.groups.put(255, ())?;
-        kernel.groups.put(3, ())?;
-        kernel.quota_exceeded = true;
-        kernel.profile = 0;
-        let mut other = domain(alloc, b"<kernel> /b", b"file write/read /b")?;
+        let mut groups = Map::new(rt.alloc());
+        groups.put(255, ())?;
+        groups.put(3, ())?;
+        let mut other = domain(rt.alloc(), b"<kernel> /b", groups, b"misc env HOME")?;
         other.quota_exceeded = true;
         other.transition_failed = true;
-        let out = printed(alloc, kernel, other)?;
+        let out = printed(rt.alloc(), other)?;
         let text =
-            "# <kernel>\nuse_profile 0\nuse_group 3\nuse_group 255\nquota_exceeded\nmisc env HOME\n\n\
-<kernel> /b\nuse_profile 1\nquota_exceeded\ntransition_failed\nfile read/write /b\n\n";
+            "# <kernel> /b\nuse_profile 1\nuse_group 3\nuse_group 255\nquota_exceeded\ntransition_failed\nmisc env HOME\n\n";
         assert_eq!(rt; out.as_slice(), text.as_bytes());
         Ok(())
     }

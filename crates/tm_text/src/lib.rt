@@ -1,6 +1,6 @@
 //! The printed files of a policy: its domains, its managers and its profiles.
 //! Stands on tm_entry and tm_profile, whose lines it joins, and on the types of policies.
-//! Promises that each printer appends the one text of the policy's part, without a condition, and that `out` is as before after want of memory.
+//! Promises that each printer appends the one text of its part, on every policy, that `out` is as before after want of memory, and that namespaces are all printed in the order of their names.
 #![tactic(auto)]
 
 mod domains;
@@ -9,4 +9,4 @@ mod profiles;
 
 pub use domains::print_domain;
 pub use managers::print_manager;
-pub use profiles::print_profile;
+pub use profiles::{name_order, print_profile};

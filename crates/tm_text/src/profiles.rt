@@ -1,6 +1,9 @@
 //! Printing the profiles, namespace by namespace in the order of their names.
-ghost use Rattle.std.specs.Prelude.{◌≡◌, ◌++◌, ◌≤◌, length, IfOk, OnOk, OnErr};
+ghost use Rattle.std.specs.Prelude.{◌≡◌, ◌++◌, ◌≤◌, List, length, IfOk, OnOk, OnErr};
 ghost use Rattle.std.specs.List.{flat_map};
+ghost use Rattle.std.specs.List.Sorted.{IsPermutation};
+ghost use Rattle.tm_types.specs.declared.policy.Namespace.{Namespace};
+ghost use Rattle.tm_text.specs.Order.{IsOrdered};
 ghost use Rattle.tm_text.specs.ProfileText.{comes_before, with_namespace, placed, by_name, namespace_text, profile_text, lent, place_for};
 
 use std::alloc::Global;
@@ -101,11 +104,17 @@ pub fn print_profile(alloc: Global, policy: &Policy, out: &mut Vec<u8>) -> Resul
     out.extend_from_slice(&text)
 }
 
+/// The order of namespaces, as a law over all lists of them: each is kept, and none stands right before one whose name comes first.
+pub fn name_order()
+    ensures kept { (namespaces : List Namespace) → IsPermutation namespaces (by_name namespaces) }
+    ensures ordered { (namespaces : List Namespace) → IsOrdered (by_name namespaces) }
+{}
+
 #[cfg(test)]
 mod tests {
     use super::*;
     use tm_list::{Map, Seq};
-    use tm_types::policy::{Config, Logs, Mode, Profile};
+    use tm_types::policy::{Config, Logs, Mode, Profile, Profiles};
     use tm_types::unions::Groups;
 
     // A profile of that mode.
@@ -125,11 +134,18 @@ mod tests {
         }
     }
 
-    // A namespace without profiles.
-    fn namespace(alloc: Global, name: &[u8]) -> Result<Namespace, NoMemory> {
+    // Profile 9 of that mode alone.
+    fn one(alloc: Global, mode: Mode) -> Result<Profiles, NoMemory> {
+        let mut profiles = Map::new(alloc);
+        profiles.put(9, profile(alloc, mode))?;
+        Ok(profiles)
+    }
+
+    // A namespace with these profiles.
+    fn namespace(alloc: Global, name: &[u8], profiles: Profiles) -> Result<Namespace, NoMemory> {
         Ok(Namespace {
             name: Seq::from_bytes(alloc, name)?,
-            profiles: Map::new(alloc),
+            profiles,
             groups: Groups {
                 paths: Seq::new(alloc),
                 numbers: Seq::new(alloc),
@@ -161,10 +177,11 @@ mod tests {
     #[test]
     fn profiles_of_one_namespace(rt: HostRuntime) -> Result<(), NoMemory> {
         let alloc = rt.alloc();
-        let mut kernel = namespace(alloc, b"<kernel>")?;
-        kernel.profiles.put(1, profile(alloc, Mode::Enforcing))?;
-        kernel.profiles.put(0, profile(alloc, Mode::Disabled))?;
-        let out = printed(alloc, namespace(alloc, b"<a>")?, kernel)?;
+        let mut profiles = Map::new(alloc);
+        profiles.put(1, profile(alloc, Mode::Enforcing))?;
+        profiles.put(0, profile(alloc, Mode::Disabled))?;
+        let kernel = namespace(alloc, b"<kernel>", profiles)?;
+        let out = printed(alloc, namespace(alloc, b"<a>", Map::new(alloc))?, kernel)?;
         let text = "<kernel> PROFILE_VERSION=20150505\n\
 <kernel> 0-COMMENT=\n\
 <kernel> 0-PREFERENCE={ max_audit_log=1024 max_learning_entry=2048 }\n\
@@ -179,10 +196,8 @@ mod tests {
     #[test]
     fn namespaces_by_their_names(rt: HostRuntime) -> Result<(), NoMemory> {
         let alloc = rt.alloc();
-        let mut kernel = namespace(alloc, b"<kernel>")?;
-        kernel.profiles.put(9, profile(alloc, Mode::Learning))?;
-        let mut other = namespace(alloc, b"</s>")?;
-        other.profiles.put(9, profile(alloc, Mode::Permissive))?;
+        let kernel = namespace(alloc, b"<kernel>", one(alloc, Mode::Learning)?)?;
+        let other = namespace(alloc, b"</s>", one(alloc, Mode::Permissive)?)?;
         let out = printed(alloc, kernel, other)?;
         let text = "</s> PROFILE_VERSION=20150505\n\
 </s> 9-COMMENT=\n\
