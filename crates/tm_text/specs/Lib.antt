@@ -2,3 +2,4 @@ pub mod DomainText
 pub mod ManagerText
 pub mod Order
 pub mod ProfileText
+pub mod ExceptionText

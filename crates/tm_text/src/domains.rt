@@ -52,7 +52,7 @@ fn push_groups(alloc: Global, groups: &[(u8, ())], out: &mut Vec<u8>) -> Result<
 }
 
 /// Appends the line of an entry, or a part of it.
-fn push_entry(alloc: Global, entry: &Entry, out: &mut Vec<u8>) -> Result<(), NoMemory>
+pub(crate) fn push_entry(alloc: Global, entry: &Entry, out: &mut Vec<u8>) -> Result<(), NoMemory>
     ensures { OnOk result (out.new.items ≡ out.old.items ++ entry_line entry.now) }
 {
     print_entry(alloc, entry, out)?;

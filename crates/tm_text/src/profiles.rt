@@ -59,7 +59,7 @@ fn put_in_place<'a>(ordered: &mut Vec<&'a Namespace>, ns: &'a Namespace) -> Resu
 
 /// The namespaces in the order of their names' bytes.
 #[tactic(auto, unfolding(crate::specs::ProfileText::by_name))]
-fn by_name(alloc: Global, namespaces: &[Namespace]) -> Result<Vec<&Namespace>, NoMemory>
+pub(crate) fn by_name(alloc: Global, namespaces: &[Namespace]) -> Result<Vec<&Namespace>, NoMemory>
     ensures { IfOk result (λ ordered. lent ordered.items ≡ by_name namespaces.now) }
 {
     let mut ordered = Vec::new(alloc);

@@ -27,12 +27,12 @@ wants_of Command.Step =
 
 -- the files that a command stores, in order
 abbrev pub stored_by : Command → List FileName
-stored_by Command.Step = FileName.Run ∷ FileName.Audit ∷ FileName.ProfileNew ∷ FileName.DomainPolicyNew ∷ FileName.ManagerNew ∷ []
+stored_by Command.Step = FileName.Run ∷ FileName.Audit ∷ FileName.ProfileNew ∷ FileName.ExceptionPolicyNew ∷ FileName.DomainPolicyNew ∷ FileName.ManagerNew ∷ []
 
 -- what `step` stores, in order
 abbrev pub step_stores : Played → Texts
 step_stores played =
-    (FileName.Run, played.run) ∷ (FileName.Audit, played.audit) ∷ (FileName.ProfileNew, played.policy.profile) ∷ (FileName.DomainPolicyNew, played.policy.domain)
+    (FileName.Run, played.run) ∷ (FileName.Audit, played.audit) ∷ (FileName.ProfileNew, played.policy.profile) ∷ (FileName.ExceptionPolicyNew, played.policy.exception) ∷ (FileName.DomainPolicyNew, played.policy.domain)
     ∷ (FileName.ManagerNew, played.policy.manager) ∷ []
 
 -- what a command stores and puts of what was played

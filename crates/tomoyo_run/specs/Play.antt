@@ -20,6 +20,7 @@ use Rattle.tm_forms.specs.Trace.{trace_of}
 use Rattle.tm_io.specs.declared.names.FileName.{FileName}
 use Rattle.tomoyo_run.specs.declared.status.Status.{Status}
 use Rattle.tm_text.specs.DomainText.{domain_text}
+use Rattle.tm_text.specs.ExceptionText.{exception_text}
 use Rattle.tm_text.specs.ManagerText.{manager_text}
 use Rattle.tm_text.specs.ProfileText.{profile_text}
 use Rattle.tomoyo_run.specs.declared.play.Printed.{Printed}
@@ -69,6 +70,7 @@ audits_of takes = flat_map audit_word takes
 -- the printed files of a policy
 pub record IsPolicyPrinted (policy : Policy) (printed : Printed) : Type 0 where
   pub profile : printed.profile ≡ profile_text policy
+  pub exception : printed.exception ≡ exception_text policy
   pub domain : printed.domain ≡ domain_text policy
   pub manager : printed.manager ≡ manager_text policy
 

@@ -17,8 +17,8 @@ Works on the files of the current folder.
 Files that are read: profile, domain_policy and trace, which have to be there;
 exception_policy, manager, edits, answers and schedule, which count as empty
 where they are missing. Files that are stored, in this order: run, audit,
-profile.new, domain_policy.new, manager.new. One line that sums the run up
-goes to standard output.
+profile.new, exception_policy.new, domain_policy.new, manager.new. One line
+that sums the run up goes to standard output.
 
 Exit statuses:
    0  done

@@ -4,6 +4,7 @@ ghost use Rattle.tm_rules.specs.Few.{IsFew};
 ghost use Rattle.tm_run.specs.RunText.{run_text};
 ghost use Rattle.tm_rerun.specs.Summary.{summary_text};
 ghost use Rattle.tm_text.specs.DomainText.{domain_text};
+ghost use Rattle.tm_text.specs.ExceptionText.{exception_text};
 ghost use Rattle.tm_text.specs.ManagerText.{manager_text};
 ghost use Rattle.tm_text.specs.ProfileText.{profile_text};
 ghost use Rattle.tomoyo_run.specs.Play.{opened, refusal_of, Refuses, CanBePlayed, PlaysOn, PlaysLoaded, Plays, audit_word, audits_of, IsPrinted, IsPolicyPrinted};
@@ -17,7 +18,7 @@ use tm_list::{Copied, NoMemory};
 use tm_policy::{Plain, is_few, set_opened};
 use tm_rerun::summary_line;
 use tm_run::print_run;
-use tm_text::{print_domain, print_manager, print_profile};
+use tm_text::{print_domain, print_exception, print_manager, print_profile};
 use tm_types::policy::Policy;
 use tm_types::request::Trace;
 use tm_types::step::{Run, Take};
@@ -27,6 +28,7 @@ use tm_word::Text;
 #[derive(Drop)]
 pub struct Printed {
     pub profile: Text,
+    pub exception: Text,
     pub domain: Text,
     pub manager: Text,
 }
@@ -89,12 +91,15 @@ fn printed(alloc: Global, policy: &Policy) -> Result<Printed, NoMemory>
 {
     let mut profile = Vec::new(alloc);
     print_profile(alloc, policy, &mut profile)?;
+    let mut exception = Vec::new(alloc);
+    print_exception(alloc, policy, &mut exception)?;
     let mut domain = Vec::new(alloc);
     print_domain(alloc, policy, &mut domain)?;
     let mut manager = Vec::new(alloc);
     print_manager(alloc, policy, &mut manager)?;
     Ok(Printed {
         profile: Text::from_vec(profile),
+        exception: Text::from_vec(exception),
         domain: Text::from_vec(domain),
         manager: Text::from_vec(manager),
     })

@@ -53,6 +53,7 @@ fn step_stores(
 {
     let Printed {
         profile,
+        exception,
         domain,
         manager,
     } = policy;
@@ -60,6 +61,7 @@ fn step_stores(
     stores.push((FileName::Run, run))?;
     stores.push((FileName::Audit, audit))?;
     stores.push((FileName::ProfileNew, profile))?;
+    stores.push((FileName::ExceptionPolicyNew, exception))?;
     stores.push((FileName::DomainPolicyNew, domain))?;
     stores.push((FileName::ManagerNew, manager))?;
     Ok(stores)
@@ -116,8 +118,8 @@ fn perform<S: Shelf, K: Sink>(alloc: Global, command: Command, shelf: &mut S, ou
 }
 
 /// Does the command that the words name, over any shelf and sink, and answers how it ended. `step` plays the trace
-/// under the policy and stores `run`, `audit`, and `profile.new`, `domain_policy.new` and `manager.new` of the final policy; nothing is stored
-/// before all is read and played.
+/// under the policy and stores `run`, `audit`, and the final policy as `profile.new`, `exception_policy.new`, `domain_policy.new` and
+/// `manager.new`; nothing is stored before all is read and played.
 pub fn run_alone<S: Shelf, K: Sink>(
     alloc: Global,
     words: &[String],

@@ -1,0 +1,30 @@
+-- The printed text of the exception policy.
+use Rattle.std.specs.Prelude.{ℕ, List, [], ◌∷◌, ◌++◌, decimal, codes}
+use Rattle.std.specs.List.{flat_map}
+use Rattle.tm_word.specs.Words.{Text}
+use Rattle.tm_types.specs.declared.entry.Entry.{Entry}
+use Rattle.tm_types.specs.declared.policy.Namespace.{Namespace}
+use Rattle.tm_types.specs.declared.policy.Policy.{Policy}
+use Rattle.tm_except.specs.Printing.{lists_text}
+use Rattle.tm_text.specs.DomainText.{entry_line}
+use Rattle.tm_text.specs.ProfileText.{by_name}
+
+-- what stands in front of an entry of an ACL group
+abbrev pub group_front : Text → ℕ → Text
+group_front name number = name ++ codes " acl_group " ++ decimal number ++ 32 ∷ []
+
+-- the line of an entry of an ACL group
+abbrev pub acl_line : Text → ℕ → Entry → Text
+acl_line name number entry = group_front name number ++ entry_line entry
+
+-- the entries of an ACL group, in written order
+abbrev pub acl_lines : Text → ℕ × List Entry → Text
+acl_lines name group = flat_map (acl_line name group.0) group.1
+
+-- the lines of a namespace: groups, aggregators and controls, then its ACL groups by their numbers
+unfoldable pub exception_lines : Namespace → Text
+exception_lines ns = lists_text ns ++ flat_map (acl_lines ns.name) ns.acl_groups
+
+-- the lines of each namespace, by the order of names
+unfoldable pub exception_text : Policy → Text
+exception_text policy = flat_map exception_lines (by_name policy.namespaces)
