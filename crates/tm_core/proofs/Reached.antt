@@ -193,7 +193,7 @@ module _ (g : Grammar) (course : Course) (walks : List Walk) (t : ℕ) (walk : W
       let settled = learn_settles g o h.domain h.line later.policy h.makes.reply fits h.makes.learns in
       let long : length (history_of course) ≡ length course.made = len-map {B = Step × Reply} (λ (pair : Made × Reply). (pair.0.step, pair.1)) course.made in
       let goes : going_on g way (after_step g h.begun h.steps (suc (length (history_of course))) (Reply.Learn h.makes.reply)) ≡ way_of new =
-              ap (λ (n : ℕ). going_on g way (after_step g h.begun h.steps (suc n) (Reply.Learn h.makes.reply))) long ∙ h.makes.goes way.begun in
+      ap (λ (n : ℕ). going_on g way (after_step g h.begun h.steps (suc n) (Reply.Learn h.makes.reply))) long ∙ h.makes.goes way.begun in
       let made : Player = record o { state = record o.state { policy = later.policy }; steps = o.steps ++ (Step.Learn h.domain h.line, Reply.Learn h.makes.reply) ∷ [] } in
       let same : player_of later (slice_set walks t new) ≡ on_way g made t (way_of new) = rw (map-set way_of walks t new, len-set walks t new, h.makes.made) refl in
       own-turn h.begun h.domain h.line h.steps h.is h.owes ∙ ap (option_map next) settled ∙ ap (λ (q : Player). Some q) (ap (on_way g made t) goes ∙ sym same)

@@ -78,7 +78,12 @@ fn control_matches(domain: &DomainName, candidate: &[u8], control: &Control) -> 
 }
 
 /// Whether some control of this kind matches.
-fn has_control(controls: &[Control], domain: &DomainName, candidate: &[u8], kind: ControlKind) -> bool
+fn has_control(
+    controls: &[Control],
+    domain: &DomainName,
+    candidate: &[u8],
+    kind: ControlKind,
+) -> bool
     ensures { result ≡ list_any (λ control. kind_number control.kind == kind_number kind && control_matches domain.now candidate.now control) controls.now }
 {
     for control in controls {
@@ -129,7 +134,13 @@ pub fn control_kind(namespace: &Namespace, domain: &DomainName, candidate: &[u8]
         return reset;
     }
     let initialize = ControlKind::Initialize;
-    if unskipped(namespace, domain, candidate, initialize, ControlKind::NoInitialize) {
+    if unskipped(
+        namespace,
+        domain,
+        candidate,
+        initialize,
+        ControlKind::NoInitialize,
+    ) {
         return initialize;
     }
     if some_control(namespace, domain, candidate, ControlKind::NoKeep) {

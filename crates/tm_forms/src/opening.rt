@@ -12,9 +12,7 @@ use std::alloc::Global;
 use tm_list::{Map, NoMemory, Seq};
 use tm_policy::{apply_line, domain_at, profile_of, read_line};
 use tm_rules::bytes_equal;
-use tm_types::policy::{
-    Cursor, Domain, DomainRule, Policy, PolicyLine, Profile, ProfileEffect,
-};
+use tm_types::policy::{Cursor, Domain, DomainRule, Policy, PolicyLine, Profile, ProfileEffect};
 use tm_types::step::{EditReply, FileKind, LineFault};
 
 /// Which line of a policy file has to come.

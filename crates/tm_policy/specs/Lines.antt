@@ -206,7 +206,7 @@ unfoldable pub domain_line : Text → List Text → Result PolicyLine LineKind
 domain_line word words =
     if texts_equal word kernel
     then at_end (PolicyLine.Domain (DomainRule.Choose kernel)) words
-    else 
+    else
     (if texts_equal word (codes "use_profile")
     then use_profile_line words
     else

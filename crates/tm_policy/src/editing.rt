@@ -279,11 +279,7 @@ fn use_profile(
 
 // Adds a line to the entries of the chosen domain.
 #[tactic(auto, unfolding(tm_rules::specs::Edit::domain_line))]
-fn add_entry(
-    policy: &mut Policy,
-    cursor: Cursor,
-    line: Entry,
-) -> Result<EditReply, NoMemory>
+fn add_entry(policy: &mut Policy, cursor: Cursor, line: Entry) -> Result<EditReply, NoMemory>
     ensures done { IfOk result (λ reply. domain_line policy.old cursor (DomainRule.Acl false line) ≡ record { policy = policy.new; cursor = cursor; reply = reply }) }
     ensures kept { OnErr result (policy.new ≡ policy.old) }
     ensures few { IsFew policy.old → IsFew policy.new }

@@ -84,8 +84,13 @@ impl Rep for Plain {
     ) -> Result<LearnReply, NoMemory> {
         let place = domain as usize;
         let permissions = self.counts.as_slice()[place];
-        let (reply, permissions) =
-            learn_counted(alloc, &mut self.policy, domain, permissions, entry)?;
+        let (reply, permissions) = learn_counted(
+            alloc,
+            &mut self.policy,
+            domain,
+            permissions,
+            entry,
+        )?;
         self.counts.set(place, permissions);
         Ok(reply)
     }

@@ -32,7 +32,12 @@ pub trait Rep: Sized + Drop {
     /// Learns a line in the domain of this number, and gives the reply: `Mode` where the mode isn't learning, else `There` where the
     /// domain has the line, else `Quota` where it is full, which raises its flag `quota_exceeded`, else `Added`. The domain and its
     /// profile are there. Errors: want of memory; the policy is then as before.
-    fn apply_learn(&mut self, alloc: Global, domain: u32, entry: &Entry) -> Result<LearnReply, NoMemory>
+    fn apply_learn(
+        &mut self,
+        alloc: Global,
+        domain: u32,
+        entry: &Entry,
+    ) -> Result<LearnReply, NoMemory>
         requires few { IsFew (policy self.old) }
         requires there { IsSome (learn (policy self.old) domain entry.now) }
         ensures done { IfOk result (λ reply. learn (policy self.old) domain entry.now ≡ Some (policy self.new, reply)) }

@@ -130,7 +130,7 @@ cut_ok None word words k all = tt
 
 version_ok : (text : Text) (words : List Text) → OkIs IsEffect (version_by text words)
 version_ok [] words = tt
-version_ok (b ∷ text) words = 
+version_ok (b ∷ text) words =
     if_ok IsEffect (texts_equal (b ∷ text) (codes "20150505") || texts_equal (b ∷ text) (codes "20110903")) (at_end ProfileEffect.Version words) (Err LineKind.Version)
     (end_ok IsEffect ProfileEffect.Version words tt)
     tt

@@ -77,5 +77,5 @@ line_first ns ws rest h k =
     let p = both (not (length ns == 0)) (proper ns) h in
     let free = free_append 10 ns (spaced ws) (proper_free ns p.1) (spaced_free ws (proper_all ws k)) in
     let whole : line_text ns ws ++ rest ≡ (ns ++ spaced ws) ++ 10 ∷ rest =
-      append_assoc ns (spaced ws ++ 10 ∷ []) rest ∙ ap (λ (t : Text). ns ++ t) (append_assoc (spaced ws) (10 ∷ []) rest) ∙ sym (append_assoc ns (spaced ws) (10 ∷ rest)) in
+    append_assoc ns (spaced ws ++ 10 ∷ []) rest ∙ ap (λ (t : Text). ns ++ t) (append_assoc (spaced ws) (10 ∷ []) rest) ∙ sym (append_assoc ns (spaced ws) (10 ∷ rest)) in
     ap lines_of whole ∙ split_at 10 (ns ++ spaced ws) rest refl free

@@ -78,7 +78,7 @@ comment_words_written name n ((b ∷ w) ∷ ws) h k =
     let head = headed n (codes "COMMENT=" ++ (b ∷ w)) in
     let word : list_all is_word (head ∷ ws) ≡ true = rw (headed_word n (codes "COMMENT=" ++ (b ∷ w)) h p.1) t.1 in
     let text : line_text name (comment_words n (joined ((b ∷ w) ∷ ws))) ≡ line_text name (head ∷ ws) =
-      ap (λ (c : Text). line_text name (comment_words n c)) (joined_is (b ∷ w) ws) ∙ ap (λ (c : Text). name ++ (c ++ 10 ∷ [])) (moved n (b ∷ w) (spaced ws)) in
+    ap (λ (c : Text). line_text name (comment_words n c)) (joined_is (b ∷ w) ws) ∙ ap (λ (c : Text). name ++ (c ++ 10 ∷ [])) (moved n (b ∷ w) (spaced ws)) in
     let one = one_written name (head ∷ ws) (ProfileEffect.Comment n (joined ((b ∷ w) ∷ ws))) word (comment_again n (b ∷ w) ws h) in
     subst (λ (x : Text). Written name x (ProfileEffect.Comment n (joined ((b ∷ w) ∷ ws)) ∷ [])) (sym text) one
 
@@ -161,7 +161,7 @@ lines_read (ws ∷ wss) (e ∷ es) ns h k =
     let same = same_name e ns in
     let rest = flat_map (line_text ns.name) wss in
     let again : lines_into (lines_of rest) next ≡ Some (applied es next) =
-      ap (λ (name : Text). lines_into (lines_of (flat_map (line_text name) wss)) next) (sym same) ∙ lines_read wss es next (subst IsNamespaceWord (sym same) h) k.2 in
+    ap (λ (name : Text). lines_into (lines_of (flat_map (line_text name) wss)) next) (sym same) ∙ lines_read wss es next (subst IsNamespaceWord (sym same) h) k.2 in
     ap (λ (lines : List Text). lines_into lines ns) (line_first ns.name ws rest h.0 k.0)
     ∙ ap (λ (o : Option Namespace). option_and_then (λ after. lines_into (lines_of rest) after) o) (one_line ns ws e h k.0 k.1)
     ∙ again

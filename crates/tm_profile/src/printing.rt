@@ -92,12 +92,7 @@ fn push_word(word: &[u8], out: &mut Vec<u8>) -> Result<(), NoMemory>
 }
 
 /// Appends a limit with its key after a space, or a part of it.
-fn push_limit(
-    alloc: Global,
-    word: &[u8],
-    limit: u32,
-    out: &mut Vec<u8>,
-) -> Result<(), NoMemory>
+fn push_limit(alloc: Global, word: &[u8], limit: u32, out: &mut Vec<u8>) -> Result<(), NoMemory>
     ensures { OnOk result (out.new.items ≡ out.old.items ++ 32 ∷ (word.now ++ decimal limit)) }
 {
     push_word(word, out)?;
@@ -121,12 +116,7 @@ fn push_learning(alloc: Global, limit: u32, out: &mut Vec<u8>) -> Result<(), NoM
 }
 
 /// Appends the words of both limits and the line's end, or a part of it.
-fn push_limits(
-    alloc: Global,
-    audit: u32,
-    learning: u32,
-    out: &mut Vec<u8>,
-) -> Result<(), NoMemory>
+fn push_limits(alloc: Global, audit: u32, learning: u32, out: &mut Vec<u8>) -> Result<(), NoMemory>
     ensures { OnOk result (out.new.items ≡ out.old.items ++ (spaced (limit_words audit learning) ++ 10 ∷ [])) }
 {
     push_audit(alloc, audit, out)?;
@@ -248,11 +238,7 @@ fn push_all(
 
 /// The text of a namespace's profiles.
 #[tactic(auto, unfolding(crate::specs::Printing::profiles_text))]
-fn profiles_text(
-    alloc: Global,
-    ns: &[u8],
-    profiles: &[(u8, Profile)],
-) -> Result<Vec<u8>, NoMemory>
+fn profiles_text(alloc: Global, ns: &[u8], profiles: &[(u8, Profile)]) -> Result<Vec<u8>, NoMemory>
     ensures { IfOk result (λ text. text.items ≡ profiles_text ns.now profiles.now) }
 {
     let mut made = Vec::new(alloc);

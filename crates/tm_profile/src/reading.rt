@@ -434,11 +434,7 @@ fn cut_of(word: &[u8]) -> Option<usize>
 }
 
 /// What a line says of the profile whose number its word begins with.
-fn numbered_line(
-    alloc: Global,
-    word: &[u8],
-    words: &[Text],
-) -> Result<ProfileEffect, LineFault>
+fn numbered_line(alloc: Global, word: &[u8], words: &[Text]) -> Result<ProfileEffect, LineFault>
     ensures { Gives (λ x. x) result (numbered_by (position (λ b. b == 45) word.now) word.now words.now) }
 {
     match cut_of(word) {

@@ -44,11 +44,7 @@ pub struct Played {
 }
 
 // The run that an opening and a trace play by the default order, and the machine at its last version.
-fn run_of(
-    alloc: Global,
-    opening: &Policy,
-    trace: Trace,
-) -> Result<(Run, Machine<Plain>), NoMemory>
+fn run_of(alloc: Global, opening: &Policy, trace: Trace) -> Result<(Run, Machine<Plain>), NoMemory>
     requires few { IsFew opening.now }
     requires can { (policy : Policy) × (opening.now ≡ opened policy) × CanBePlayed policy trace }
     ensures { IfOk result (λ ended. PlaysOn opening.now trace ended.0 ended.1.policy) }
@@ -106,12 +102,7 @@ fn printed(alloc: Global, policy: &Policy) -> Result<Printed, NoMemory>
 }
 
 // The texts of a run from an opening to a last policy.
-fn texts_of(
-    alloc: Global,
-    run: &Run,
-    opening: &Policy,
-    last: &Policy,
-) -> Result<Played, NoMemory>
+fn texts_of(alloc: Global, run: &Run, opening: &Policy, last: &Policy) -> Result<Played, NoMemory>
     ensures { IfOk result (IsPrinted run.now opening.now last.now) }
 {
     let mut text = Vec::new(alloc);

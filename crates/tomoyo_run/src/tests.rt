@@ -162,7 +162,10 @@ fn a_failing_first_store_is_a_write_fault(rt: HostRuntime) -> Result<(), Fail> {
     let alloc = rt.alloc();
     let texts = files(alloc, b"<kernel>\nuse_profile 1\n", TRACE)?;
     let ended = call(alloc, "step", texts, vec![in alloc; 8]?)?;
-    assert_eq!(rt; ended.status, Status::WriteFault(OutName::File(FileName::Run)));
+    assert_eq!(rt;
+        ended.status,
+        Status::WriteFault(OutName::File(FileName::Run))
+    );
     assert!(rt; ended.line.is_empty());
     Ok(())
 }

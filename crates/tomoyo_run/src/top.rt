@@ -43,12 +43,7 @@ fn fetch_for<S: Shelf>(alloc: Global, command: Command, shelf: &mut S) -> Result
 }
 
 // What `step` stores, in order.
-fn step_stores(
-    alloc: Global,
-    run: Text,
-    audit: Text,
-    policy: Printed,
-) -> Result<FileList, NoMemory>
+fn step_stores(alloc: Global, run: Text, audit: Text, policy: Printed) -> Result<FileList, NoMemory>
     ensures { IfOk result (λ stores. (summary : Text) → stores ≡ step_stores (record { run = run; audit = audit; policy = policy; summary = summary })) }
 {
     let Printed {
