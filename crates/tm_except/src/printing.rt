@@ -269,12 +269,7 @@ fn push_acl_group(
 
 /// Appends the line of a rule, or a part of it.
 #[tactic(auto, unfolding(crate::specs::Printing::rule_words))]
-fn push_rule(
-    alloc: Global,
-    ns: &[u8],
-    rule: &ExceptRule,
-    out: &mut Vec<u8>,
-) -> Result<(), NoMemory>
+fn push_rule(alloc: Global, ns: &[u8], rule: &ExceptRule, out: &mut Vec<u8>) -> Result<(), NoMemory>
     ensures { OnOk result (out.new.items ≡ out.old.items ++ line_text ns.now (rule_words rule.now)) }
 {
     match rule {

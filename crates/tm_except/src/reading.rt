@@ -7,9 +7,7 @@ ghost use Rattle.tm_except.specs.Reading.{ended, member_word, literal_word, path
 
 use crate::sides::control_line;
 use std::alloc::Global;
-use tm_line::{
-    addr_range_word, begins, group_word, pattern_word, range_word, small_number,
-};
+use tm_line::{addr_range_word, begins, group_word, pattern_word, range_word, small_number};
 use tm_list::{Copied, NoMemory, Seq};
 use tm_namespace::{namespace_at, opens};
 use tm_number::{AddrRange, Range};
