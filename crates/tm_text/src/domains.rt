@@ -95,8 +95,7 @@ fn push_block(alloc: Global, domain: &Domain, out: &mut Vec<u8>) -> Result<(), N
     push_groups(alloc, domain.groups.as_slice(), out)?;
     push_flags(domain, out)?;
     push_entries(alloc, domain.entries.as_slice(), out)?;
-    out.push(b'\n')?;
-    Ok(())
+    push_line(b"", out)
 }
 
 /// Appends the lines of a domain that is live, or a part of them.
