@@ -63,15 +63,7 @@ step-done old new (Ends.Made texts outcome given allowed carried) tells =
     record {
       played = played;
       plays = subst (λ (ts : Texts). Plays ts played) (texts-told old.files (wants_of Command.Step) texts tells given) allowed.2;
-      stored = (
-        leaves FileName.Run ∙ stored-holds [] (drop 1 (step_stores played)) FileName.Run played.run (old.files FileName.Run) (tells FileName.Run) refl refl refl,
-        leaves FileName.Audit ∙ stored-holds (take 1 (step_stores played)) (drop 2 (step_stores played)) FileName.Audit played.audit (old.files FileName.Audit) (tells FileName.Audit) refl refl refl,
-        leaves FileName.ProfileNew ∙ stored-holds (take 2 (step_stores played)) (drop 3 (step_stores played)) FileName.ProfileNew played.policy.profile (old.files FileName.ProfileNew) (tells FileName.ProfileNew) refl refl refl,
-        leaves FileName.ExceptionPolicyNew ∙ stored-holds (take 3 (step_stores played)) (drop 4 (step_stores played)) FileName.ExceptionPolicyNew played.policy.exception (old.files FileName.ExceptionPolicyNew) (tells FileName.ExceptionPolicyNew) refl refl refl,
-        leaves FileName.DomainPolicyNew ∙ stored-holds (take 4 (step_stores played)) (drop 5 (step_stores played)) FileName.DomainPolicyNew played.policy.domain (old.files FileName.DomainPolicyNew) (tells FileName.DomainPolicyNew) refl refl refl,
-        leaves FileName.ManagerNew ∙ stored-holds (take 5 (step_stores played)) (drop 6 (step_stores played)) FileName.ManagerNew played.policy.manager (old.files FileName.ManagerNew) (tells FileName.ManagerNew) refl refl refl,
-        tt,
-      );
+      stored = (leaves FileName.Run ∙ stored-holds [] (drop 1 (step_stores played)) FileName.Run played.run (old.files FileName.Run) (tells FileName.Run) refl refl refl, (leaves FileName.Audit ∙ stored-holds (take 1 (step_stores played)) (drop 2 (step_stores played)) FileName.Audit played.audit (old.files FileName.Audit) (tells FileName.Audit) refl refl refl, (leaves FileName.ProfileNew ∙ stored-holds (take 2 (step_stores played)) (drop 3 (step_stores played)) FileName.ProfileNew played.policy.profile (old.files FileName.ProfileNew) (tells FileName.ProfileNew) refl refl refl, (leaves FileName.ExceptionPolicyNew ∙ stored-holds (take 3 (step_stores played)) (drop 4 (step_stores played)) FileName.ExceptionPolicyNew played.policy.exception (old.files FileName.ExceptionPolicyNew) (tells FileName.ExceptionPolicyNew) refl refl refl, (leaves FileName.DomainPolicyNew ∙ stored-holds (take 4 (step_stores played)) (drop 5 (step_stores played)) FileName.DomainPolicyNew played.policy.domain (old.files FileName.DomainPolicyNew) (tells FileName.DomainPolicyNew) refl refl refl, (leaves FileName.ManagerNew ∙ stored-holds (take 5 (step_stores played)) (drop 6 (step_stores played)) FileName.ManagerNew played.policy.manager (old.files FileName.ManagerNew) (tells FileName.ManagerNew) refl refl refl, tt))))));
       summary = carried.1 ∙ ap (λ (o : Outcome). then_bytes o.line old.written) allowed.3;
     }
 

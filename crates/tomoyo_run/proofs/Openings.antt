@@ -1,6 +1,7 @@
 -- A first opening and a plain trace can be played.
 use Rattle.std.proofs.Common.{◌≡◌, ℕ, zero, suc, Bool, true, false, ◌&&◌, ◌||◌, not, List, [], ◌∷◌, refl, sym, ap, ◌∙◌, subst}
 use Rattle.std.specs.Prelude.{Option, Some, None, IsSome, IsTrue, slice_get, unwrap_or}
+use Rattle.std.specs.Option.{option_map_or}
 use Rattle.std.specs.List.{AllByRecursion, list_all, position_from, find}
 use Rattle.tm_word.specs.Words.{Text, Word, Pattern}
 use Rattle.tm_types.specs.declared.policy.SlotName.{SlotName}
@@ -116,14 +117,17 @@ no_logs_of : (logs : Logs) → not (logs.grant || logs.reject) ≡ true → logs
 no_logs_of logs h = go logs.grant logs.reject refl refl h
   where
     go : (a b : Bool) → logs.grant ≡ a → logs.reject ≡ b → not (a || b) ≡ true → logs ≡ no_logs
-    go false false e f h = rw (sym e, sym f) refl
+    go false false e f h = ap (λ (a : Bool). let l : Logs = record { grant = a; reject = logs.reject } in l) e ∙ ap (λ (b : Bool). let l : Logs = record { grant = false; reject = b } in l) f
     go false true e f h = absurd cc
     go true b e f h = absurd cc
 
 -- the first domain's profile is silent
 quiet_profile : (policy : Policy) (domain : Domain) (profile : Profile) → policy.domains ≡ domain ∷ [] → has_silent_profile policy ≡ true → profile_of policy domain ≡ Some profile → is_silent_profile profile ≡ true
 unfolding has_silent_profile
-quiet_profile policy domain profile one quiet has = rw (one, has) at quiet
+quiet_profile policy domain profile one quiet has =
+    let at : has_silent_profile policy ≡ option_map_or is_silent_profile (profile_of policy domain) false = ap (λ (xs : List Domain). option_map_or (λ (d : Domain). option_map_or is_silent_profile (profile_of policy d) false) (slice_get xs 0) false) one in
+    let is : option_map_or is_silent_profile (profile_of policy domain) false ≡ is_silent_profile profile = ap (λ (o : Option Profile). option_map_or is_silent_profile o false) has in
+    sym is ∙ sym at ∙ quiet
 
 silent_profile : (policy : Policy) (first : IsFirst policy) (profile : Profile) → profile_of policy first.domain ≡ Some profile → IsSilentProfile profile
 silent_profile policy first profile has =

@@ -87,5 +87,5 @@ plays_texts texts loaded played h it =
       loads = loads texts loaded h;
       spells = h.trace_is;
       is_play = it.plays.is_play;
-      texts = λ g grammar. subst (λ (last : Policy). IsPrinted it.run (opened loaded.policy) last played) (sym (it.plays.ends g grammar)) it.texts;
+      printed = λ g grammar. subst (λ (last : Policy). IsPrinted it.run (opened loaded.policy) last played) (sym (it.plays.ends g grammar)) it.texts;
     }

@@ -9,6 +9,8 @@ use Rattle.tomoyo_run.specs.declared.status.Status.{Status}
 use Rattle.tomoyo_run.specs.declared.status.OutName.{OutName}
 use Rattle.tomoyo_run.specs.declared.fetches.Want.{Want}
 use Rattle.tomoyo_run.specs.declared.carry.Outcome.{Outcome}
+use Rattle.tm_word.specs.Words.{Text}
+use Rattle.tomoyo_run.specs.declared.play.Printed.{Printed}
 use Rattle.tomoyo_run.specs.declared.play.Played.{Played}
 use Rattle.tomoyo_run.specs.declared.words.Command.{Command}
 use Rattle.tomoyo_run.specs.Fetches.{Texts, AllGiven, FetchStops, TellsAll, told_texts, or_else, first_unread}
@@ -29,11 +31,15 @@ wants_of Command.Step =
 abbrev pub stored_by : Command → List FileName
 stored_by Command.Step = FileName.Run ∷ FileName.Audit ∷ FileName.ProfileNew ∷ FileName.ExceptionPolicyNew ∷ FileName.DomainPolicyNew ∷ FileName.ManagerNew ∷ []
 
+-- the text of a run, its audit texts and a printed policy as files, in order
+abbrev pub stores_of : Text → Text → Printed → Texts
+stores_of run audit policy =
+    (FileName.Run, run) ∷ (FileName.Audit, audit) ∷ (FileName.ProfileNew, policy.profile) ∷ (FileName.ExceptionPolicyNew, policy.exception) ∷ (FileName.DomainPolicyNew, policy.domain)
+    ∷ (FileName.ManagerNew, policy.manager) ∷ []
+
 -- what `step` stores, in order
 abbrev pub step_stores : Played → Texts
-step_stores played =
-    (FileName.Run, played.run) ∷ (FileName.Audit, played.audit) ∷ (FileName.ProfileNew, played.policy.profile) ∷ (FileName.ExceptionPolicyNew, played.policy.exception) ∷ (FileName.DomainPolicyNew, played.policy.domain)
-    ∷ (FileName.ManagerNew, played.policy.manager) ∷ []
+step_stores played = stores_of played.run played.audit played.policy
 
 -- what a command stores and puts of what was played
 abbrev pub outcome_of : Command → Played → Outcome

@@ -101,4 +101,4 @@ pub record Plays (texts : Texts) (played : Played) : Type 0 where
   pub loads : opening_of (content texts FileName.Profile) (content texts FileName.DomainPolicy) ≡ Ok opening
   pub spells : trace_of (content texts FileName.Trace) ≡ Ok trace
   pub is_play : IsPlayOf opening trace run
-  pub texts : (g : Grammar) → IsGrammar g → IsPrinted run opening (final_policy (alone g opening trace) run) played
+  pub printed : (g : Grammar) → IsGrammar g → IsPrinted run opening (final_policy (alone g opening trace) run) played

@@ -57,7 +57,8 @@ fn run_of(alloc: Global, opening: &Policy, trace: Trace) -> Result<(Run, Machine
     let machine = Machine::start(alloc, rep, Vec::new(alloc), trees, false)?;
     let player = start_play(alloc, machine, trace)?;
     let played = play_out(alloc, player, &[])?;
-    end_play(alloc, played)
+    let (run, last) = end_play(alloc, played)?;
+    Ok((run, last))
 }
 
 // Appends the audit text of a take, where it has one.
@@ -82,7 +83,7 @@ fn audits_of(alloc: Global, takes: &[Take]) -> Result<Text, NoMemory>
 }
 
 // The printed files of a policy.
-fn printed(alloc: Global, policy: &Policy) -> Result<Printed, NoMemory>
+fn print_policy(alloc: Global, policy: &Policy) -> Result<Printed, NoMemory>
     ensures { IfOk result (IsPolicyPrinted policy.now) }
 {
     let mut profile = Vec::new(alloc);
@@ -108,7 +109,7 @@ fn texts_of(alloc: Global, run: &Run, opening: &Policy, last: &Policy) -> Result
     let mut text = Vec::new(alloc);
     print_run(alloc, run, &mut text)?;
     let audit = audits_of(alloc, run.takes.as_slice())?;
-    let policy = printed(alloc, last)?;
+    let policy = print_policy(alloc, last)?;
     let summary = summary_line(alloc, run, opening, last)?;
     Ok(Played {
         run: Text::from_vec(text),

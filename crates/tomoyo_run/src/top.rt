@@ -4,9 +4,8 @@ ghost use Rattle.tm_io.specs.Files.{SameFiles};
 ghost use Rattle.tomoyo_run.specs.Fetches.{AllGiven, FetchStops};
 ghost use Rattle.tomoyo_run.specs.Ends.{outside, Ends};
 ghost use Rattle.tomoyo_run.specs.Play.{Refuses};
-ghost use Rattle.tm_word.specs.Words.{Text};
 ghost use Rattle.tomoyo_run.specs.Words.{read_words};
-ghost use Rattle.tomoyo_run.specs.Call.{wants_of, step_stores, outcome_of, Allows, CallEnds, HasCause, IsExact, IsComplete, KeepsOthers, HasPlayed};
+ghost use Rattle.tomoyo_run.specs.Call.{wants_of, stores_of, outcome_of, Allows, CallEnds, HasCause, IsExact, IsComplete, KeepsOthers, HasPlayed};
 
 use crate::carry::{Outcome, carry_out};
 use crate::fetches::{Want, fetch_all};
@@ -42,9 +41,9 @@ fn fetch_for<S: Shelf>(alloc: Global, command: Command, shelf: &mut S) -> Result
     }
 }
 
-// What `step` stores, in order.
-fn step_stores(alloc: Global, run: Text, audit: Text, policy: Printed) -> Result<FileList, NoMemory>
-    ensures { IfOk result (λ stores. (summary : Text) → stores ≡ step_stores (record { run = run; audit = audit; policy = policy; summary = summary })) }
+// The text of a run, its audit texts and a printed policy as files, in order.
+fn stores_of(alloc: Global, run: Text, audit: Text, policy: Printed) -> Result<FileList, NoMemory>
+    ensures { IfOk result (λ stores. stores ≡ stores_of run audit policy) }
 {
     let Printed {
         profile,
@@ -74,7 +73,7 @@ fn outcome_of(alloc: Global, command: Command, played: Played) -> Result<Outcome
                 policy,
                 summary,
             } = played;
-            let stores = step_stores(alloc, run, audit, policy)?;
+            let stores = stores_of(alloc, run, audit, policy)?;
             Ok(Outcome {
                 stores,
                 line: summary,
