@@ -324,7 +324,7 @@ from_solid (name ∷ more) bits mask text h k =
     let t = both (is_solid name) (list_all is_solid more) h in
     from_solid more bits (mask * 2) (perm_on bits mask name text) t.1 (on_solid bits mask name text t.0 k)
 
-names_solid : (row : Row) → list_all is_solid (names row) ≡ true
+names_solid : (acl_row : Row) → list_all is_solid (names acl_row) ≡ true
 names_solid Row.Path = refl
 names_solid Row.PathNumber = refl
 names_solid Row.Device = refl
@@ -332,7 +332,7 @@ names_solid Row.Pair = refl
 names_solid Row.Listening = refl
 names_solid Row.Sending = refl
 
-no_piece : (row : Row) (bits : ℕ) → ¬ (bits_of row 0 (pieces_of []) ≡ Some bits)
+no_piece : (acl_row : Row) (bits : ℕ) → ¬ (bits_of acl_row 0 (pieces_of []) ≡ Some bits)
 no_piece Row.Path bits e = cc
 no_piece Row.PathNumber bits e = cc
 no_piece Row.Device bits e = cc
@@ -340,12 +340,12 @@ no_piece Row.Pair bits e = cc
 no_piece Row.Listening bits e = cc
 no_piece Row.Sending bits e = cc
 
-perms_text : (row : Row) (bits : ℕ) (text : Text) → bits_of row 0 (pieces_of text) ≡ Some bits → is_solid text ≡ true → is_word text ≡ true
-perms_text row bits [] e h = absurd (no_piece row bits e)
-perms_text row bits (b ∷ text) e h = word_from b text h
+perms_text : (acl_row : Row) (bits : ℕ) (text : Text) → bits_of acl_row 0 (pieces_of text) ≡ Some bits → is_solid text ≡ true → is_word text ≡ true
+perms_text acl_row bits [] e h = absurd (no_piece acl_row bits e)
+perms_text acl_row bits (b ∷ text) e h = word_from b text h
 
-pub perms_is : (row : Row) (bits : ℕ) → is_set row bits ≡ true → is_word (perms_spelling row bits) ≡ true
-perms_is row bits h = perms_text row bits (perms_spelling row bits) (bits_again row bits h) (from_solid (names row) bits 1 [] (names_solid row) refl)
+pub perms_is : (acl_row : Row) (bits : ℕ) → is_set acl_row bits ≡ true → is_word (perms_spelling acl_row bits) ≡ true
+perms_is acl_row bits h = perms_text acl_row bits (perms_spelling acl_row bits) (bits_again acl_row bits h) (from_solid (names acl_row) bits 1 [] (names_solid acl_row) refl)
 
 -- ---- the parts of a domain name are words
 

@@ -24,11 +24,11 @@ mask_from mask (name ∷ more) piece = if texts_equal piece name then Some mask 
 
 -- the permission at place i has bit i
 abbrev pub mask_in : Row → Text → Option ℕ
-mask_in row piece = mask_from 1 (names row) piece
+mask_in acl_row piece = mask_from 1 (names acl_row) piece
 
 -- a front of a permission of the row
 abbrev pub starts_in : Row → Text → Bool
-starts_in row piece = list_any (λ name. begins piece name) (names row)
+starts_in acl_row piece = list_any (λ name. begins piece name) (names acl_row)
 
 -- what stands between the slashes of a word
 abbrev pub pieces_of : Text → List Text
@@ -41,14 +41,14 @@ with_mask (Some mask) before more = more (bit_or before mask)
 
 -- the bits of permissions of the row, beside those before
 abbrev pub bits_of : Row → ℕ → List Text → Option ℕ
-bits_of row before [] = Some before
-bits_of row before (piece ∷ pieces) = with_mask (mask_in row piece) before (λ bits. bits_of row bits pieces)
+bits_of acl_row before [] = Some before
+bits_of acl_row before (piece ∷ pieces) = with_mask (mask_in acl_row piece) before (λ bits. bits_of acl_row bits pieces)
 
 -- permissions of the row, and then a front of one
 abbrev pub finishes : Row → List Text → Bool
-finishes row [] = false
-finishes row (piece ∷ []) = starts_in row piece
-finishes row (piece ∷ next ∷ pieces) = if is_some (mask_in row piece) then finishes row (next ∷ pieces) else false
+finishes acl_row [] = false
+finishes acl_row (piece ∷ []) = starts_in acl_row piece
+finishes acl_row (piece ∷ next ∷ pieces) = if is_some (mask_in acl_row piece) then finishes acl_row (next ∷ pieces) else false
 
 -- a wrong word is an unfinished one or a wrong keyword
 abbrev pub bits_or_kind : Option ℕ → Bool → Result ℕ LineKind
@@ -57,7 +57,7 @@ bits_or_kind None unfinished = Err (keyword_kind unfinished)
 
 -- the permissions that a word writes; an unfinished list as the last word is a missing word
 unfoldable pub perms_of : Row → Text → Bool → Result ℕ LineKind
-perms_of row word last = bits_or_kind (bits_of row 0 (pieces_of word)) (last && finishes row (pieces_of word))
+perms_of acl_row word last = bits_or_kind (bits_of acl_row 0 (pieces_of word)) (last && finishes acl_row (pieces_of word))
 
 -- a permission whose bit is set joins those before
 unfoldable pub perm_on : ℕ → ℕ → Text → Text → Text
@@ -70,4 +70,4 @@ perms_from bits mask (name ∷ more) text = perms_from bits (mask * 2) more (per
 
 -- the set permissions in the row's order
 abbrev pub perms_spelling : Row → ℕ → Text
-perms_spelling row bits = perms_from bits 1 (names row) []
+perms_spelling acl_row bits = perms_from bits 1 (names acl_row) []

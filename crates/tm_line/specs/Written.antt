@@ -59,4 +59,4 @@ is_address (AddrUnion.Group group) = is_group group
 
 -- one permission of the row or more, and no bit past them
 abbrev pub is_set : Row → ℕ → Bool
-is_set row bits = nat_lt 0 bits && nat_lt bits (2 ^ length (names row))
+is_set acl_row bits = nat_lt 0 bits && nat_lt bits (2 ^ length (names acl_row))

@@ -45,8 +45,8 @@ pub fn round_trip()
     ensures address_read { (text : Text) (n : AddrUnion) → address_word text ≡ Ok n → is_address n ≡ true }
     ensures plain { (limit n : ℕ) → n < limit → n < 2 ^ 64 → plain_word limit (decimal n) ≡ Ok n }
     ensures plain_read { (limit : ℕ) (text : Text) (n : ℕ) → plain_word limit text ≡ Ok n → n < limit }
-    ensures perms { (row : Row) (bits : ℕ) (last : Bool) → is_set row bits ≡ true → perms_of row (perms_spelling row bits) last ≡ Ok bits }
-    ensures perms_read { (row : Row) (word : Text) (last : Bool) (bits : ℕ) → perms_of row word last ≡ Ok bits → is_set row bits ≡ true }
+    ensures perms { (acl_row : Row) (bits : ℕ) (last : Bool) → is_set acl_row bits ≡ true → perms_of acl_row (perms_spelling acl_row bits) last ≡ Ok bits }
+    ensures perms_read { (acl_row : Row) (word : Text) (last : Bool) (bits : ℕ) → perms_of acl_row word last ≡ Ok bits → is_set acl_row bits ≡ true }
     ensures domain { (name : DomainName) (more : List Text) → is_domain_name is_path name ≡ true → ends_domain more ≡ true → domain_at (domain_parts name ++ more) ≡ Ok (name, more) }
     ensures domain_read { (words : List Text) (name : DomainName) (rest : List Text) → domain_at words ≡ Ok (name, rest) → is_domain_name is_path name ≡ true }
     ensures to_end { (name : DomainName) → is_domain_name is_path name ≡ true → domain_to_end (domain_parts name) ≡ Ok name }
@@ -62,7 +62,7 @@ pub fn printed_words()
     ensures name { (n : NameUnion) → is_name n ≡ true → is_word (name_spelling n) ≡ true }
     ensures number { (n : NumberUnion) → is_number n ≡ true → is_word (number_spelling n) ≡ true }
     ensures address { (n : AddrUnion) → is_address n ≡ true → is_word (address_spelling n) ≡ true }
-    ensures perms { (row : Row) (bits : ℕ) → is_set row bits ≡ true → is_word (perms_spelling row bits) ≡ true }
+    ensures perms { (acl_row : Row) (bits : ℕ) → is_set acl_row bits ≡ true → is_word (perms_spelling acl_row bits) ≡ true }
     ensures path { (text : Text) → is_path text ≡ true → is_word text ≡ true }
     ensures domain { (name : DomainName) → is_domain_name is_path name ≡ true → list_all is_word (domain_parts name) ≡ true }
 {}

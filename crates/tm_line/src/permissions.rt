@@ -152,10 +152,10 @@ fn mask_sending(piece: &[u8]) -> Option<u16>
 }
 
 /// The bit of a permission of the row: bit i for the one at place i.
-pub fn mask_in(row: Row, piece: &[u8]) -> Option<u16>
-    ensures { result ≡ mask_in row piece.now }
+pub fn mask_in(acl_row: Row, piece: &[u8]) -> Option<u16>
+    ensures { result ≡ mask_in acl_row piece.now }
 {
-    match row {
+    match acl_row {
         Row::Path => mask_path(piece),
         Row::PathNumber => mask_path_number(piece),
         Row::Device => mask_device(piece),
@@ -195,10 +195,10 @@ fn starts_path_number(piece: &[u8]) -> bool
 }
 
 /// Whether a text is a front of a permission of the row, or one.
-pub fn starts_in(row: Row, piece: &[u8]) -> bool
-    ensures { result ≡ starts_in row piece.now }
+pub fn starts_in(acl_row: Row, piece: &[u8]) -> bool
+    ensures { result ≡ starts_in acl_row piece.now }
 {
-    match row {
+    match acl_row {
         Row::Path => starts_path(piece),
         Row::PathNumber => starts_path_number(piece),
         Row::Device => begins(piece, b"mkblock") || begins(piece, b"mkchar"),
@@ -223,12 +223,12 @@ pub fn pieces_of(alloc: Global, word: &[u8]) -> Result<Vec<Text>, NoMemory>
     Ok(made)
 }
 
-fn bits_of(row: Row, pieces: &[Text]) -> Option<u16>
-    ensures { result ≡ bits_of row 0 pieces.now }
+fn bits_of(acl_row: Row, pieces: &[Text]) -> Option<u16>
+    ensures { result ≡ bits_of acl_row 0 pieces.now }
 {
     let mut bits = 0u16;
     for piece in pieces {
-        match mask_in(row, piece.bytes()) {
+        match mask_in(acl_row, piece.bytes()) {
             Some(mask) => bits |= mask,
             None => return None,
         }
@@ -236,15 +236,15 @@ fn bits_of(row: Row, pieces: &[Text]) -> Option<u16>
     Some(bits)
 }
 
-fn finishes(row: Row, pieces: &[Text]) -> bool
-    ensures { result ≡ finishes row pieces.now }
+fn finishes(acl_row: Row, pieces: &[Text]) -> bool
+    ensures { result ≡ finishes acl_row pieces.now }
 {
     match pieces {
         [] => false,
-        [piece] => starts_in(row, piece.bytes()),
+        [piece] => starts_in(acl_row, piece.bytes()),
         [piece, rest @ ..] => {
-            if mask_in(row, piece.bytes()).is_some() {
-                finishes(row, rest)
+            if mask_in(acl_row, piece.bytes()).is_some() {
+                finishes(acl_row, rest)
             } else {
                 false
             }
@@ -256,14 +256,14 @@ fn finishes(row: Row, pieces: &[Text]) -> bool
 ///
 /// Errors: `Arity` where the last word is an unfinished list, else `Keyword` where a piece of the word is no permission of the row.
 #[tactic(auto, unfolding(crate::specs::Permissions::perms_of))]
-pub fn read_perms(alloc: Global, row: Row, word: &[u8], last: bool) -> Result<u16, LineFault>
-    ensures { Gives (λ bits. bits) result (perms_of row word.now last) }
+pub fn read_perms(alloc: Global, acl_row: Row, word: &[u8], last: bool) -> Result<u16, LineFault>
+    ensures { Gives (λ bits. bits) result (perms_of acl_row word.now last) }
 {
     let pieces = pieces_of(alloc, word)?;
-    match bits_of(row, &pieces) {
+    match bits_of(acl_row, &pieces) {
         Some(bits) => Ok(bits),
         None => {
-            if last && finishes(row, &pieces) {
+            if last && finishes(acl_row, &pieces) {
                 Err(LineFault::Kind(LineKind::Arity))
             } else {
                 Err(LineFault::Kind(LineKind::Keyword))
@@ -357,10 +357,10 @@ fn sending_text(alloc: Global, bits: u16) -> Result<Vec<u8>, NoMemory>
     Ok(text)
 }
 
-fn perms_text(alloc: Global, row: Row, bits: u16) -> Result<Vec<u8>, NoMemory>
-    ensures { IfOk result (λ text. text.items ≡ perms_spelling row bits) }
+fn perms_text(alloc: Global, acl_row: Row, bits: u16) -> Result<Vec<u8>, NoMemory>
+    ensures { IfOk result (λ text. text.items ≡ perms_spelling acl_row bits) }
 {
-    match row {
+    match acl_row {
         Row::Path => path_text(alloc, bits),
         Row::PathNumber => path_number_text(alloc, bits),
         Row::Device => device_text(alloc, bits),
@@ -371,10 +371,15 @@ fn perms_text(alloc: Global, row: Row, bits: u16) -> Result<Vec<u8>, NoMemory>
 }
 
 /// Appends the permissions of a row in its order, joined by `/`. After want of memory `out` is as before.
-pub fn print_perms(alloc: Global, row: Row, bits: u16, out: &mut Vec<u8>) -> Result<(), NoMemory>
-    ensures ok { OnOk result (out.new.items ≡ out.old.items ++ perms_spelling row bits) }
+pub fn print_perms(
+    alloc: Global,
+    acl_row: Row,
+    bits: u16,
+    out: &mut Vec<u8>,
+) -> Result<(), NoMemory>
+    ensures ok { OnOk result (out.new.items ≡ out.old.items ++ perms_spelling acl_row bits) }
     ensures err { OnErr result (out.new.items ≡ out.old.items) }
 {
-    let text = perms_text(alloc, row, bits)?;
+    let text = perms_text(alloc, acl_row, bits)?;
     out.extend_from_slice(&text)
 }

@@ -120,7 +120,7 @@ mod tests {
     #[test]
     fn permissions_printed(rt: HostRuntime) -> Result<(), LineFault> {
         let alloc = rt.alloc();
-        for (row, word, text) in [
+        for (acl_row, word, text) in [
             (Row::Path, "unmount/read/execute", "execute/read/unmount"),
             (Row::PathNumber, "chgrp/create/chgrp", "create/chgrp"),
             (Row::Device, "mkchar", "mkchar"),
@@ -128,9 +128,9 @@ mod tests {
             (Row::Listening, "connect/listen", "listen/connect"),
             (Row::Sending, "send/bind", "bind/send"),
         ] {
-            let bits = read_perms(alloc, row, word.as_bytes(), false)?;
+            let bits = read_perms(alloc, acl_row, word.as_bytes(), false)?;
             let mut out = Vec::new(alloc);
-            print_perms(alloc, row, bits, &mut out)?;
+            print_perms(alloc, acl_row, bits, &mut out)?;
             assert_eq!(rt; out.as_slice(), text.as_bytes(), "at {word}");
         }
         Ok(())
