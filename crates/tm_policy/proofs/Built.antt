@@ -10,7 +10,9 @@ use Rattle.tm_types.specs.declared.policy.DomainRule.{DomainRule}
 use Rattle.tm_types.specs.declared.step.FileKind.{FileKind}
 use Rattle.tm_rules.specs.Equality.{texts_equal}
 use Rattle.tm_rules.specs.Policy.{kernel}
-use Rattle.tm_policy.specs.Lines.{◌>>=◌, word_at, keyword_at, at_end, numbered, after_number, mode_word, log_word, setting, count_after, preference_line, numbered_line, perms_word, name_word, profile_number, kernel_profile, path_entry, config_line, profile_line, use_profile_line, file_line, domain_line, read_words, read_line, is_built}
+use Rattle.tm_line.specs.Lines.{◌>>=◌}
+use Rattle.tm_entry.specs.Entries.{entry_of}
+use Rattle.tm_policy.specs.Lines.{word_at, keyword_at, at_end, numbered, after_number, mode_word, log_word, setting, count_after, preference_line, numbered_line, profile_number, kernel_profile, config_line, profile_line, entry_line, use_profile_line, domain_line, read_words, read_line, is_built}
 
 -- the line that this gives is built
 abbrev Builds : Result PolicyLine LineKind → Type 0
@@ -62,17 +64,14 @@ use-built : (words : List Text) → Builds (use_profile_line words)
 unfolding use_profile_line
 use-built words = after (word_at profile_number words) _ (λ number. ending (PolicyLine.Domain (DomainRule.UseProfile number.0)) number.1 refl)
 
-file-built : (words : List Text) → Builds (file_line words)
-unfolding file_line
-file-built words =
-    after (word_at perms_word words) _ (λ perms.
-    after (word_at name_word perms.1) _ (λ name. ending (PolicyLine.Domain (DomainRule.Acl false (path_entry name.0 perms.0))) name.1 refl))
+entry-built : (words : List Text) → Builds (entry_line words)
+unfolding entry_line
+entry-built words = after (entry_of words) _ (λ entry. ending (PolicyLine.Domain (DomainRule.Acl false entry)) [] refl)
 
 domain-built : (word : Text) (words : List Text) → Builds (domain_line word words)
 unfolding domain_line
 domain-built word words =
-    let files = either (texts_equal word (codes "file")) (file_line words) (Err LineKind.Keyword) (file-built words) (failed LineKind.Keyword) in
-    let quotas = either (texts_equal word (codes "quota_exceeded")) (at_end (PolicyLine.Domain (DomainRule.QuotaExceeded false)) words) _ (ending (PolicyLine.Domain (DomainRule.QuotaExceeded false)) words refl) files in
+    let quotas = either (texts_equal word (codes "quota_exceeded")) (at_end (PolicyLine.Domain (DomainRule.QuotaExceeded false)) words) (entry_line (word ∷ words)) (ending (PolicyLine.Domain (DomainRule.QuotaExceeded false)) words refl) (entry-built (word ∷ words)) in
     let uses = either (texts_equal word (codes "use_profile")) (use_profile_line words) _ (use-built words) quotas in
     either (texts_equal word kernel) (at_end (PolicyLine.Domain (DomainRule.Choose kernel)) words) _ (ending (PolicyLine.Domain (DomainRule.Choose kernel)) words refl) uses
 

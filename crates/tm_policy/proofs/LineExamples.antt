@@ -1,11 +1,13 @@
 -- worked examples of lines
-use Rattle.std.proofs.Common.{◌≡◌, false, Ok, Err, refl}
+use Rattle.std.proofs.Common.{◌≡◌, ℕ, false, [], None, Ok, Err, refl}
 use Rattle.std.specs.Prelude.{codes}
 use Rattle.tm_word.specs.Spelling.{words_of}
-use Rattle.tm_word.specs.Printing.{is_literal, literal}
+use Rattle.tm_word.specs.Printing.{literal}
 use Rattle.tm_number.specs.Numbers.{value_of, number_of}
 use Rattle.tm_pattern.specs.Tokens.{token_at}
-use Rattle.tm_pattern.specs.Reading.{step, ended, parsed, pattern_of}
+use Rattle.tm_pattern.specs.Reading.{step, ended, parsed, pattern_of, word_of}
+use Rattle.tm_types.specs.declared.entry.Args.{Args}
+use Rattle.tm_types.specs.declared.entry.Entry.{Entry}
 use Rattle.tm_types.specs.declared.entry.LineKind.{LineKind}
 use Rattle.tm_types.specs.declared.unions.NameUnion.{NameUnion}
 use Rattle.tm_types.specs.declared.policy.DomainRule.{DomainRule}
@@ -14,7 +16,13 @@ use Rattle.tm_types.specs.declared.policy.PolicyLine.{PolicyLine}
 use Rattle.tm_types.specs.declared.policy.ProfileEffect.{ProfileEffect}
 use Rattle.tm_types.specs.declared.step.FileKind.{FileKind}
 use Rattle.tm_rules.specs.Policy.{kernel}
-use Rattle.tm_policy.specs.Lines.{kernel_profile, setting, path_entry, perms_word, name_word, numbered_line, after_number, preference_line, config_line, profile_line, use_profile_line, file_line, domain_line, read_words, read_line}
+use Rattle.tm_line.specs.Permissions.{perms_of}
+use Rattle.tm_line.specs.Arguments.{group_word, pattern_word, name_word, name_at}
+use Rattle.tm_file.specs.FileLines.{row_of, args_at, row_line, perms_line, file_line}
+use Rattle.tm_file.specs.Preferences.{path_at}
+use Rattle.tm_cond.specs.Reading.{sides, clause_word, log_word, cond_from, cond_of}
+use Rattle.tm_entry.specs.Entries.{acl_line, entry_of}
+use Rattle.tm_policy.specs.Lines.{kernel_profile, setting, numbered_line, after_number, preference_line, config_line, profile_line, entry_line, use_profile_line, domain_line, read_words, read_line}
 
 pub empty : read_line FileKind.Manager (codes "  ") ≡ Ok PolicyLine.Nothing
 unfolding read_line words_of read_words
@@ -46,16 +54,25 @@ pub profile : read_line FileKind.Domain (codes "use_profile 255") ≡ Ok (Policy
 unfolding read_line words_of read_words domain_line use_profile_line number_of value_of
 profile = refl
 
+-- an entry of single paths without conditions
+abbrev path_entry : NameUnion → ℕ → Entry
+path_entry name bits = record { args = Args.Path name; perms = record { bits = bits }; cond = record { clauses = []; grant_log = None } }
+
 pub file : read_line FileKind.Domain (codes "file write/read /a") ≡ Ok (PolicyLine.Domain (DomainRule.Acl false (path_entry (NameUnion.One (literal (codes "/a"))) 6)))
-unfolding read_line words_of read_words domain_line file_line perms_word name_word pattern_of parsed step ended token_at is_literal literal
+unfolding read_line words_of read_words domain_line entry_line entry_of acl_line file_line perms_line row_line row_of perms_of args_at path_at name_at name_word pattern_word pattern_of parsed step ended token_at literal cond_of cond_from
 file = refl
 
--- a name of a group is no literal
-pub no_group : read_line FileKind.Domain (codes "file read @a") ≡ Err LineKind.Keyword
-unfolding read_line words_of read_words domain_line file_line perms_word name_word
-no_group = refl
+-- a name of a group
+pub group : read_line FileKind.Domain (codes "file read @a") ≡ Ok (PolicyLine.Domain (DomainRule.Acl false (path_entry (NameUnion.Group (codes "a")) 2)))
+unfolding read_line words_of read_words domain_line entry_line entry_of acl_line file_line perms_line row_line row_of perms_of args_at path_at name_at name_word group_word word_of pattern_of parsed step ended token_at cond_of cond_from
+group = refl
 
--- nor is a pattern
-pub no_pattern : read_line FileKind.Domain (codes "file read /\\*") ≡ Err LineKind.Keyword
-unfolding read_line words_of read_words domain_line file_line perms_word name_word pattern_of parsed step ended token_at is_literal
-no_pattern = refl
+-- a line that begins with no word of the file is judged as an entry: its name is missing
+pub no_name : read_line FileKind.Domain (codes "file read") ≡ Err LineKind.Arity
+unfolding read_line words_of read_words domain_line entry_line entry_of acl_line file_line perms_line row_line row_of perms_of args_at path_at name_at
+no_name = refl
+
+-- and what stands after its name is a condition
+pub no_condition : read_line FileKind.Domain (codes "file read @a x") ≡ Err LineKind.Condition
+unfolding read_line words_of read_words domain_line entry_line entry_of acl_line file_line perms_line row_line row_of perms_of args_at path_at name_at name_word group_word word_of pattern_of parsed step ended token_at cond_of cond_from log_word clause_word sides
+no_condition = refl

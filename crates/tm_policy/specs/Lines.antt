@@ -1,44 +1,23 @@
 -- Reading a policy line: the forms built so far. Every other line is read by later stages, and until then is a bad keyword.
-use Rattle.std.specs.Prelude.{◌≡◌, ℕ, ◌==◌, nat_lt, ◌&&◌, not, if◌then◌else◌, Bool, true, false, List, [], ◌∷◌, take, drop, length, Option, Some, None, Result, Ok, Err, bit_or, codes}
-use Rattle.std.specs.List.{position, slice_split}
-use Rattle.tm_word.specs.Words.{Text, Pattern}
+use Rattle.std.specs.Prelude.{ℕ, ◌==◌, nat_lt, ◌&&◌, not, if◌then◌else◌, Bool, true, false, List, [], ◌∷◌, take, drop, length, Option, Some, None, Result, Ok, Err, codes}
+use Rattle.std.specs.List.{position}
+use Rattle.tm_word.specs.Words.{Text}
 use Rattle.tm_word.specs.Spelling.{words_of}
-use Rattle.tm_word.specs.Printing.{is_literal}
 use Rattle.tm_number.specs.declared.Base.{Base}
 use Rattle.tm_number.specs.declared.Number.{Number}
 use Rattle.tm_number.specs.declared.text.NumberFault.{NumberFault}
 use Rattle.tm_number.specs.Numbers.{number_of, same_base}
-use Rattle.tm_pattern.specs.declared.reading.PatternFault.{PatternFault}
-use Rattle.tm_pattern.specs.Reading.{pattern_of}
-use Rattle.tm_types.specs.declared.entry.Args.{Args}
-use Rattle.tm_types.specs.declared.entry.Entry.{Entry}
 use Rattle.tm_types.specs.declared.entry.LineKind.{LineKind}
-use Rattle.tm_types.specs.declared.unions.NameUnion.{NameUnion}
 use Rattle.tm_types.specs.declared.policy.DomainRule.{DomainRule}
 use Rattle.tm_types.specs.declared.policy.Mode.{Mode}
 use Rattle.tm_types.specs.declared.policy.PolicyLine.{PolicyLine}
 use Rattle.tm_types.specs.declared.policy.ProfileEffect.{ProfileEffect}
 use Rattle.tm_types.specs.declared.policy.Setting.{Setting}
 use Rattle.tm_types.specs.declared.step.FileKind.{FileKind}
-use Rattle.tm_types.specs.declared.step.LineFault.{LineFault}
 use Rattle.tm_rules.specs.Equality.{texts_equal}
 use Rattle.tm_rules.specs.Policy.{kernel}
-
--- a fault is the kind that reading gives, unless memory ran out
-abbrev pub Fails : {Y : Type 0} → LineFault → Result Y LineKind → Type 0
-Fails LineFault.NoMemory read = Unit {0}
-Fails (LineFault.Kind kind) read = read ≡ Err kind
-
--- what a call returned, seen by view, is what reading gives, unless memory ran out
-abbrev pub Gives : {X Y : Type 0} → (X → Y) → Result X LineFault → Result Y LineKind → Type 0
-Gives view (Ok x) read = read ≡ Ok (view x)
-Gives view (Err fault) read = Fails fault read
-
-infixl 10 ◌>>=◌
--- the next step, unless one before it failed
-abbrev pub ◌>>=◌ : {A B : Type 0} → Result A LineKind → (A → Result B LineKind) → Result B LineKind
-(Ok x) >>= f = f x
-(Err kind) >>= f = Err kind
+use Rattle.tm_line.specs.Lines.{◌>>=◌}
+use Rattle.tm_entry.specs.Entries.{entry_of}
 
 -- Steps, each with the words that are left
 
@@ -151,49 +130,9 @@ profile_line word words = if texts_equal word (codes "PROFILE_VERSION=20150505")
 
 -- Domain lines
 
--- the permission of a word: read stands at place 1, write at 2, append at 3, getattr at 5
-abbrev pub mask : Text → Result ℕ LineKind
-mask piece =
-    if texts_equal piece (codes "read")
-    then Ok 2
-    else
-    (if texts_equal piece (codes "write")
-    then Ok 4
-    else (if texts_equal piece (codes "append") then Ok 8 else (if texts_equal piece (codes "getattr") then Ok 32 else Err LineKind.Keyword)))
-
--- these permissions and those of the words
-abbrev pub bits_after : ℕ → List Text → Result ℕ LineKind
-bits_after bits [] = Ok bits
-bits_after bits (piece ∷ pieces) = mask piece >>= λ more. bits_after (bit_or bits more) pieces
-
--- permissions joined by `/`, in any order
-unfoldable pub perms_word : Text → Result ℕ LineKind
-perms_word word = bits_after 0 (slice_split (λ b. b == 47) word)
-
--- a name of a group begins with `@`
-abbrev pub is_group : Text → Bool
-is_group [] = false
-is_group (b ∷ rest) = b == 64
-
--- a pattern that stands for one name
-abbrev pub literal_name : Result Pattern PatternFault → Result NameUnion LineKind
-literal_name (Ok pattern) = if is_literal pattern then Ok (NameUnion.One pattern) else Err LineKind.Keyword
-literal_name (Err fault) = Err LineKind.Keyword
-
--- the literal that a word writes
-unfoldable pub name_word : Text → Result NameUnion LineKind
-name_word word = if is_group word then Err LineKind.Keyword else literal_name (pattern_of word)
-
--- an entry of the row of single paths, without conditions
-abbrev pub path_entry : NameUnion → ℕ → Entry
-path_entry name bits = record { args = Args.Path name; perms = record { bits = bits }; cond = record { clauses = []; grant_log = None } }
-
--- the words after `file`: permissions and a name
-unfoldable pub file_line : List Text → Result PolicyLine LineKind
-file_line words = do
-  perms ← word_at perms_word words
-  name ← word_at name_word perms.1
-  at_end (PolicyLine.Domain (DomainRule.Acl false (path_entry name.0 perms.0))) name.1
+-- an entry of any row with its conditions, which is added
+unfoldable pub entry_line : List Text → Result PolicyLine LineKind
+entry_line words = entry_of words >>= λ entry. Ok (PolicyLine.Domain (DomainRule.Acl false entry))
 
 -- the word after `use_profile`
 unfoldable pub use_profile_line : List Text → Result PolicyLine LineKind
@@ -201,7 +140,7 @@ use_profile_line words = do
   number ← word_at profile_number words
   at_end (PolicyLine.Domain (DomainRule.UseProfile number.0)) number.1
 
--- `<kernel>`, `use_profile N`, `quota_exceeded`, or `file PERMISSIONS NAME`
+-- `<kernel>`, `use_profile N`, `quota_exceeded`, or an entry
 unfoldable pub domain_line : Text → List Text → Result PolicyLine LineKind
 domain_line word words =
     if texts_equal word kernel
@@ -212,7 +151,7 @@ domain_line word words =
     else
     (if texts_equal word (codes "quota_exceeded")
     then at_end (PolicyLine.Domain (DomainRule.QuotaExceeded false)) words
-    else (if texts_equal word (codes "file") then file_line words else Err LineKind.Keyword)))
+    else entry_line (word ∷ words)))
 
 -- Lines
 

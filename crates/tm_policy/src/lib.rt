@@ -21,3 +21,4 @@ pub use lines::read_line;
 pub use plain::Plain;
 pub use rep::Rep;
 pub use searching::search;
+pub use tm_entry::{print_entry, read_entry};

@@ -1,17 +1,17 @@
 //! Reading a policy line: the forms built so far.
 ghost use Rattle.std.specs.Prelude.{◌≡◌, ◌==◌, ◌∷◌, IfOk};
-ghost use Rattle.std.specs.List.{position, slice_split};
-ghost use Rattle.tm_policy.specs.Lines.{Gives, word_at, keyword_at, at_end, profile_number, numbered, after_number, mode_word, log_word, kernel_profile, config_line, count_after, preference_line, numbered_line, profile_line, mask, bits_after, perms_word, is_group, name_word, path_entry, file_line, use_profile_line, domain_line, read_words, read_line};
+ghost use Rattle.std.specs.List.{position};
+ghost use Rattle.tm_line.specs.Lines.{Gives};
+ghost use Rattle.tm_policy.specs.Lines.{word_at, keyword_at, at_end, profile_number, numbered, after_number, mode_word, log_word, kernel_profile, config_line, count_after, preference_line, numbered_line, profile_line, entry_line, use_profile_line, domain_line, read_words, read_line};
 
 use std::alloc::Global;
+use tm_entry::read_entry;
 use tm_list::{NoMemory, Seq};
 use tm_number::{Base, read_number};
-use tm_pattern::{PatternFault, is_literal, read_pattern};
 use tm_rules::bytes_equal;
-use tm_types::entry::{Args, Cond, Entry, LineKind, Perms};
+use tm_types::entry::LineKind;
 use tm_types::policy::{DomainRule, Mode, PolicyLine, ProfileEffect, ProfileLine, Setting};
 use tm_types::step::{FileKind, LineFault};
-use tm_types::unions::NameUnion;
 use tm_word::{Text, normal_words};
 
 // The words after a keyword.
@@ -262,129 +262,13 @@ fn profile_line(
     }
 }
 
-// The permission of a word.
-fn mask(piece: &[u8]) -> Result<u16, LineFault>
-    ensures { Gives (λ x. x) result (mask piece.now) }
+// The line of an entry with its conditions, which is added.
+#[tactic(auto, unfolding(crate::specs::Lines::entry_line))]
+fn entry_line(alloc: Global, words: &[Text]) -> Result<PolicyLine, LineFault>
+    ensures { Gives (λ x. x) result (entry_line words.now) }
 {
-    if bytes_equal(piece, b"read") {
-        return Ok(2);
-    }
-    if bytes_equal(piece, b"write") {
-        return Ok(4);
-    }
-    if bytes_equal(piece, b"append") {
-        return Ok(8);
-    }
-    if bytes_equal(piece, b"getattr") {
-        return Ok(32);
-    }
-    Err(LineFault::Kind(LineKind::Keyword))
-}
-
-// What stands between the slashes of a word.
-fn pieces_of(alloc: Global, word: &[u8]) -> Result<Vec<Text>, NoMemory>
-    ensures { IfOk result (λ pieces. pieces.items ≡ slice_split (λ b. b == 47) word.now) }
-{
-    let mut made = Vec::new(alloc);
-    for piece in word.split(|byte| *byte == b'/') {
-        made.push(Seq::from_bytes(alloc, piece)?)?;
-    }
-    Ok(made)
-}
-
-// The permissions of these words.
-fn bits_of(pieces: &[Text]) -> Result<u16, LineFault>
-    ensures { Gives (λ x. x) result (bits_after 0 pieces.now) }
-{
-    let mut bits = 0u16;
-    for piece in pieces {
-        bits |= mask(piece.bytes())?;
-    }
-    Ok(bits)
-}
-
-#[tactic(auto, unfolding(crate::specs::Lines::perms_word))]
-fn perms_word(alloc: Global, word: &[u8]) -> Result<u16, LineFault>
-    ensures { Gives (λ x. x) result (perms_word word.now) }
-{
-    let pieces = pieces_of(alloc, word)?;
-    bits_of(pieces.as_slice())
-}
-
-fn perms_at(alloc: Global, words: &[Text]) -> Result<(u16, &[Text]), LineFault>
-    ensures { Gives (λ x. (x.0, x.1.now)) result (word_at perms_word words.now) }
-{
-    match words {
-        [] => Err(LineFault::Kind(LineKind::Keyword)),
-        [word, rest @ ..] => Ok((perms_word(alloc, word.bytes())?, rest)),
-    }
-}
-
-fn is_group(word: &[u8]) -> bool
-    ensures { result ≡ is_group word.now }
-{
-    match word {
-        [] => false,
-        [byte, ..] => *byte == b'@',
-    }
-}
-
-// The literal that a word writes.
-#[tactic(auto, unfolding(crate::specs::Lines::name_word))]
-fn name_word(alloc: Global, word: &[u8]) -> Result<NameUnion, LineFault>
-    ensures { Gives (λ x. x) result (name_word word.now) }
-{
-    if is_group(word) {
-        return Err(LineFault::Kind(LineKind::Keyword));
-    }
-    match read_pattern(alloc, word) {
-        Ok(pattern) => {
-            if is_literal(&pattern) {
-                Ok(NameUnion::One(pattern))
-            } else {
-                Err(LineFault::Kind(LineKind::Keyword))
-            }
-        }
-        Err(PatternFault::BadElement(_)) => Err(LineFault::Kind(LineKind::Keyword)),
-        Err(PatternFault::LoneBrace(_)) => Err(LineFault::Kind(LineKind::Keyword)),
-        Err(PatternFault::EmptyPart(_)) => Err(LineFault::Kind(LineKind::Keyword)),
-        Err(PatternFault::NoMemory) => Err(LineFault::NoMemory),
-    }
-}
-
-fn name_at(alloc: Global, words: &[Text]) -> Result<(NameUnion, &[Text]), LineFault>
-    ensures { Gives (λ x. (x.0, x.1.now)) result (word_at name_word words.now) }
-{
-    match words {
-        [] => Err(LineFault::Kind(LineKind::Keyword)),
-        [word, rest @ ..] => Ok((name_word(alloc, word.bytes())?, rest)),
-    }
-}
-
-// An entry of the row of single paths, without conditions.
-fn path_entry(alloc: Global, name: NameUnion, bits: u16) -> Entry
-    ensures { result ≡ path_entry name bits }
-{
-    Entry {
-        args: Args::Path(name),
-        perms: Perms { bits },
-        cond: Cond {
-            clauses: Seq::new(alloc),
-            grant_log: None,
-        },
-    }
-}
-
-#[tactic(auto, unfolding(crate::specs::Lines::file_line))]
-fn file_line(alloc: Global, words: &[Text]) -> Result<PolicyLine, LineFault>
-    ensures { Gives (λ x. x) result (file_line words.now) }
-{
-    let (bits, rest) = perms_at(alloc, words)?;
-    let (name, rest) = name_at(alloc, rest)?;
-    at_end(
-        PolicyLine::Domain(DomainRule::Acl(false, path_entry(alloc, name, bits))),
-        rest,
-    )
+    let entry = read_entry(alloc, words)?;
+    Ok(PolicyLine::Domain(DomainRule::Acl(false, entry)))
 }
 
 #[tactic(auto, unfolding(crate::specs::Lines::use_profile_line))]
@@ -396,23 +280,26 @@ fn use_profile_line(words: &[Text]) -> Result<PolicyLine, LineFault>
 }
 
 #[tactic(auto, unfolding(crate::specs::Lines::domain_line))]
-fn domain_line(alloc: Global, word: &[u8], words: &[Text]) -> Result<PolicyLine, LineFault>
-    ensures { Gives (λ x. x) result (domain_line word.now words.now) }
+fn domain_line(
+    alloc: Global,
+    word: &[u8],
+    rest: &[Text],
+    words: &[Text],
+) -> Result<PolicyLine, LineFault>
+    requires { words.now ≡ word.now ∷ rest.now }
+    ensures { Gives (λ x. x) result (domain_line word.now rest.now) }
 {
     if bytes_equal(word, b"<kernel>") {
         let name = Seq::from_bytes(alloc, b"<kernel>")?;
-        return at_end(PolicyLine::Domain(DomainRule::Choose(name)), words);
+        return at_end(PolicyLine::Domain(DomainRule::Choose(name)), rest);
     }
     if bytes_equal(word, b"use_profile") {
-        return use_profile_line(words);
+        return use_profile_line(rest);
     }
     if bytes_equal(word, b"quota_exceeded") {
-        return at_end(PolicyLine::Domain(DomainRule::QuotaExceeded(false)), words);
+        return at_end(PolicyLine::Domain(DomainRule::QuotaExceeded(false)), rest);
     }
-    if bytes_equal(word, b"file") {
-        return file_line(alloc, words);
-    }
-    Err(LineFault::Kind(LineKind::Keyword))
+    entry_line(alloc, words)
 }
 
 #[tactic(auto, unfolding(crate::specs::Lines::read_words))]
@@ -424,7 +311,7 @@ fn read_words(alloc: Global, file: FileKind, words: &[Text]) -> Result<PolicyLin
         [word, rest @ ..] => match file {
             FileKind::Profile => profile_line(alloc, word.bytes(), rest, words),
             FileKind::Exception => Err(LineFault::Kind(LineKind::Keyword)),
-            FileKind::Domain => domain_line(alloc, word.bytes(), rest),
+            FileKind::Domain => domain_line(alloc, word.bytes(), rest, words),
             FileKind::Manager => Err(LineFault::Kind(LineKind::Keyword)),
         },
     }
@@ -432,10 +319,11 @@ fn read_words(alloc: Global, file: FileKind, words: &[Text]) -> Result<PolicyLin
 
 /// Reads a line of a policy file, in the forms built so far: a line without words in every file; `PROFILE_VERSION=20150505` and
 /// `N-CONFIG={ mode=M grant_log=Y reject_log=Y }` and `N-PREFERENCE={ max_audit_log=K max_learning_entry=K }` in the profile file;
-/// `<kernel>`, `use_profile N`, `quota_exceeded` and `file PERMISSIONS NAME`, with permissions of `read`, `write`, `append` and `getattr`
-/// and a literal name, in the domain file.
+/// `<kernel>`, `use_profile N`, `quota_exceeded` and, as every other line, an ACL line of any row with its conditions, which adds that
+/// entry, in the domain file.
 ///
-/// Errors: the kind `Keyword` for every other line, or want of memory.
+/// Errors: the kind that `read_entry` gives for a line of the domain file that begins with none of those words; the kind `Keyword` for
+/// every other line outside the forms; or want of memory.
 #[tactic(auto, unfolding(crate::specs::Lines::read_line))]
 pub fn read_line(alloc: Global, file: FileKind, line: &[u8]) -> Result<PolicyLine, LineFault>
     ensures { Gives (λ x. x) result (read_line file line.now) }
