@@ -1,12 +1,12 @@
 -- Every opening of the first path is domain `<kernel>` alone with a profile.
-use Rattle.std.proofs.Common.{◌≡◌, ℕ, zero, suc, ◌==◌, Bool, true, false, ◌&&◌, ◌||◌, List, [], ◌∷◌, refl, sym, ap, ◌∙◌, subst}
+use Rattle.std.proofs.Common.{◌≡◌, ℕ, zero, suc, ◌==◌, Bool, true, false, ◌&&◌, ◌||◌, List, [], ◌∷◌, refl, sym, ◌∙◌, subst}
 use Rattle.std.specs.Prelude.{Option, Some, None, Result, Ok, Err, if◌then◌else◌, IsSome, is_some, not, unwrap_or, nat_lt, slice_get, bit_or}
 use Rattle.std.specs.List.{AllByRecursion}
 use Rattle.std.specs.Option.{option_and_then, option_map_or}
 use Rattle.tm_word.specs.Words.{Text}
+use Rattle.tm_word.specs.Matching.{is_empty}
 use Rattle.tm_types.specs.declared.entry.LineKind.{LineKind}
 use Rattle.tm_types.specs.declared.entry.Entry.{Entry}
-use Rattle.tm_types.specs.declared.policy.Logs.{Logs}
 use Rattle.tm_types.specs.declared.policy.Setting.{Setting}
 use Rattle.tm_types.specs.declared.policy.Profile.{Profile}
 use Rattle.tm_types.specs.declared.policy.ProfileEffect.{ProfileEffect}
@@ -20,14 +20,14 @@ use Rattle.tm_types.specs.declared.step.EditReply.{EditReply}
 use Rattle.tm_rules.specs.Words.{Cursor, DomainName}
 use Rattle.tm_rules.specs.Equality.{texts_equal}
 use Rattle.tm_rules.proofs.EqualityLaws.{both, same_texts}
-use Rattle.tm_rules.specs.Policy.{kernel, at_key, empty_namespace, namespace_named, namespace_word, profile_numbered, profile_of, live_domain, changed_at, with_domain, same_line, adding}
-use Rattle.tm_rules.specs.Edit.{Edited, edited, refused, put_key, in_namespace, changing_namespace, new_profile, set_config, on_profile, profile_line, chosen, on_chosen, changed_domain, making_domain, choosing, domain_line, apply_read, apply_parsed}
+use Rattle.tm_rules.specs.Policy.{kernel, at_key, empty_namespace, namespace_named, namespace_word, profile_numbered, profile_of, live_domain, same_line, adding}
+use Rattle.tm_rules.specs.Edit.{Edited, refused, put_key, in_namespace, changing_namespace, new_profile, set_config, profile_line, on_chosen, changed_domain, choosing, domain_line, apply_read, apply_parsed}
 use Rattle.tm_rules.specs.Load.{new_policy, is_done}
 use Rattle.tm_policy.specs.Lines.{read_line}
 use Rattle.tm_forms.specs.declared.opening.Stage.{Stage}
 use Rattle.tm_forms.specs.declared.opening.Loading.{Loading}
 use Rattle.tm_forms.specs.Lines.{◌>>=◌, text_lines}
-use Rattle.tm_forms.specs.Opening.{file_of, may_end, after_stage, effect_fits, is_kernel, is_use_profile, is_quota_exceeded, is_entry, names_profile, has_silent_profile, silent_or_fault, rule_fits, line_fits, stage_after, stage_at, edited_as, load_line, load_lines, load_from, profile_opening, domain_opening, opened_or_fault, with_domains, opening_of}
+use Rattle.tm_forms.specs.Opening.{file_of, may_end, after_stage, effect_fits, is_kernel, is_use_profile, is_quota_exceeded, is_literal_path, are_built_permissions, is_no_condition, is_built_entry, is_entry, names_profile, has_silent_profile, silent_or_fault, rule_fits, line_fits, stage_after, stage_at, edited_as, load_line, load_lines, profile_opening, domain_opening, opened_or_fault, with_domains, opening_of}
 use Rattle.tm_forms.specs.Opened.{IsFirstProfile, IsFirstNumbered, IsFirstNamespace, IsSilent, IsFirst, EveryOpeningIsFirst}
 use Rattle.tm_forms.proofs.TraceLaws.{ok_is, bind_ok}
 
@@ -110,6 +110,13 @@ in_namespace_all name change keeps (ns ∷ rest) h = go (texts_equal ns.name nam
 silent_is : (log : Option Bool) → not (is_some log) ≡ true → log ≡ None
 silent_is None h = refl
 silent_is (Some log) h = absurd cc
+
+-- an entry that the program plays has no condition
+built_silent : (entry : Entry) → is_built_entry entry ≡ true → IsSilent entry
+unfolding is_built_entry
+built_silent entry h =
+    let plain = both (is_literal_path entry.args && are_built_permissions entry.perms.bits) (is_no_condition entry.cond) h in
+    silent_is entry.cond.grant_log (both (is_empty entry.cond.clauses) (not (is_some entry.cond.grant_log)) plain.1).1
 
 adding_silent : (line : Entry) (entries : List Entry) → IsSilent line → AllByRecursion IsSilent entries → AllByRecursion IsSilent (adding line entries)
 unfolding adding
@@ -243,9 +250,9 @@ entry_step p cursor entry fits h = chosen_leaves (Fits Stage.Files) p cursor fit
   namespaces = fits.namespaces;
 })
 
-acl_step : (p : Policy) (cursor : Cursor) (delete : Bool) (entry : Entry) → Fits Stage.Files p → (not delete && not (is_some entry.cond.grant_log)) ≡ true → Leaves Stage.Files (domain_line p cursor (DomainRule.Acl delete entry))
+acl_step : (p : Policy) (cursor : Cursor) (delete : Bool) (entry : Entry) → Fits Stage.Files p → (not delete && is_built_entry entry) ≡ true → Leaves Stage.Files (domain_line p cursor (DomainRule.Acl delete entry))
 acl_step p cursor true entry fits h = absurd cc
-acl_step p cursor false entry fits h = entry_step p cursor entry fits (silent_is entry.cond.grant_log h)
+acl_step p cursor false entry fits h = entry_step p cursor entry fits (built_silent entry h)
 
 quota_step : (p : Policy) (cursor : Cursor) (delete : Bool) → Fits Stage.Files p → not delete ≡ true → Leaves Stage.Files (domain_line p cursor (DomainRule.QuotaExceeded delete))
 unfolding domain_line namespace_named

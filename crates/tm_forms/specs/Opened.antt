@@ -1,5 +1,5 @@
 -- What every opening of the first path is.
-use Rattle.std.specs.Prelude.{◌≡◌, ℕ, Bool, true, false, List, [], ◌∷◌, Option, None, Ok, IsSome}
+use Rattle.std.specs.Prelude.{◌≡◌, ℕ, true, [], ◌∷◌, None, Ok, IsSome}
 use Rattle.std.specs.List.{AllByRecursion}
 use Rattle.tm_word.specs.Words.{Text}
 use Rattle.tm_types.specs.declared.entry.Entry.{Entry}

@@ -1,8 +1,14 @@
 -- The policy that the two policy files of the first path give.
 use Rattle.std.specs.Option.{option_map_or}
-use Rattle.std.specs.Prelude.{◌≡◌, ℕ, suc, Bool, true, false, ◌&&◌, ◌||◌, not, List, [], ◌∷◌, Option, Some, None, Result, Ok, Err, if◌then◌else◌, is_some}
+use Rattle.std.specs.Prelude.{ℕ, suc, ◌==◌, bit_or, Bool, true, false, ◌&&◌, ◌||◌, not, List, [], ◌∷◌, None, Result, Ok, Err, if◌then◌else◌, is_some}
 use Rattle.tm_word.specs.Words.{Text}
+use Rattle.tm_word.specs.Matching.{is_empty}
+use Rattle.tm_word.specs.Printing.{is_literal}
+use Rattle.tm_types.specs.declared.entry.Args.{Args}
+use Rattle.tm_types.specs.declared.entry.Cond.{Cond}
+use Rattle.tm_types.specs.declared.entry.Entry.{Entry}
 use Rattle.tm_types.specs.declared.entry.LineKind.{LineKind}
+use Rattle.tm_types.specs.declared.unions.NameUnion.{NameUnion}
 use Rattle.tm_types.specs.declared.policy.Profile.{Profile}
 use Rattle.tm_types.specs.declared.policy.ProfileEffect.{ProfileEffect}
 use Rattle.tm_types.specs.declared.policy.DomainRule.{DomainRule}
@@ -86,7 +92,37 @@ is_use_profile (DomainRule.QuotaExceeded delete) = false
 is_use_profile (DomainRule.TransitionFailed delete) = false
 is_use_profile (DomainRule.Acl delete entry) = false
 
--- an entry that is added, which says nothing of logs
+-- a literal, no group and no other pattern
+abbrev pub is_literal_name : NameUnion → Bool
+is_literal_name (NameUnion.One pattern_) = is_literal pattern_
+is_literal_name (NameUnion.Group group) = false
+
+-- single paths whose name is a literal
+abbrev pub is_literal_path : Args → Bool
+is_literal_path (Args.Path name) = is_literal_name name
+is_literal_path (Args.PathNumber name number) = false
+is_literal_path (Args.Device name mode major minor) = false
+is_literal_path (Args.Path2 first second) = false
+is_literal_path (Args.Mount device dir type flags) = false
+is_literal_path (Args.Inet kind address port) = false
+is_literal_path (Args.Unix kind name) = false
+is_literal_path (Args.Env pattern_) = false
+is_literal_path (Args.Manual domain) = false
+is_literal_path (Args.Execute name prefer) = false
+
+-- none but read, write, append and getattr, which are 2, 4, 8 and 32
+abbrev pub are_built_permissions : ℕ → Bool
+are_built_permissions bits = bit_or bits 46 == 46
+
+-- no clause, and nothing on logs
+abbrev pub is_no_condition : Cond → Bool
+is_no_condition cond_ = is_empty cond_.clauses && not (is_some cond_.grant_log)
+
+-- an entry that the program plays: it reads, writes, appends to or looks at the one path of its name, whatever the process
+unfoldable pub is_built_entry : Entry → Bool
+is_built_entry entry = is_literal_path entry.args && are_built_permissions entry.perms.bits && is_no_condition entry.cond
+
+-- an entry that is added, of those that the program plays
 abbrev pub is_entry : DomainRule → Bool
 is_entry (DomainRule.Choose name) = false
 is_entry (DomainRule.Select name) = false
@@ -95,7 +131,7 @@ is_entry (DomainRule.UseProfile n) = false
 is_entry (DomainRule.UseGroup delete n) = false
 is_entry (DomainRule.QuotaExceeded delete) = false
 is_entry (DomainRule.TransitionFailed delete) = false
-is_entry (DomainRule.Acl delete entry) = not delete && not (is_some entry.cond.grant_log)
+is_entry (DomainRule.Acl delete entry) = not delete && is_built_entry entry
 
 -- `quota_exceeded`
 abbrev pub is_quota_exceeded : DomainRule → Bool

@@ -5,15 +5,21 @@ ghost use Rattle.tm_forms.specs.Lines.{Gives};
 ghost use Rattle.tm_forms.specs.Opened.{EveryOpeningIsFirst};
 ghost use Rattle.tm_policy.specs.Lines.{read_line};
 ghost use Rattle.tm_rules.specs.Edit.{apply_parsed};
-ghost use Rattle.tm_forms.specs.Opening.{file_of, may_end, after_stage, effect_fits, is_quota_exceeded, names_profile, is_silent_profile, has_silent_profile, silent_or_fault, is_kernel, is_use_profile, is_entry, rule_fits, line_fits, stage_after, stage_at, edited_as, load_line, load_from, profile_opening, domain_opening};
+ghost use Rattle.tm_forms.specs.Opening.{file_of, may_end, after_stage, effect_fits, is_quota_exceeded, names_profile, is_silent_profile, has_silent_profile, silent_or_fault, is_kernel, is_use_profile, is_literal_name, is_literal_path, is_no_condition, is_built_entry, is_entry, rule_fits, line_fits, stage_after, stage_at, edited_as, load_line, load_from, profile_opening, domain_opening};
 
 use crate::lines::{FormFault, text_lines};
 use std::alloc::Global;
 use tm_list::{Map, NoMemory, Seq};
+use tm_pattern::is_literal;
 use tm_policy::{apply_line, domain_at, profile_of, read_line};
 use tm_rules::bytes_equal;
+use tm_types::entry::{Args, Cond, Entry};
 use tm_types::policy::{Cursor, Domain, DomainRule, Policy, PolicyLine, Profile, ProfileEffect};
 use tm_types::step::{EditReply, FileKind, LineFault};
+use tm_types::unions::NameUnion;
+
+/// The permissions of entries that the program plays: read, write, append and getattr.
+const PLAYED_PERMISSIONS: u16 = 2 | 4 | 8 | 32;
 
 /// Which line of a policy file has to come.
 #[derive(Clone, Copy, PartialEq, Eq, Debug)]
@@ -127,12 +133,60 @@ fn is_use_profile(rule: &DomainRule) -> bool
     }
 }
 
-/// Whether a rule adds an entry, which says nothing of logs.
+/// Whether a name is a literal.
+fn is_literal_name(name: &NameUnion) -> bool
+    ensures { result ≡ is_literal_name name.now }
+{
+    match name {
+        NameUnion::One(pattern) => is_literal(pattern),
+        NameUnion::Group(_) => false,
+    }
+}
+
+/// Whether arguments are those of single paths whose name is a literal.
+fn is_literal_path(args: &Args) -> bool
+    ensures { result ≡ is_literal_path args.now }
+{
+    match args {
+        Args::Path(name) => is_literal_name(name),
+        Args::PathNumber(_, _) => false,
+        Args::Device(_, _, _, _) => false,
+        Args::Path2(_, _) => false,
+        Args::Mount(_, _, _, _) => false,
+        Args::Inet(_, _, _) => false,
+        Args::Unix(_, _) => false,
+        Args::Env(_) => false,
+        Args::Manual(_) => false,
+        Args::Execute(_, _) => false,
+    }
+}
+
+/// Whether a condition has no clause and says nothing of logs.
+fn is_no_condition(cond: &Cond) -> bool
+    ensures { result ≡ is_no_condition cond.now }
+{
+    match cond.clauses.as_slice() {
+        [] => cond.grant_log.is_none(),
+        [_, ..] => false,
+    }
+}
+
+/// Whether an entry is one that the program plays.
+#[tactic(auto, unfolding(crate::specs::Opening::is_built_entry))]
+fn is_built_entry(entry: &Entry) -> bool
+    ensures { result ≡ is_built_entry entry.now }
+{
+    is_literal_path(&entry.args)
+        && entry.perms.bits | PLAYED_PERMISSIONS == PLAYED_PERMISSIONS
+        && is_no_condition(&entry.cond)
+}
+
+/// Whether a rule adds an entry, of those that the program plays.
 fn is_entry(rule: &DomainRule) -> bool
     ensures { result ≡ is_entry rule.now }
 {
     match rule {
-        DomainRule::Acl(delete, entry) => !*delete && entry.cond.grant_log.is_none(),
+        DomainRule::Acl(delete, entry) => !*delete && is_built_entry(entry),
         DomainRule::Choose(_)
         | DomainRule::Select(_)
         | DomainRule::Delete(_)
@@ -389,7 +443,8 @@ pub fn read_profile(alloc: Global, profile: &[u8]) -> Result<Policy, FormFault>
 }
 
 /// Reads `domain_policy` into a policy: `<kernel>`, `use_profile N` with a profile that is defined and writes no log, `quota_exceeded` or
-/// not, then lines `file P NAME` with a literal name. Lines without words count and are skipped.
+/// not, then lines `file P NAME` with a literal name, permissions of read, write, append and getattr alone, and no condition. Lines
+/// without words count and are skipped.
 ///
 /// Errors: the first line outside these forms, one past the last where one of the first two is missing, or want of memory.
 #[tactic(auto, unfolding(crate::specs::Opening::domain_opening))]
