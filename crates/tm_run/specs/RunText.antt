@@ -81,6 +81,10 @@ abbrev pub audit_word : Option Text → Text
 audit_word None = codes "-"
 audit_word (Some text) = spell text
 
+-- the line of an audit text
+abbrev pub audit_line : Option Text → Text
+audit_line audit = codes "audit " ++ audit_word audit ++ 10 ∷ []
+
 -- the answer that the process got
 abbrev pub granted_text : Bool → Text
 granted_text true = codes "granted"
@@ -96,7 +100,7 @@ take_line number t = codes "take " ++ decimal number ++ 32 ∷ domains_text t ++
 
 -- the lines of the take with that number: its own, its looks in order, its audit text
 abbrev pub take_text : ℕ → Take → Text
-take_text number t = take_line number t ++ flat_map look_text t.looks ++ codes "audit " ++ audit_word t.audit ++ 10 ∷ []
+take_text number t = take_line number t ++ flat_map look_text t.looks ++ audit_line t.audit
 
 -- the text before, and the takes after it, of which the first has the number after `count`
 abbrev pub with_takes : Text → ℕ → List Take → Text

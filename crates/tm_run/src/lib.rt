@@ -3,8 +3,12 @@
 //! Promises that the text is the one of its definition, for every run, and that want of memory leaves the file's bytes as they were.
 #![tactic(auto)]
 
+mod fields;
+mod lines;
 mod look;
 mod printing;
+mod reading;
 mod steps;
 
 pub use printing::print_run;
+pub use reading::{read_run, run_round_trip};

@@ -144,7 +144,7 @@ fn push_learned(alloc: Global, look: &Look, out: &mut Vec<u8>) -> Result<(), NoM
     push_heard(alloc, look.heard, out)
 }
 
-fn push_look(alloc: Global, look: &Look, out: &mut Vec<u8>) -> Result<(), NoMemory>
+pub(crate) fn push_look(alloc: Global, look: &Look, out: &mut Vec<u8>) -> Result<(), NoMemory>
     ensures { OnOk result (out.new.items ≡ out.old.items ++ look_text look.now) }
 {
     out.extend_from_slice(b"look ")?;

@@ -1,6 +1,6 @@
 //! The text of a run.
 ghost use Rattle.std.specs.Prelude.{◌≡◌, ◌++◌, ◌∷◌, [], IfOk, OnOk, OnErr};
-ghost use Rattle.tm_run.specs.RunText.{granted_text, domains_text, take_line, take_text, audit_word, with_takes, run_text};
+ghost use Rattle.tm_run.specs.RunText.{granted_text, domains_text, take_line, take_text, audit_word, audit_line, with_takes, run_text};
 
 use crate::look::{push_decimal, push_looks};
 use crate::steps::push_steps;
@@ -29,7 +29,7 @@ fn push_domains(alloc: Global, take: &Take, out: &mut Vec<u8>) -> Result<(), NoM
     push_decimal(alloc, take.after as u64, out)
 }
 
-fn push_take_line(
+pub(crate) fn push_take_line(
     alloc: Global,
     number: u64,
     take: &Take,
@@ -56,15 +56,25 @@ fn push_audit(alloc: Global, audit: &Option<Text>, out: &mut Vec<u8>) -> Result<
     }
 }
 
+pub(crate) fn push_audit_line(
+    alloc: Global,
+    audit: &Option<Text>,
+    out: &mut Vec<u8>,
+) -> Result<(), NoMemory>
+    ensures { OnOk result (out.new.items ≡ out.old.items ++ audit_line audit.now) }
+{
+    out.extend_from_slice(b"audit ")?;
+    push_audit(alloc, audit, out)?;
+    out.push(b'\n')?;
+    Ok(())
+}
+
 fn push_take(alloc: Global, number: u64, take: &Take, out: &mut Vec<u8>) -> Result<(), NoMemory>
     ensures { OnOk result (out.new.items ≡ out.old.items ++ take_text number take.now) }
 {
     push_take_line(alloc, number, take, out)?;
     push_looks(alloc, take.looks.as_slice(), out)?;
-    out.extend_from_slice(b"audit ")?;
-    push_audit(alloc, &take.audit, out)?;
-    out.push(b'\n')?;
-    Ok(())
+    push_audit_line(alloc, &take.audit, out)
 }
 
 fn push_takes(alloc: Global, takes: &[Take], out: &mut Vec<u8>) -> Result<(), NoMemory>

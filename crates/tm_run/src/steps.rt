@@ -213,7 +213,7 @@ fn push_step(alloc: Global, step: &Step, out: &mut Vec<u8>) -> Result<(), NoMemo
     }
 }
 
-fn push_step_line(
+pub(crate) fn push_step_line(
     alloc: Global,
     number: u64,
     step: &(Step, Reply),

@@ -1,0 +1,208 @@
+-- The lines of steps, takes, looks and audit texts: their words are read again.
+use Rattle.std.proofs.Common.{◌≡◌, ℕ, ◌+◌, ◌/◌, ◌%◌, ◌==◌, nat_lt, Bool, true, false, ◌&&◌, not, List, [], ◌∷◌, ◌++◌, Option, Some, None, refl, sym, ap, ◌∙◌}
+use Rattle.std.specs.Prelude.{codes, decimal}
+use Rattle.std.specs.List.{list_all}
+use Rattle.tm_word.specs.Words.{Text}
+use Rattle.tm_word.specs.Spelling.{joined, spelling_of, spell}
+use Rattle.tm_pattern.specs.Reading.{word_of}
+use Rattle.tm_types.specs.declared.entry.Entry.{Entry}
+use Rattle.tm_types.specs.declared.step.Step.{Step}
+use Rattle.tm_types.specs.declared.step.LearnReply.{LearnReply}
+use Rattle.tm_types.specs.declared.step.Reply.{Reply}
+use Rattle.tm_types.specs.declared.step.Look.{Look}
+use Rattle.tm_types.specs.declared.step.Take.{Take}
+use Rattle.tm_rules.specs.Equality.{texts_equal}
+use Rattle.tm_domain.proofs.NameLaws.{same_texts}
+use Rattle.tm_line.specs.WholeWords.{is_solid, is_word}
+use Rattle.tm_line.proofs.Steps.{both, not_true}
+use Rattle.tm_line.proofs.SpellLaws.{word_again}
+use Rattle.tm_line.proofs.WholeLaws.{word_from, spell_solid}
+use Rattle.tm_entry.specs.Entries.{entry_words, is_entry}
+use Rattle.tm_entry.proofs.EntryLaws.{entry_again}
+use Rattle.tm_entry.proofs.EntryText.{entry_are}
+use Rattle.tm_run.specs.Steps.{learn_text, step_text, step_line}
+use Rattle.tm_run.specs.RunText.{mode_text, reason_text, move_text, numbers_text, heard_text, verdict_text, learned_text, look_text, granted_text, domains_text, audit_word, audit_line, take_line}
+use Rattle.tm_run.specs.Reading.{step_of, take_begun, take_of, look_of, audit_of}
+use Rattle.tm_run.specs.Written.{is_plain, is_wide, is_step, is_reason, is_move, is_heard, is_look, is_audit}
+use Rattle.tm_run.proofs.TextLaws.{one_word, spells_more, spells_end, spells_joined, Line, last}
+use Rattle.tm_run.proofs.FieldLaws.{plain_wide, decimal_is, plain_is, wide_is, mode_is, reply_is, reason_is, move_is, numbers_are, heard_is, mode_again, reply_again, reason_again, move_again, numbers_again, heard_again}
+
+-- ---- steps
+
+pub step_words : ℕ → LearnReply → ℕ → Entry → List Text
+step_words number reply domain entry = codes "step" ∷ decimal number ∷ learn_text reply ∷ codes "learn" ∷ decimal domain ∷ entry_words entry
+
+pub learn_line : (number domain : ℕ) (entry : Entry) (reply : LearnReply) → is_wide number ≡ true → is_plain domain ≡ true → is_entry entry ≡ true
+    → Line (step_line number (Step.Learn domain entry, Reply.Learn reply)) (step_words number reply domain entry)
+unfolding step_words
+learn_line number domain entry reply h k e =
+    let front = spells_more (codes "step") (decimal number) (codes "step" ∷ []) (decimal number ∷ []) (one_word (codes "step") refl) (one_word (decimal number) (decimal_is number h)) in
+    let replied = spells_more (codes "step " ++ decimal number) (learn_text reply) (codes "step" ∷ decimal number ∷ []) (learn_text reply ∷ []) front (one_word (learn_text reply) (reply_is reply)) in
+    let place = spells_more (codes "learn") (decimal domain) (codes "learn" ∷ []) (decimal domain ∷ []) (one_word (codes "learn") refl) (one_word (decimal domain) (decimal_is domain (plain_wide domain k))) in
+    let step = spells_more (codes "learn " ++ decimal domain) (joined (entry_words entry)) (codes "learn" ∷ decimal domain ∷ []) (entry_words entry) place (spells_joined (entry_words entry) (entry_are entry e)) in
+    let text = step_text (Step.Learn domain entry) in
+    let whole = spells_more (codes "step " ++ decimal number ++ 32 ∷ learn_text reply) text (codes "step" ∷ decimal number ∷ learn_text reply ∷ []) (codes "learn" ∷ decimal domain ∷ entry_words entry) replied step in
+    last (codes "step " ++ decimal number ++ 32 ∷ learn_text reply ++ 32 ∷ text) (step_words number reply domain entry) whole
+
+learned_again : (number domain : ℕ) (entry : Entry) (reply : LearnReply) → is_plain domain ≡ true → is_entry entry ≡ true → step_of (step_words number reply domain entry) ≡ Some (Step.Learn domain entry, Reply.Learn reply)
+unfolding step_words step_of
+learned_again number domain entry reply k e = rw (entry_again entry e, plain_is domain k, reply_again reply) refl
+
+-- the words of a step's line, which begin with `step`, are read as the step
+pub record StepLine (number : ℕ) (pair : Step × Reply) : Type 0 where
+  pub words : List Text
+  pub line : Line (step_line number pair) (codes "step" ∷ words)
+  pub reads : step_of (codes "step" ∷ words) ≡ Some pair
+
+no_reply : (b : Bool) → (b && false) ≡ true → ⊥
+no_reply true e = absurd cc
+no_reply false e = absurd cc
+
+pub step_again : (number : ℕ) (step : Step) (reply : Reply) → is_wide number ≡ true → is_step (step, reply) ≡ true → StepLine number (step, reply)
+unfolding step_words
+step_again number (Step.Learn domain entry) (Reply.Learn reply) h k =
+    let t = both (is_plain domain && is_entry entry) true k in
+    let p = both (is_plain domain) (is_entry entry) t.0 in
+    record {
+      words = decimal number ∷ learn_text reply ∷ codes "learn" ∷ decimal domain ∷ entry_words entry;
+      line = learn_line number domain entry reply h p.0 p.1;
+      reads = learned_again number domain entry reply p.0 p.1;
+    }
+step_again number (Step.Learn domain entry) (Reply.Make reply) h k = absurd (no_reply (is_plain domain && is_entry entry) k)
+step_again number (Step.Learn domain entry) (Reply.Fail set) h k = absurd (no_reply (is_plain domain && is_entry entry) k)
+step_again number (Step.Learn domain entry) (Reply.Ask held) h k = absurd (no_reply (is_plain domain && is_entry entry) k)
+step_again number (Step.Learn domain entry) (Reply.Answer fault) h k = absurd (no_reply (is_plain domain && is_entry entry) k)
+step_again number (Step.Learn domain entry) (Reply.Attach changed) h k = absurd (no_reply (is_plain domain && is_entry entry) k)
+step_again number (Step.Learn domain entry) (Reply.Detach changed) h k = absurd (no_reply (is_plain domain && is_entry entry) k)
+step_again number (Step.Learn domain entry) (Reply.Edit reply) h k = absurd (no_reply (is_plain domain && is_entry entry) k)
+step_again number (Step.Learn domain entry) Reply.End h k = absurd (no_reply (is_plain domain && is_entry entry) k)
+step_again number (Step.Make domain name) reply h k = absurd cc
+step_again number (Step.Fail domain) reply h k = absurd cc
+step_again number (Step.Ask domain retry line) reply h k = absurd cc
+step_again number (Step.Answer serial code) reply h k = absurd cc
+step_again number Step.Attach reply h k = absurd cc
+step_again number Step.Detach reply h k = absurd cc
+step_again number (Step.Edit editor file line) reply h k = absurd cc
+step_again number (Step.End tree) reply h k = absurd cc
+
+-- ---- takes
+
+pub take_words : ℕ → Take → List Text
+take_words number t = decimal number ∷ decimal t.pid ∷ decimal t.before ∷ decimal t.after ∷ granted_text t.granted ∷ []
+
+granted_is : (granted : Bool) → is_word (granted_text granted) ≡ true
+granted_is true = refl
+granted_is false = refl
+
+granted_again : (granted : Bool) → texts_equal (granted_text granted) (codes "granted") ≡ granted
+granted_again true = refl
+granted_again false = refl
+
+pub take_first : (number : ℕ) (t : Take) → is_wide number ≡ true → is_plain t.pid ≡ true → is_plain t.before ≡ true → is_plain t.after ≡ true → Line (take_line number t) (codes "take" ∷ take_words number t)
+unfolding take_words
+take_first number t h a b c =
+    let pid = one_word (decimal t.pid) (decimal_is t.pid (plain_wide t.pid a)) in
+    let before = one_word (decimal t.before) (decimal_is t.before (plain_wide t.before b)) in
+    let after = one_word (decimal t.after) (decimal_is t.after (plain_wide t.after c)) in
+    let both_first = spells_more (decimal t.pid) (decimal t.before) (decimal t.pid ∷ []) (decimal t.before ∷ []) pid before in
+    let domains = spells_more (decimal t.pid ++ 32 ∷ decimal t.before) (decimal t.after) (decimal t.pid ∷ decimal t.before ∷ []) (decimal t.after ∷ []) both_first after in
+    let front = spells_more (codes "take") (decimal number) (codes "take" ∷ []) (decimal number ∷ []) (one_word (codes "take") refl) (one_word (decimal number) (decimal_is number h)) in
+    let more = spells_more (codes "take " ++ decimal number) (domains_text t) (codes "take" ∷ decimal number ∷ []) (decimal t.pid ∷ decimal t.before ∷ decimal t.after ∷ []) front domains in
+    let answer = one_word (granted_text t.granted) (granted_is t.granted) in
+    let whole = spells_more (codes "take " ++ decimal number ++ 32 ∷ domains_text t) (granted_text t.granted) (codes "take" ∷ decimal number ∷ decimal t.pid ∷ decimal t.before ∷ decimal t.after ∷ []) (granted_text t.granted ∷ []) more answer in
+    last (codes "take " ++ decimal number ++ 32 ∷ domains_text t ++ 32 ∷ granted_text t.granted) (codes "take" ∷ take_words number t) whole
+
+pub take_again : (number : ℕ) (t : Take) → is_plain t.pid ≡ true → is_plain t.before ≡ true → is_plain t.after ≡ true → take_of (codes "take" ∷ take_words number t) ≡ Some (take_begun t.pid t.before t.after t.granted)
+unfolding take_words take_of
+take_again number t a b c = rw (plain_is t.pid a, plain_is t.before b, plain_is t.after c, granted_again t.granted) refl
+
+-- ---- looks
+
+unfoldable pub look_words : Look → List Text
+look_words look = decimal look.version ∷ mode_text look.mode ∷ reason_text look.reason ∷ move_text look.step ∷ numbers_text look.own ∷ heard_text look.heard ∷ []
+
+-- what a look that can be written has
+pub record LookParts (look : Look) : Type 0 where
+  pub version : is_wide look.version ≡ true
+  pub reason : is_reason look.reason ≡ true
+  pub move : is_move look.step ≡ true
+  pub own : list_all is_wide look.own ≡ true
+  pub heard : is_heard look.heard ≡ true
+
+pub look_parts : (look : Look) → is_look look ≡ true → LookParts look
+look_parts look h =
+    let a = both (is_wide look.version && is_reason look.reason && is_move look.step && list_all is_wide look.own) (is_heard look.heard) h in
+    let b = both (is_wide look.version && is_reason look.reason && is_move look.step) (list_all is_wide look.own) a.0 in
+    let c = both (is_wide look.version && is_reason look.reason) (is_move look.step) b.0 in
+    let d = both (is_wide look.version) (is_reason look.reason) c.0 in
+    record { version = d.0; reason = d.1; move = c.1; own = b.1; heard = a.1 }
+
+pub look_line : (look : Look) → is_look look ≡ true → Line (look_text look) (codes "look" ∷ look_words look)
+unfolding look_words
+look_line look h =
+    let p = look_parts look h in
+    let mode = one_word (mode_text look.mode) (mode_is look.mode) in
+    let reason = one_word (reason_text look.reason) (reason_is look.reason p.reason) in
+    let move = one_word (move_text look.step) (move_is look.step p.move) in
+    let own = one_word (numbers_text look.own) (numbers_are look.own p.own) in
+    let heard = one_word (heard_text look.heard) (heard_is look.heard p.heard) in
+    let case = spells_more (mode_text look.mode) (reason_text look.reason) (mode_text look.mode ∷ []) (reason_text look.reason ∷ []) mode reason in
+    let verdict = spells_more (mode_text look.mode ++ 32 ∷ reason_text look.reason) (move_text look.step) (mode_text look.mode ∷ reason_text look.reason ∷ []) (move_text look.step ∷ []) case move in
+    let made = spells_more (numbers_text look.own) (heard_text look.heard) (numbers_text look.own ∷ []) (heard_text look.heard ∷ []) own heard in
+    let front = spells_more (codes "look") (decimal look.version) (codes "look" ∷ []) (decimal look.version ∷ []) (one_word (codes "look") refl) (one_word (decimal look.version) (decimal_is look.version p.version)) in
+    let most = spells_more (codes "look " ++ decimal look.version) (verdict_text look) (codes "look" ∷ decimal look.version ∷ []) (mode_text look.mode ∷ reason_text look.reason ∷ move_text look.step ∷ []) front verdict in
+    let whole = spells_more (codes "look " ++ decimal look.version ++ 32 ∷ verdict_text look) (learned_text look) (codes "look" ∷ decimal look.version ∷ mode_text look.mode ∷ reason_text look.reason ∷ move_text look.step ∷ []) (numbers_text look.own ∷ heard_text look.heard ∷ []) most made in
+    last (codes "look " ++ decimal look.version ++ 32 ∷ verdict_text look ++ 32 ∷ learned_text look) (codes "look" ∷ look_words look) whole
+
+pub look_again : (look : Look) → is_look look ≡ true → look_of (codes "look" ∷ look_words look) ≡ Some look
+unfolding look_words look_of
+look_again look h =
+    let p = look_parts look h in
+    rw (wide_is look.version p.version, mode_again look.mode, reason_again look.reason p.reason, move_again look.step p.move, numbers_again look.own p.own, heard_again look.heard p.heard) refl
+
+-- ---- audit texts
+
+spelled_first : (byte : ℕ) (a b : Bool) → (byte == 92) ≡ a → (nat_lt 32 byte && nat_lt byte 127) ≡ b → (text : Text) → is_solid (spelling_of byte ++ text) ≡ true → is_word (spelling_of byte ++ text) ≡ true
+spelled_first byte true b e f text = rw e (word_from 92 (92 ∷ text))
+spelled_first byte false true e f text = rw (e, f) (word_from byte text)
+spelled_first byte false false e f text = rw (e, f) (word_from 92 ((48 + byte / 64) ∷ (48 + byte / 8 % 8) ∷ (48 + byte % 8) ∷ text))
+
+-- the words after `audit`: none where the text is empty
+pub record AuditLine (audit : Option Text) : Type 0 where
+  pub words : List Text
+  pub line : Line (audit_line audit) (codes "audit" ∷ words)
+  pub reads : audit_of (codes "audit" ∷ words) ≡ audit
+
+one_audit : (audit : Option Text) → is_word (audit_word audit) ≡ true → Line (audit_line audit) (codes "audit" ∷ audit_word audit ∷ [])
+one_audit audit h =
+    let whole = spells_more (codes "audit") (audit_word audit) (codes "audit" ∷ []) (audit_word audit ∷ []) (one_word (codes "audit") refl) (one_word (audit_word audit) h) in
+    last (codes "audit " ++ audit_word audit) (codes "audit" ∷ audit_word audit ∷ []) whole
+
+some_text : (x y : Text) → Some x ≡ Some y → x ≡ y
+some_text x y e = cc
+
+text_by : (text : Text) (t : Bool) → texts_equal (spell text) (codes "-") ≡ t → texts_equal text (codes "-") ≡ false → list_all (λ byte. nat_lt byte 256) text ≡ true → audit_of (codes "audit" ∷ spell text ∷ []) ≡ Some text
+unfolding audit_of
+text_by text true e other bytes =
+    let dash : spell text ≡ spell (codes "-") = same_texts (spell text) (codes "-") e in
+    let same : text ≡ codes "-" = some_text text (codes "-") (sym (word_again text bytes) ∙ ap word_of dash ∙ word_again (codes "-") refl) in
+    let yes : texts_equal text (codes "-") ≡ true = rw same refl in
+    absurd (let wrong : true ≡ false = sym yes ∙ other in cc)
+text_by text false e other bytes = rw e (word_again text bytes)
+
+pub audit_again : (audit : Option Text) → is_audit audit ≡ true → AuditLine audit
+unfolding audit_of
+audit_again None h = record { words = codes "-" ∷ []; line = one_audit None refl; reads = refl }
+audit_again (Some []) h = record {
+  words = [];
+  line = last (codes "audit ") (codes "audit" ∷ []) (spells_end (codes "audit") refl);
+  reads = refl;
+}
+audit_again (Some (b ∷ text)) h =
+    let t = both (list_all (λ byte. nat_lt byte 256) (b ∷ text)) (not (texts_equal (b ∷ text) (codes "-"))) h in
+    let word : is_word (spell (b ∷ text)) ≡ true = spelled_first b _ _ refl refl (spell text) (spell_solid (b ∷ text) t.0) in
+    record {
+      words = spell (b ∷ text) ∷ [];
+      line = one_audit (Some (b ∷ text)) word;
+      reads = text_by (b ∷ text) _ refl (not_true (texts_equal (b ∷ text) (codes "-")) t.1) t.0;
+    }

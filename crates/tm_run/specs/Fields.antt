@@ -1,0 +1,100 @@
+-- The fields of a line of a run, each one word. A word that a field can't have is read as some value all the same: what is read counts only
+-- where its printed line is the line that was read.
+use Rattle.std.specs.Prelude.{ℕ, ◌^◌, ◌==◌, if◌then◌else◌, List, [], ◌∷◌, codes, map, Option, Some, None, Result, Ok, Err}
+use Rattle.std.specs.List.{slice_split}
+use Rattle.tm_word.specs.Words.{Text}
+use Rattle.tm_types.specs.declared.entry.LineKind.{LineKind}
+use Rattle.tm_types.specs.declared.policy.Mode.{Mode}
+use Rattle.tm_types.specs.declared.verdict.EntryPlace.{EntryPlace}
+use Rattle.tm_types.specs.declared.verdict.Reason.{Reason}
+use Rattle.tm_types.specs.declared.verdict.Move.{Move}
+use Rattle.tm_types.specs.declared.step.Answered.{Answered}
+use Rattle.tm_types.specs.declared.step.Heard.{Heard}
+use Rattle.tm_types.specs.declared.step.LearnReply.{LearnReply}
+use Rattle.tm_rules.specs.Equality.{texts_equal}
+use Rattle.tm_line.specs.Arguments.{plain_word}
+
+-- the number that was read, and 0 where none was
+abbrev pub or_zero : Result ℕ LineKind → ℕ
+or_zero (Ok number) = number
+or_zero (Err kind) = 0
+
+-- a plain number below a limit
+unfoldable pub number_of : ℕ → Text → ℕ
+number_of limit word = or_zero (plain_word limit word)
+
+-- the numbers of each size
+abbrev pub small_of : Text → ℕ
+small_of = number_of 256
+
+abbrev pub plain_of : Text → ℕ
+plain_of = number_of (2 ^ 32)
+
+abbrev pub wide_of : Text → ℕ
+wide_of = number_of (2 ^ 64)
+
+-- what stands between these bytes of a word
+abbrev pub pieces_at : ℕ → Text → List Text
+pieces_at byte word = slice_split (λ b. b == byte) word
+
+-- a mode's word, and `none` for a manual transition
+unfoldable pub mode_of : Text → Option Mode
+mode_of word =
+    if texts_equal word (codes "disabled") then Some Mode.Disabled else (if texts_equal word (codes "learning") then Some Mode.Learning else (if texts_equal word (codes "permissive") then Some Mode.Permissive else (if texts_equal word (codes "enforcing") then Some Mode.Enforcing else None)))
+
+-- a reason's word
+unfoldable pub case_of : Text → Reason
+case_of word =
+    if texts_equal word (codes "disabled") then Reason.Disabled else (if texts_equal word (codes "permissive") then Reason.Permissive else (if texts_equal word (codes "quota") then Reason.Quota else (if texts_equal word (codes "learn") then Reason.Learn else (if texts_equal word (codes "ask") then Reason.Ask else (if texts_equal word (codes "no_entry") then Reason.NoEntry else (if texts_equal word (codes "not_ready") then Reason.NotReady else Reason.NoManual))))))
+
+-- a reason's word, or an entry's place between colons
+abbrev pub reason_in : List Text → Reason
+reason_in [] = Reason.NoManual
+reason_in (word ∷ []) = case_of word
+reason_in (word ∷ place ∷ []) = Reason.Entry (EntryPlace.Own (plain_of place))
+reason_in (word ∷ group ∷ place ∷ []) = Reason.Entry (EntryPlace.Acl (small_of group) (plain_of place))
+reason_in (word ∷ group ∷ place ∷ other ∷ others) = Reason.NoManual
+
+unfoldable pub reason_of : Text → Reason
+reason_of word = reason_in (pieces_at 58 word)
+
+-- a move's word
+unfoldable pub way_of : Text → Move
+way_of word = if texts_equal word (codes "stay") then Move.Stay else (if texts_equal word (codes "make") then Move.Make else Move.Fail)
+
+-- a move's word, or a live domain after a colon
+abbrev pub move_in : List Text → Move
+move_in [] = Move.Fail
+move_in (word ∷ []) = way_of word
+move_in (word ∷ domain ∷ []) = Move.Enter (plain_of domain)
+move_in (word ∷ domain ∷ other ∷ others) = Move.Fail
+
+unfoldable pub move_of : Text → Move
+move_of word = move_in (pieces_at 58 word)
+
+-- numbers between commas, and `-` for none
+unfoldable pub numbers_of : Text → List ℕ
+numbers_of word = if texts_equal word (codes "-") then [] else map wide_of (pieces_at 44 word)
+
+-- what became of the query; `nobody` where no supervisor was attached
+unfoldable pub answer_of : Text → Option Answered
+answer_of word =
+    if texts_equal word (codes "yes") then Some Answered.Yes else (if texts_equal word (codes "no") then Some Answered.No else (if texts_equal word (codes "retry") then Some Answered.Retry else (if texts_equal word (codes "detached") then Some Answered.Detached else None)))
+
+-- an answer and a version
+abbrev pub heard : Option Answered → ℕ → Heard
+heard answer version = record { answer = answer; version = version }
+
+-- an answer, `@` and a version; another word for none
+abbrev pub heard_in : List Text → Option Heard
+heard_in [] = None
+heard_in (word ∷ []) = None
+heard_in (answer ∷ version ∷ []) = Some (heard (answer_of answer) (wide_of version))
+heard_in (answer ∷ version ∷ other ∷ others) = None
+
+unfoldable pub heard_of : Text → Option Heard
+heard_of word = heard_in (pieces_at 64 word)
+
+-- what became of a learned line
+unfoldable pub reply_of : Text → LearnReply
+reply_of word = if texts_equal word (codes "added") then LearnReply.Added else (if texts_equal word (codes "there") then LearnReply.There else (if texts_equal word (codes "quota") then LearnReply.Quota else LearnReply.Mode))

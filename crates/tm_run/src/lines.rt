@@ -1,0 +1,103 @@
+//! What the words of a line of a run say.
+ghost use Rattle.std.specs.Prelude.{◌≡◌, IfOk};
+ghost use Rattle.tm_run.specs.Reading.{step_of, take_of, look_of, audit_of};
+
+use crate::fields::{
+    heard_of, mode_of, move_of, numbers_of, plain_of, reason_of, reply_of, wide_of,
+};
+use std::alloc::{AllocError, Global};
+use tm_entry::read_entry;
+use tm_list::{NoMemory, Seq};
+use tm_pattern::spelled_word;
+use tm_rules::bytes_equal;
+use tm_types::step::{LineFault, Look, Reply, Step, Take};
+use tm_word::Text;
+
+// A learned line with its reply, where the words after its domain are an entry.
+#[tactic(auto, unfolding(crate::specs::Reading::step_of))]
+pub(crate) fn step_of(alloc: Global, words: &[Text]) -> Result<Option<(Step, Reply)>, NoMemory>
+    ensures { IfOk result (λ step. step ≡ step_of words.now) }
+{
+    match words {
+        [_, _, reply, _, domain, rest @ ..] => match read_entry(alloc, rest) {
+            Ok(entry) => {
+                let step = Step::Learn(plain_of(domain.bytes()), entry);
+                Ok(Some((step, Reply::Learn(reply_of(reply.bytes())))))
+            }
+            Err(LineFault::Kind(_)) => Ok(None),
+            Err(LineFault::NoMemory) => Err(AllocError),
+        },
+        [] => Ok(None),
+        [_] => Ok(None),
+        [_, _] => Ok(None),
+        [_, _, _] => Ok(None),
+        [_, _, _, _] => Ok(None),
+    }
+}
+
+// A take before its first look.
+#[tactic(auto, unfolding(crate::specs::Reading::take_of))]
+pub(crate) fn take_of(alloc: Global, words: &[Text]) -> Option<Take>
+    ensures { result ≡ take_of words.now }
+{
+    match words {
+        [_, _, pid, before, after, answer] => Some(Take {
+            pid: plain_of(pid.bytes()),
+            before: plain_of(before.bytes()),
+            after: plain_of(after.bytes()),
+            granted: bytes_equal(answer.bytes(), b"granted"),
+            looks: Seq::new(alloc),
+            audit: None,
+        }),
+        [] => None,
+        [_] => None,
+        [_, _] => None,
+        [_, _, _] => None,
+        [_, _, _, _] => None,
+        [_, _, _, _, _] => None,
+        [_, _, _, _, _, _, _, ..] => None,
+    }
+}
+
+#[tactic(auto, unfolding(crate::specs::Reading::look_of))]
+pub(crate) fn look_of(alloc: Global, words: &[Text]) -> Result<Option<Look>, NoMemory>
+    ensures { IfOk result (λ look. look ≡ look_of words.now) }
+{
+    match words {
+        [_, version, mode, reason, step, own, learned] => Ok(Some(Look {
+            version: wide_of(version.bytes()),
+            mode: mode_of(mode.bytes()),
+            reason: reason_of(alloc, reason.bytes())?,
+            step: move_of(alloc, step.bytes())?,
+            own: numbers_of(alloc, own.bytes())?,
+            heard: heard_of(alloc, learned.bytes())?,
+        })),
+        [] => Ok(None),
+        [_] => Ok(None),
+        [_, _] => Ok(None),
+        [_, _, _] => Ok(None),
+        [_, _, _, _] => Ok(None),
+        [_, _, _, _, _] => Ok(None),
+        [_, _, _, _, _, _] => Ok(None),
+        [_, _, _, _, _, _, _, _, ..] => Ok(None),
+    }
+}
+
+// The audit text of a take; none where it is `-` or no spelled word.
+#[tactic(auto, unfolding(crate::specs::Reading::audit_of))]
+pub(crate) fn audit_of(alloc: Global, words: &[Text]) -> Result<Option<Text>, NoMemory>
+    ensures { IfOk result (λ audit. audit ≡ audit_of words.now) }
+{
+    match words {
+        [_, word] => {
+            if bytes_equal(word.bytes(), b"-") {
+                Ok(None)
+            } else {
+                spelled_word(alloc, word.bytes())
+            }
+        }
+        [_] => Ok(Some(Seq::new(alloc))),
+        [] => Ok(None),
+        [_, _, _, ..] => Ok(None),
+    }
+}

@@ -1,0 +1,399 @@
+//! Reading the text of a run, line by line.
+ghost use Rattle.std.specs.Prelude.{◌≡◌, ◌+◌, ◌∷◌, ◌<◌, [], length, true, false, Some, IfOk, MatchOption};
+ghost use Rattle.tm_run.specs.RunText.{run_text, take_line, look_text, audit_line};
+ghost use Rattle.tm_run.specs.Steps.{step_line};
+ghost use Rattle.tm_rules.specs.Equality.{texts_equal};
+ghost use Rattle.tm_run.specs.Reading.{Gives, fresh, has_number, with_step, with_take, with_look, with_audit, is_empty, starts, outside, within, line_read, lines_of, run_at, run_from, run_of};
+ghost use Rattle.tm_run.specs.Laws.{WrittenIsRead, ReadIsWritten, FaultIsFirst};
+
+use crate::fields::place_of;
+use crate::lines::{audit_of, look_of, step_of, take_of};
+use crate::look::push_look;
+use crate::printing::{push_audit_line, push_take_line};
+use crate::steps::push_step_line;
+use std::alloc::Global;
+use tm_list::{NoMemory, Seq};
+use tm_rules::bytes_equal;
+use tm_types::step::{Look, Reply, Run, RunFault, Step, Take};
+use tm_word::{Text, normal_words};
+
+/// What has been read of a run: its steps, its takes, and the take that is begun, with its looks so far.
+#[derive(Drop)]
+pub(crate) struct Reading {
+    steps: Seq<(Step, Reply)>,
+    takes: Seq<Take>,
+    begun: Option<Take>,
+}
+
+// The number after so many, where it has 64 bits.
+fn next_number(count: usize) -> Option<u64>
+    ensures { MatchOption result (has_number count ≡ false) (λ number. (has_number count ≡ true) × (number ≡ count + 1)) }
+{
+    (count as u64).checked_add(1)
+}
+
+// Whether a step's line is this one.
+fn is_step_line(
+    alloc: Global,
+    number: u64,
+    step: &(Step, Reply),
+    line: &[u8],
+) -> Result<bool, NoMemory>
+    ensures { IfOk result (λ same. same ≡ texts_equal (step_line number step.now) line.now) }
+{
+    let mut printed = Vec::new(alloc);
+    push_step_line(alloc, number, step, &mut printed)?;
+    Ok(bytes_equal(&printed, line))
+}
+
+fn is_take_line(alloc: Global, number: u64, take: &Take, line: &[u8]) -> Result<bool, NoMemory>
+    ensures { IfOk result (λ same. same ≡ texts_equal (take_line number take.now) line.now) }
+{
+    let mut printed = Vec::new(alloc);
+    push_take_line(alloc, number, take, &mut printed)?;
+    Ok(bytes_equal(&printed, line))
+}
+
+fn is_look_line(alloc: Global, look: &Look, line: &[u8]) -> Result<bool, NoMemory>
+    ensures { IfOk result (λ same. same ≡ texts_equal (look_text look.now) line.now) }
+{
+    let mut printed = Vec::new(alloc);
+    push_look(alloc, look, &mut printed)?;
+    Ok(bytes_equal(&printed, line))
+}
+
+fn is_audit_line(alloc: Global, audit: &Option<Text>, line: &[u8]) -> Result<bool, NoMemory>
+    ensures { IfOk result (λ same. same ≡ texts_equal (audit_line audit.now) line.now) }
+{
+    let mut printed = Vec::new(alloc);
+    push_audit_line(alloc, audit, &mut printed)?;
+    Ok(bytes_equal(&printed, line))
+}
+
+fn with_step(
+    alloc: Global,
+    reading: Reading,
+    line: &[u8],
+    step: (Step, Reply),
+) -> Result<Option<Reading>, NoMemory>
+    ensures { IfOk result (λ next. next ≡ with_step reading line.now (Some step)) }
+{
+    let Some(number) = next_number(reading.steps.len()) else {
+        return Ok(None);
+    };
+    if !is_step_line(alloc, number, &step, line)? {
+        return Ok(None);
+    }
+    let mut reading = reading;
+    reading.steps.push(step)?;
+    Ok(Some(reading))
+}
+
+fn with_take(
+    alloc: Global,
+    reading: Reading,
+    line: &[u8],
+    take: Take,
+) -> Result<Option<Reading>, NoMemory>
+    ensures { IfOk result (λ next. next ≡ with_take reading line.now (Some take)) }
+{
+    let Some(number) = next_number(reading.takes.len()) else {
+        return Ok(None);
+    };
+    if !is_take_line(alloc, number, &take, line)? {
+        return Ok(None);
+    }
+    Ok(Some(Reading {
+        steps: reading.steps,
+        takes: reading.takes,
+        begun: Some(take),
+    }))
+}
+
+fn with_look(
+    alloc: Global,
+    reading: Reading,
+    take: Take,
+    line: &[u8],
+    look: Look,
+) -> Result<Option<Reading>, NoMemory>
+    ensures { IfOk result (λ next. next ≡ with_look reading take line.now (Some look)) }
+{
+    if !is_look_line(alloc, &look, line)? {
+        return Ok(None);
+    }
+    let mut take = take;
+    take.looks.push(look)?;
+    let mut reading = reading;
+    reading.begun = Some(take);
+    Ok(Some(reading))
+}
+
+fn with_audit(
+    alloc: Global,
+    reading: Reading,
+    take: Take,
+    line: &[u8],
+    audit: Option<Text>,
+) -> Result<Option<Reading>, NoMemory>
+    ensures { IfOk result (λ next. next ≡ with_audit reading take line.now audit) }
+{
+    if !is_audit_line(alloc, &audit, line)? {
+        return Ok(None);
+    }
+    let mut take = take;
+    take.audit = audit;
+    let mut reading = reading;
+    reading.takes.push(take)?;
+    Ok(Some(reading))
+}
+
+// Whether the first word is this one.
+fn starts(keyword: &[u8], words: &[Text]) -> bool
+    ensures { result ≡ starts keyword.now words.now }
+{
+    match words {
+        [] => false,
+        [word, ..] => bytes_equal(word.bytes(), keyword),
+    }
+}
+
+// Between takes: the first line of a take, or a step before all takes.
+fn outside(
+    alloc: Global,
+    reading: Reading,
+    line: &[u8],
+    words: &[Text],
+) -> Result<Option<Reading>, NoMemory>
+    ensures { IfOk result (λ next. next ≡ outside reading line.now words.now) }
+{
+    if starts(b"take", words) {
+        return match take_of(alloc, words) {
+            Some(take) => with_take(alloc, reading, line, take),
+            None => Ok(None),
+        };
+    }
+    if !reading.takes.is_empty() {
+        return Ok(None);
+    }
+    match step_of(alloc, words)? {
+        Some(step) => with_step(alloc, reading, line, step),
+        None => Ok(None),
+    }
+}
+
+// Within a take: its audit line, or a look.
+fn within(
+    alloc: Global,
+    reading: Reading,
+    take: Take,
+    line: &[u8],
+    words: &[Text],
+) -> Result<Option<Reading>, NoMemory>
+    ensures { IfOk result (λ next. next ≡ within reading take line.now words.now) }
+{
+    if starts(b"audit", words) {
+        let audit = audit_of(alloc, words)?;
+        return with_audit(alloc, reading, take, line, audit);
+    }
+    match look_of(alloc, words)? {
+        Some(look) => with_look(alloc, reading, take, line, look),
+        None => Ok(None),
+    }
+}
+
+// What has been read with this line more, where it can stand here.
+#[tactic(auto, unfolding(crate::specs::Reading::line_read))]
+fn line_read(alloc: Global, reading: Reading, line: &[u8]) -> Result<Option<Reading>, NoMemory>
+    ensures { IfOk result (λ next. next ≡ line_read reading line.now) }
+{
+    let words = normal_words(alloc, line)?;
+    let Reading {
+        steps,
+        takes,
+        begun,
+    } = reading;
+    let rest = Reading {
+        steps,
+        takes,
+        begun: None,
+    };
+    match begun {
+        None => outside(alloc, rest, line, &words),
+        Some(take) => within(alloc, rest, take, line, &words),
+    }
+}
+
+// The first line, with the byte 10 that ends it, and the text after it.
+fn cut_line(text: &[u8]) -> Option<(&[u8], &[u8])>
+    ensures { MatchOption result (lines_of text.now ≡ []) (λ cut. (lines_of text.now ≡ cut.0.now ∷ lines_of cut.1.now) × (length cut.1.now < length text.now)) }
+{
+    match place_of(b'\n', text) {
+        Some(place) => Some((&text[..place + 1], &text[place + 1..])),
+        None => match text {
+            [] => None,
+            [_, ..] => Some((text, b"")),
+        },
+    }
+}
+
+// The run that was read, where the text may end here.
+fn run_at(number: u64, reading: Reading) -> Result<Run, u64>
+    ensures { result ≡ run_at number reading reading.begun }
+{
+    match reading.begun {
+        None => Ok(Run {
+            steps: reading.steps,
+            takes: reading.takes,
+        }),
+        Some(_) => Err(number),
+    }
+}
+
+// The lines after the first one.
+fn run_from(alloc: Global, text: &[u8]) -> Result<Result<Run, u64>, NoMemory>
+    ensures { IfOk result (λ run. run ≡ run_from 2 fresh (lines_of text.now)) }
+{
+    let mut reading = Reading {
+        steps: Seq::new(alloc),
+        takes: Seq::new(alloc),
+        begun: None,
+    };
+    let mut rest = text;
+    let mut number = 2;
+    while let Some((line, after)) = cut_line(rest) {
+        let Some(next) = line_read(alloc, reading, line)? else {
+            return Ok(Err(number));
+        };
+        reading = next;
+        rest = after;
+        number += 1;
+    }
+    Ok(run_at(number, reading))
+}
+
+// The run that a text is, or the number of the line with which it can't go on.
+#[tactic(auto, unfolding(crate::specs::Reading::run_of))]
+fn run_of(alloc: Global, text: &[u8]) -> Result<Result<Run, u64>, NoMemory>
+    ensures { IfOk result (λ run. run ≡ run_of text.now) }
+{
+    match cut_line(text) {
+        Some((line, rest)) => {
+            if bytes_equal(line, b"run 1\n") {
+                run_from(alloc, rest)
+            } else {
+                Ok(Err(1))
+            }
+        }
+        None => Ok(Err(1)),
+    }
+}
+
+/// Reads the text of a run whose steps all learn an entry. It accepts exactly the texts that `print_run` writes of the runs that a
+/// text can write: each line in its printed form, steps and takes numbered from 1, all steps before the takes, and each take with
+/// its audit line.
+///
+/// Errors: `BadLine`, the first line with which no such text can go on, from 1 (one past the last line where the text ends too
+/// early; a last line without its byte 10 can't stand); or want of memory.
+pub fn read_run(alloc: Global, bytes: &[u8]) -> Result<Run, RunFault>
+    ensures { Gives result (run_of bytes.now) }
+{
+    match run_of(alloc, bytes) {
+        Ok(Ok(run)) => Ok(run),
+        Ok(Err(line)) => Err(RunFault::BadLine(line)),
+        Err(_) => Err(RunFault::NoMemory),
+    }
+}
+
+/// Runs and their texts, as laws over every run and every text: a run that a text can write is read from its text; what is read is a
+/// run that a text can write, and the text is its own; a fault names the first line with which no such text can go on.
+pub fn run_round_trip()
+    ensures written { WrittenIsRead }
+    ensures read { ReadIsWritten }
+    ensures fault { FaultIsFirst }
+{}
+
+#[cfg(test)]
+mod tests {
+    use super::*;
+    use crate::printing::print_run;
+
+    #[test]
+    fn runs_read_and_printed_again(rt: HostRuntime) -> Result<(), NoMemory> {
+        let alloc = rt.alloc();
+        for text in [
+            "run 1\n",
+            "run 1\nstep 1 added learn 0 file read /x\nstep 2 there learn 0 file read /x\ntake 1 7 0 0 granted\nlook 0 learning learn stay 1 -\naudit -\ntake 2 8 0 0 granted\nlook 0 learning learn stay 2 -\naudit -\n",
+            "run 1\nstep 1 quota learn 4294967295 file symlink /l symlink.target=\"/t\"\nstep 2 mode learn 3 misc env PATH\n",
+            "run 1\ntake 1 7 0 0 denied\nlook 0 enforcing no_entry stay - -\naudit profile=1\\040mode=enforcing\\012<kernel>\\012file\\040read\\040/b\\012\\012\n",
+            "run 1\ntake 1 3 0 15 granted\nlook 7 learning entry:65 enter:15 - -\nlook 9 permissive group:255:1 make 2,5 nobody@18446744073709551615\naudit -\ntake 2 3 0 0 denied\naudit -\ntake 3 1 2 3 denied\nlook 0 none no_manual fail - detached@0\nlook 0 disabled disabled stay - retry@1\naudit -\n",
+        ] {
+            match read_run(alloc, text.as_bytes()) {
+                Ok(run) => {
+                    let mut out = Vec::new(alloc);
+                    print_run(alloc, &run, &mut out)?;
+                    assert_eq!(rt; out.as_slice(), text.as_bytes(), "at {text}");
+                }
+                Err(fault) => assert!(rt; false, "{fault:?} at {text}"),
+            }
+        }
+        Ok(())
+    }
+
+    #[test]
+    fn first_lines_that_cannot_stand(rt: HostRuntime) {
+        for (text, line) in [
+            ("", 1),
+            ("run 1", 1),
+            ("run 2\n", 1),
+            ("take 1 7 0 0 granted\n", 1),
+            ("run 1\n\n", 2),
+            ("run 1\ntake 2 7 0 0 granted\n", 2),
+            ("run 1\nstep 2 added learn 0 file read /a\n", 2),
+            ("run 1\nstep 1 added learn 0 file write/read /a\n", 2),
+            ("run 1\nstep 1 added learn 0 file read  /a\n", 2),
+            ("run 1\nstep 1 done learn 0 file read /a\n", 2),
+            ("run 1\nstep 1 done attach\n", 2),
+            ("run 1\nstep 1 added learn 4294967296 file read /a\n", 2),
+            ("run 1\nstep 1 added learn 0 file read /a", 2),
+            ("run 1\ntake 1 07 0 0 granted\n", 2),
+            ("run 1\ntake 1 7 0 0 allowed\n", 2),
+            ("run 1\ntake 1 7 0 0 granted\n", 3),
+            (
+                "run 1\ntake 1 7 0 0 granted\nstep 1 added learn 0 file read /a\n",
+                3,
+            ),
+            (
+                "run 1\ntake 1 7 0 0 granted\nlook 0 learning group:0:1:2 stay - -\n",
+                3,
+            ),
+            (
+                "run 1\ntake 1 7 0 0 granted\nlook 0 learning group:256:1 stay - -\n",
+                3,
+            ),
+            (
+                "run 1\ntake 1 7 0 0 granted\nlook 0 learning group:0:1 stay - -\n",
+                4,
+            ),
+            (
+                "run 1\ntake 1 7 0 0 granted\nlook 0 learning entry:0 stay 1, -\n",
+                3,
+            ),
+            ("run 1\ntake 1 7 0 0 granted\naudit \\101\n", 3),
+            (
+                "run 1\ntake 1 7 0 0 granted\naudit -\nlook 0 learning learn stay 1 -\n",
+                4,
+            ),
+            (
+                "run 1\ntake 1 7 0 0 granted\naudit -\nstep 1 added learn 0 file read /a\n",
+                4,
+            ),
+            ("run 1\ntake 1 7 0 0 granted\naudit -\nx", 4),
+        ] {
+            match read_run(rt.alloc(), text.as_bytes()) {
+                Ok(_) => assert!(rt; false, "read: {text}"),
+                Err(fault) => assert_eq!(rt; fault, RunFault::BadLine(line), "at {text}"),
+            }
+        }
+    }
+}
