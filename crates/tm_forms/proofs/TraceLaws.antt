@@ -1,7 +1,7 @@
--- Every trace of the first path has one plain tree at most.
-use Rattle.std.proofs.Common.{◌≡◌, ℕ, suc, ◌≤◌, ◌==◌, Bool, true, false, ◌&&◌, ◌||◌, List, [], ◌∷◌, ◌++◌, length, refl, sym, ap, ◌∙◌, subst, arith}
-use Rattle.std.specs.Prelude.{Option, Some, None, Result, Ok, Err, if◌then◌else◌, codes}
-use Rattle.std.specs.List.{AllByRecursion}
+-- Every trace that is read has plain trees with distinct pids.
+use Rattle.std.proofs.Common.{◌≡◌, ℕ, suc, ◌==◌, Bool, true, false, ◌&&◌, ◌||◌, List, [], ◌∷◌, ◌++◌, refl, sym, ap, ◌∙◌, subst, map}
+use Rattle.std.specs.Prelude.{Option, Some, None, Result, Ok, Err, if◌then◌else◌, codes, option_to_list}
+use Rattle.std.specs.List.{AllByRecursion, IsDistinct}
 use Rattle.tm_word.specs.Words.{Text, Word}
 use Rattle.tm_word.specs.Spelling.{words_of}
 use Rattle.tm_word.specs.Matching.{is_empty}
@@ -17,8 +17,9 @@ use Rattle.tm_rules.specs.Equality.{texts_equal}
 use Rattle.tm_rules.specs.Requests.{is_request, begins_with_byte}
 use Rattle.tm_rules.proofs.EqualityLaws.{same_patterns}
 use Rattle.tm_forms.specs.Lines.{◌>>=◌, text_lines}
-use Rattle.tm_forms.specs.Trace.{pid_of, path_request, named_request, request_of, new_tree, tree_line, with_request, same_pid, do_line, trace_line, trace_with, trace_lines, trace_of}
-use Rattle.tm_forms.specs.TraceForms.{IsPlain, IsPlainItem, IsPlainTree, IsPlainTrace, EveryTraceIsPlain}
+use Rattle.tm_forms.specs.Numbers.{positive_of}
+use Rattle.tm_forms.specs.Trace.{path_request, named_request, perm_of, request_for, new_tree, tree_line, with_request, same_pid, do_line, Trees, no_trees, all_trees, is_known, with_tree, with_do, trace_line, trace_lines, trace_of}
+use Rattle.tm_forms.specs.TraceForms.{IsPlain, IsPlainItem, IsPlainTree, pids_of, IsPlainTrace, EveryTraceIsPlain}
 
 -- Steps that went well
 
@@ -48,105 +49,188 @@ no_right : (a b : Bool) → (a || b) ≡ false → b ≡ false
 no_right false b h = h
 no_right true b h = absurd cc
 
+-- Lists with one element more
+
+all_more : {A : Type 0} (P : A → Type 0) (xs : List A) (y : A) → AllByRecursion P xs → P y → AllByRecursion P (xs ++ y ∷ [])
+all_more P [] y all fits = (fits, tt)
+all_more P (x ∷ xs) y all fits = (all.0, all_more P xs y all.1 fits)
+
+all_front : {A : Type 0} (P : A → Type 0) (xs : List A) (y : A) → AllByRecursion P (xs ++ y ∷ []) → AllByRecursion P xs
+all_front P [] y all = tt
+all_front P (x ∷ xs) y all = (all.0, all_front P xs y all.1)
+
+all_last : {A : Type 0} (P : A → Type 0) (xs : List A) (y : A) → AllByRecursion P (xs ++ y ∷ []) → P y
+all_last P [] y all = all.0
+all_last P (x ∷ xs) y all = all_last P xs y all.1
+
+-- Pids
+
+pids_more : (trace : Trace) (tree : Tree) → pids_of (trace ++ tree ∷ []) ≡ pids_of trace ++ tree.pid ∷ []
+pids_more [] tree = refl
+pids_more (first ∷ trace) tree = ap (λ (pids : List ℕ). first.pid ∷ pids) (pids_more trace tree)
+
+-- a pid that no tree has is none of their pids
+unknown : (trace : Trace) (pid : ℕ) → is_known trace pid ≡ false → AllByRecursion (λ x. (x == pid) ≡ false) (pids_of trace)
+unknown [] pid none = tt
+unknown (tree ∷ trace) pid none = (no_left (tree.pid == pid) (is_known trace pid) none, unknown trace pid (no_right (tree.pid == pid) (is_known trace pid) none))
+
+distinct_more : (pids : List ℕ) (pid : ℕ) → IsDistinct (λ x y. x == y) pids → AllByRecursion (λ x. (x == pid) ≡ false) pids → IsDistinct (λ x y. x == y) (pids ++ pid ∷ [])
+unfolding IsDistinct
+distinct_more [] pid distinct others = (tt, tt)
+distinct_more (first ∷ pids) pid distinct others = (all_more (λ y. (first == y) ≡ false) pids pid distinct.0 others.0, distinct_more pids pid distinct.1 others.1)
+
 module _ (is_path : Text → Bool) where
-  read_fits : (name : Word) → (is_empty name || begins_with_byte 64 name) ≡ false → IsPlain is_path (path_request 1 name)
+  -- Requests
+
+  -- a name that a word of a line can write
+  abbrev IsNamed : Word → Type 0
+  IsNamed name = (is_empty name || begins_with_byte 64 name) ≡ false
+
+  fits_at_1 : (name : Word) → IsNamed name → IsPlain is_path (path_request 1 name)
   unfolding is_request function_of
-  read_fits name h =
+  fits_at_1 name h =
       let full = no_left (is_empty name) (begins_with_byte 64 name) h in
       let own = no_right (is_empty name) (begins_with_byte 64 name) h in
       record { askable = rw (literal-name name, same_patterns.full (literal name), full, own) refl; execute = refl; manual = refl }
 
-  write_fits : (name : Word) → (is_empty name || begins_with_byte 64 name) ≡ false → IsPlain is_path (path_request 2 name)
+  fits_at_2 : (name : Word) → IsNamed name → IsPlain is_path (path_request 2 name)
   unfolding is_request function_of
-  write_fits name h =
+  fits_at_2 name h =
       let full = no_left (is_empty name) (begins_with_byte 64 name) h in
       let own = no_right (is_empty name) (begins_with_byte 64 name) h in
       record { askable = rw (literal-name name, same_patterns.full (literal name), full, own) refl; execute = refl; manual = refl }
 
-  read_named : (line : ℕ) (name : Option Word) (r : Request) → named_request line 1 name ≡ Ok r → IsPlain is_path r
-  read_named line None r e = absurd cc
-  read_named line (Some name) r e =
-      let found = if_err (is_empty name || begins_with_byte 64 name) (Ok (path_request 1 name)) line r e in
-      subst (IsPlain is_path) (ok_is (path_request 1 name) r found.1) (read_fits name found.0)
+  fits_at_3 : (name : Word) → IsNamed name → IsPlain is_path (path_request 3 name)
+  unfolding is_request function_of
+  fits_at_3 name h =
+      let full = no_left (is_empty name) (begins_with_byte 64 name) h in
+      let own = no_right (is_empty name) (begins_with_byte 64 name) h in
+      record { askable = rw (literal-name name, same_patterns.full (literal name), full, own) refl; execute = refl; manual = refl }
 
-  write_named : (line : ℕ) (name : Option Word) (r : Request) → named_request line 2 name ≡ Ok r → IsPlain is_path r
-  write_named line None r e = absurd cc
-  write_named line (Some name) r e =
-      let found = if_err (is_empty name || begins_with_byte 64 name) (Ok (path_request 2 name)) line r e in
-      subst (IsPlain is_path) (ok_is (path_request 2 name) r found.1) (write_fits name found.0)
+  fits_at_5 : (name : Word) → IsNamed name → IsPlain is_path (path_request 5 name)
+  unfolding is_request function_of
+  fits_at_5 name h =
+      let full = no_left (is_empty name) (begins_with_byte 64 name) h in
+      let own = no_right (is_empty name) (begins_with_byte 64 name) h in
+      record { askable = rw (literal-name name, same_patterns.full (literal name), full, own) refl; execute = refl; manual = refl }
 
-  request_fits : (line : ℕ) (perm name : Text) (r : Request) → request_of line perm name ≡ Ok r → IsPlain is_path r
-  unfolding request_of
-  request_fits line perm name r e = go (texts_equal perm (codes "read")) (texts_equal perm (codes "write")) e
+  some_is : (x y : ℕ) → Some x ≡ Some y → x ≡ y
+  some_is x y e = cc
+
+  perm_fits : (word : Text) (perm : ℕ) (name : Word) → perm_of word ≡ Some perm → IsNamed name → IsPlain is_path (path_request perm name)
+  unfolding perm_of
+  perm_fits word perm name e h = go (texts_equal word (codes "read")) (texts_equal word (codes "write")) (texts_equal word (codes "append")) (texts_equal word (codes "getattr")) e
     where
-      go : (a b : Bool) → (if a then named_request line 1 (word_of name) else (if b then named_request line 2 (word_of name) else Err line)) ≡ Ok r → IsPlain is_path r
-      go true b h = read_named line (word_of name) r h
-      go false true h = write_named line (word_of name) r h
-      go false false h = absurd cc
+      at : (k : ℕ) → IsPlain is_path (path_request k name) → Some k ≡ Some perm → IsPlain is_path (path_request perm name)
+      at k fits is = subst (λ n. IsPlain is_path (path_request n name)) (some_is k perm is) fits
 
-  with_one_more : (own : ℕ) (items : List Item) (request : Request) → AllByRecursion (IsPlainItem is_path own) items → IsPlain is_path request → AllByRecursion (IsPlainItem is_path own) (items ++ Item.Do own request ∷ [])
-  with_one_more own [] request all fits = ((refl, fits), tt)
-  with_one_more own (item ∷ items) request all fits = (all.0, with_one_more own items request all.1 fits)
+      go : (a b c d : Bool) → (if a then Some 1 else (if b then Some 2 else (if c then Some 3 else (if d then Some 5 else None)))) ≡ Some perm → IsPlain is_path (path_request perm name)
+      go true b c d is = at 1 (fits_at_1 name h) is
+      go false true c d is = at 2 (fits_at_2 name h) is
+      go false false true d is = at 3 (fits_at_3 name h) is
+      go false false false true is = at 5 (fits_at_5 name h) is
+      go false false false false is = absurd cc
+
+  named_fits : (line perm : ℕ) (word : Text) (name : Option Word) (r : Request) → perm_of word ≡ Some perm → named_request line perm name ≡ Ok r → IsPlain is_path r
+  named_fits line perm word None r is e = absurd cc
+  named_fits line perm word (Some name) r is e =
+      let found = if_err (is_empty name || begins_with_byte 64 name) (Ok (path_request perm name)) line r e in
+      subst (IsPlain is_path) (ok_is (path_request perm name) r found.1) (perm_fits word perm name is found.0)
+
+  request_fits : (line : ℕ) (word name : Text) (r : Request) → request_for line (perm_of word) name ≡ Ok r → IsPlain is_path r
+  request_fits line word name r e = go (perm_of word) refl e
+    where
+      go : (perm : Option ℕ) → perm_of word ≡ perm → request_for line perm name ≡ Ok r → IsPlain is_path r
+      go None is h = absurd cc
+      go (Some perm) is h = named_fits line perm word (word_of name) r is h
+
+  same_fits : (line own pid : ℕ) (perm name : Text) (r : Request) → same_pid line own pid perm name ≡ Ok r → IsPlain is_path r
+  same_fits line own pid perm name r e = request_fits line perm name r (if_ok (pid == own) (request_for line (perm_of perm) name) line r e)
+
+  do_fits : (line own : ℕ) (words : List Text) (r : Request) → do_line line own words ≡ Ok r → IsPlain is_path r
+  unfolding do_line
+  do_fits line own [] r e = absurd cc
+  do_fits line own (a ∷ []) r e = absurd cc
+  do_fits line own (a ∷ b ∷ []) r e = absurd cc
+  do_fits line own (a ∷ b ∷ c ∷ []) r e = absurd cc
+  do_fits line own (pid ∷ category ∷ perm ∷ name ∷ []) r e =
+      let right = if_ok (texts_equal category (codes "file")) (positive_of line pid >>= (λ number. same_pid line own number perm name)) line r e in
+      let found = bind_ok (positive_of line pid) (λ number. same_pid line own number perm name) r right in
+      same_fits line own found.0 perm name r found.2
+  do_fits line own (a ∷ b ∷ c ∷ d ∷ e ∷ words) r h = absurd cc
+
+  -- Trees
 
   with_fits : (tree : Tree) (request : Request) → IsPlainTree is_path tree → IsPlain is_path request → IsPlainTree is_path (with_request tree request)
-  with_fits tree request plain fits = record { start = plain.start; records = with_one_more tree.pid tree.records request plain.records fits }
-
-  same_fits : (line : ℕ) (tree : Tree) (pid : ℕ) (perm name : Text) (next : Tree) → IsPlainTree is_path tree → same_pid line tree pid perm name ≡ Ok next → IsPlainTree is_path next
-  same_fits line tree pid perm name next plain e =
-      let right = if_ok (pid == tree.pid) (request_of line perm name >>= (λ request. Ok (with_request tree request))) line next e in
-      let found = bind_ok (request_of line perm name) (λ request. Ok (with_request tree request)) next right in
-      subst (IsPlainTree is_path) (ok_is (with_request tree found.0) next found.2) (with_fits tree found.0 plain (request_fits line perm name found.0 found.1))
-
-  do_fits : (line : ℕ) (tree : Tree) (words : List Text) (next : Tree) → IsPlainTree is_path tree → do_line line tree words ≡ Ok next → IsPlainTree is_path next
-  unfolding do_line
-  do_fits line tree [] next plain e = absurd cc
-  do_fits line tree (a ∷ []) next plain e = absurd cc
-  do_fits line tree (a ∷ b ∷ []) next plain e = absurd cc
-  do_fits line tree (a ∷ b ∷ c ∷ []) next plain e = absurd cc
-  do_fits line tree (a ∷ b ∷ c ∷ d ∷ []) next plain e = absurd cc
-  do_fits line tree (key ∷ pid ∷ category ∷ perm ∷ name ∷ []) next plain e =
-      let right = if_ok (texts_equal key (codes "do") && texts_equal category (codes "file")) (pid_of line pid >>= (λ number. same_pid line tree number perm name)) line next e in
-      let found = bind_ok (pid_of line pid) (λ number. same_pid line tree number perm name) next right in
-      same_fits line tree found.0 perm name next plain found.2
-  do_fits line tree (a ∷ b ∷ c ∷ d ∷ e ∷ f ∷ words) next plain h = absurd cc
+  with_fits tree request plain fits = record { start = plain.start; records = all_more (IsPlainItem is_path tree.pid) tree.records (Item.Do tree.pid request) plain.records (refl, fits) }
 
   tree_fits : (line : ℕ) (words : List Text) (tree : Tree) → tree_line line words ≡ Ok tree → IsPlainTree is_path tree
   unfolding tree_line
   tree_fits line [] tree e = absurd cc
   tree_fits line (a ∷ []) tree e = absurd cc
-  tree_fits line (a ∷ b ∷ []) tree e = absurd cc
-  tree_fits line (key ∷ pid ∷ start ∷ []) tree e =
-      let right = if_ok (texts_equal key (codes "tree") && texts_equal start (codes "<kernel>")) (pid_of line pid >>= (λ number. Ok (new_tree number))) line tree e in
-      let found = bind_ok (pid_of line pid) (λ number. Ok (new_tree number)) tree right in
+  tree_fits line (pid ∷ start ∷ []) tree e =
+      let right = if_ok (texts_equal start (codes "<kernel>")) (positive_of line pid >>= (λ number. Ok (new_tree number))) line tree e in
+      let found = bind_ok (positive_of line pid) (λ number. Ok (new_tree number)) tree right in
       subst (IsPlainTree is_path) (ok_is (new_tree found.0) tree found.2) (record { start = refl; records = tt })
-  tree_fits line (a ∷ b ∷ c ∷ d ∷ words) tree e = absurd cc
+  tree_fits line (a ∷ b ∷ c ∷ words) tree e = absurd cc
 
-  -- the tree so far is plain
-  abbrev Fits : Option Tree → Type 0
-  Fits None = Unit {0}
-  Fits (Some tree) = IsPlainTree is_path tree
+  -- one plain tree more, with a new pid
+  begun_fits : (trace : Trace) (tree : Tree) → IsPlainTrace is_path trace → IsPlainTree is_path tree → is_known trace tree.pid ≡ false → IsPlainTrace is_path (trace ++ tree ∷ [])
+  begun_fits trace tree plain fits new =
+      record {
+        trees = all_more (IsPlainTree is_path) trace tree plain.trees fits;
+        distinct = subst (IsDistinct (λ x y. x == y)) (sym (pids_more trace tree)) (distinct_more (pids_of trace) tree.pid plain.distinct (unknown trace tree.pid new));
+      }
 
-  line_fits : (line : ℕ) (state : Option Tree) (words : List Text) (next : Option Tree) → Fits state → trace_line line state words ≡ Ok next → Fits next
+  -- another plain tree with the same pid in the last place
+  changed_fits : (trace : Trace) (tree next : Tree) → IsPlainTrace is_path (trace ++ tree ∷ []) → next.pid ≡ tree.pid → (IsPlainTree is_path tree → IsPlainTree is_path next) → IsPlainTrace is_path (trace ++ next ∷ [])
+  changed_fits trace tree next plain same fits =
+      record {
+        trees = all_more (IsPlainTree is_path) trace next (all_front (IsPlainTree is_path) trace tree plain.trees) (fits (all_last (IsPlainTree is_path) trace tree plain.trees));
+        distinct = subst (IsDistinct (λ x y. x == y)) (pids_more trace tree ∙ ap (λ (pid : ℕ). pids_of trace ++ pid ∷ []) (sym same) ∙ sym (pids_more trace next)) plain.distinct;
+      }
+
+  -- the trees so far are plain
+  abbrev Fits : Trees → Type 0
+  Fits trees = IsPlainTrace is_path (all_trees trees)
+
+  with_tree_fits : (line : ℕ) (trees : Trees) (tree : Tree) (next : Trees) → Fits trees → IsPlainTree is_path tree → with_tree line trees tree ≡ Ok next → Fits next
+  with_tree_fits line trees tree next plain fits e =
+      let more : Trees = record { before = all_trees trees; last = Some tree } in
+      let found = if_err (is_known (all_trees trees) tree.pid) (Ok more) line next e in
+      subst Fits (ok_is more next found.1) (begun_fits (all_trees trees) tree plain fits found.0)
+
+  with_do_fits : (line : ℕ) (trees : Trees) (last : Option Tree) (words : List Text) (next : Trees) → IsPlainTrace is_path (trees.before ++ option_to_list last) → with_do line trees last words ≡ Ok next → Fits next
+  unfolding with_do
+  with_do_fits line trees None words next plain e = absurd cc
+  with_do_fits line trees (Some tree) words next plain e =
+      let found = bind_ok (do_line line tree.pid words) (λ request. done (record trees { last = Some (with_request tree request) })) next e in
+      subst Fits (ok_is (record trees { last = Some (with_request tree found.0) }) next found.2)
+      (changed_fits trees.before tree (with_request tree found.0) plain refl (λ fits. with_fits tree found.0 fits (do_fits line tree.pid words found.0 found.1)))
+
+  line_fits : (line : ℕ) (trees : Trees) (words : List Text) (next : Trees) → Fits trees → trace_line line trees words ≡ Ok next → Fits next
   unfolding trace_line
-  line_fits line state [] next plain e = subst Fits (ok_is state next e) plain
-  line_fits line None (word ∷ words) next plain e =
-      let found = bind_ok (tree_line line (word ∷ words)) (λ tree. done (Some tree)) next e in
-      subst Fits (ok_is (Some found.0) next found.2) (tree_fits line (word ∷ words) found.0 found.1)
-  line_fits line (Some tree) (word ∷ words) next plain e =
-      let found = bind_ok (do_line line tree (word ∷ words)) (λ after. done (Some after)) next e in
-      subst Fits (ok_is (Some found.0) next found.2) (do_fits line tree (word ∷ words) found.0 plain found.1)
+  line_fits line trees [] next plain e = subst Fits (ok_is trees next e) plain
+  line_fits line trees (key ∷ words) next plain e = go (texts_equal key (codes "tree")) (texts_equal key (codes "do")) e
+    where
+      go : (a b : Bool) → (if a then tree_line line words >>= (λ tree. with_tree line trees tree) else (if b then with_do line trees trees.last words else Err line)) ≡ Ok next → Fits next
+      go true b h =
+          let found = bind_ok (tree_line line words) (λ tree. with_tree line trees tree) next h in
+          with_tree_fits line trees found.0 next plain (tree_fits line words found.0 found.1) found.2
+      go false true h = with_do_fits line trees trees.last words next plain h
+      go false false h = absurd cc
 
-  trace_fits : (state : Option Tree) → Fits state → IsPlainTrace is_path (trace_with state)
-  trace_fits None plain = record { trees = tt; one = omega arith }
-  trace_fits (Some tree) plain = record { trees = (plain, tt); one = omega arith }
-
-  lines_fit : (number : ℕ) (state : Option Tree) (lines : List Text) (trace : Trace) → Fits state → trace_lines number state lines ≡ Ok trace → IsPlainTrace is_path trace
+  lines_fit : (number : ℕ) (trees : Trees) (lines : List Text) (trace : Trace) → Fits trees → trace_lines number trees lines ≡ Ok trace → IsPlainTrace is_path trace
   unfolding trace_lines
-  lines_fit number state [] trace plain e = subst (IsPlainTrace is_path) (ok_is (trace_with state) trace e) (trace_fits state plain)
-  lines_fit number state (line ∷ lines) trace plain e =
-      let found = bind_ok (trace_line number state (words_of line)) (λ next. trace_lines (suc number) next lines) trace e in
-      lines_fit (suc number) found.0 lines trace (line_fits number state (words_of line) found.0 plain found.1) found.2
+  lines_fit number trees [] trace plain e = subst (IsPlainTrace is_path) (ok_is (all_trees trees) trace e) plain
+  lines_fit number trees (line ∷ lines) trace plain e =
+      let found = bind_ok (trace_line number trees (words_of line)) (λ next. trace_lines (suc number) next lines) trace e in
+      lines_fit (suc number) found.0 lines trace (line_fits number trees (words_of line) found.0 plain found.1) found.2
+
+none_fit : (is_path : Text → Bool) → IsPlainTrace is_path []
+unfolding IsDistinct
+none_fit is_path = record { trees = tt; distinct = tt }
 
 pub every_trace_is_plain : EveryTraceIsPlain
 unfolding trace_of
-every_trace_is_plain is_path text trace e = lines_fit is_path 1 None (text_lines text) trace tt e
+every_trace_is_plain is_path text trace e = lines_fit is_path 1 no_trees (text_lines text) trace (none_fit is_path) e

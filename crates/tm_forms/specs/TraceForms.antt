@@ -1,6 +1,6 @@
--- What every trace of the first path is.
-use Rattle.std.specs.Prelude.{◌≡◌, ℕ, ◌≤◌, Bool, true, false, List, [], ◌∷◌, length, Ok}
-use Rattle.std.specs.List.{AllByRecursion}
+-- What every trace that is read is.
+use Rattle.std.specs.Prelude.{◌≡◌, ℕ, ◌==◌, Bool, true, false, List, [], ◌∷◌, map, Ok}
+use Rattle.std.specs.List.{AllByRecursion, IsDistinct}
 use Rattle.tm_word.specs.Words.{Text}
 use Rattle.tm_types.specs.declared.request.Request.{Request}
 use Rattle.tm_types.specs.declared.request.Item.{Item}
@@ -28,11 +28,15 @@ pub record IsPlainTree (is_path : Text → Bool) (tree : Tree) : Type 0 where
   pub start : tree.start ≡ kernel
   pub records : AllByRecursion (IsPlainItem is_path tree.pid) tree.records
 
--- at most one tree, and it is plain
+-- the pids of trees, in order
+abbrev pub pids_of : Trace → List ℕ
+pids_of trace = map (λ (tree : Tree). tree.pid) trace
+
+-- plain trees whose pids are distinct
 pub record IsPlainTrace (is_path : Text → Bool) (trace : Trace) : Type 0 where
   pub trees : AllByRecursion (IsPlainTree is_path) trace
-  pub one : length trace ≤ 1
+  pub distinct : IsDistinct (λ x y. x == y) (pids_of trace)
 
--- every trace of the first path is plain
+-- every trace that is read is plain
 abbrev pub EveryTraceIsPlain : Type 0
 EveryTraceIsPlain = (is_path : Text → Bool) (text : Text) (trace : Trace) → trace_of text ≡ Ok trace → IsPlainTrace is_path trace

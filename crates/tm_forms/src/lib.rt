@@ -4,9 +4,12 @@
 #![tactic(auto)]
 
 mod lines;
+mod numbers;
 mod opening;
+mod schedule;
 mod trace;
 
 pub use lines::FormFault;
 pub use opening::{first_openings, read_domains, read_profile};
+pub use schedule::read_schedule;
 pub use trace::{plain_traces, read_trace};

@@ -1,42 +1,21 @@
-//! Traces of the first path.
-ghost use Rattle.std.specs.Prelude.{◌≡◌, Ok, IfOk};
+//! Traces: trees of one process each.
+ghost use Rattle.std.specs.Prelude.{◌≡◌, ◌++◌, Ok, IfOk, option_to_list};
 ghost use Rattle.tm_forms.specs.Lines.{Gives};
 ghost use Rattle.tm_forms.specs.TraceForms.{EveryTraceIsPlain};
-ghost use Rattle.tm_forms.specs.Trace.{pid_of, path_request, named_request, request_of, with_request, same_pid, tree_line, do_line, trace_line, trace_of};
+ghost use Rattle.tm_forms.specs.Trace.{path_request, named_request, perm_of, request_for, with_request, same_pid, tree_line, do_line, Trees, no_trees, HoldsPids, with_tree, with_do, trace_line, trace_of};
 
 use crate::lines::{FormFault, text_lines};
+use crate::numbers::positive_of;
 use std::alloc::Global;
+use std::collections::BTreeSet;
+use std::marker::Model;
 use tm_list::{NoMemory, Seq};
-use tm_number::{Base, read_number};
 use tm_pattern::{literal, spelled_word};
 use tm_rules::bytes_equal;
 use tm_types::entry::Args;
 use tm_types::request::{Attributes, Item, Request, Trace, Tree};
 use tm_types::unions::NameUnion;
 use tm_word::{Text, Word, normal_words};
-
-/// The pid that a word writes: a decimal number from 1 to 2^32 - 1.
-#[tactic(auto, unfolding(crate::specs::Trace::pid_of))]
-fn pid_of(line: u64, word: &[u8]) -> Result<u32, FormFault>
-    ensures { Gives result (pid_of line word.now) }
-{
-    match read_number(word) {
-        Ok(number) => match number.base {
-            Base::Decimal => {
-                if number.value == 0 {
-                    Err(FormFault::Line(line))
-                } else if number.value < 4_294_967_296 {
-                    Ok(number.value as u32)
-                } else {
-                    Err(FormFault::Line(line))
-                }
-            }
-            Base::Octal => Err(FormFault::Line(line)),
-            Base::Hex => Err(FormFault::Line(line)),
-        },
-        Err(_) => Err(FormFault::Line(line)),
-    }
-}
 
 /// The request for a permission of the row of single paths on this name.
 fn path_request(alloc: Global, perm: u8, name: &Word) -> Result<Request, NoMemory>
@@ -77,29 +56,45 @@ fn named_request(
     }
 }
 
-/// The request of `read NAME` or `write NAME`.
-#[tactic(auto, unfolding(crate::specs::Trace::request_of))]
-fn request_of(alloc: Global, line: u64, perm: &[u8], name: &[u8]) -> Result<Request, FormFault>
-    ensures { Gives result (request_of line perm.now name.now) }
+/// The place of `read`, `write`, `append` or `getattr` in the row of single paths.
+#[tactic(auto, unfolding(crate::specs::Trace::perm_of))]
+fn perm_of(word: &[u8]) -> Option<u8>
+    ensures { result ≡ perm_of word.now }
 {
-    if bytes_equal(perm, b"read") {
-        return named_request(alloc, line, 1, spelled_word(alloc, name)?);
+    if bytes_equal(word, b"read") {
+        return Some(1);
     }
-    if bytes_equal(perm, b"write") {
-        return named_request(alloc, line, 2, spelled_word(alloc, name)?);
+    if bytes_equal(word, b"write") {
+        return Some(2);
     }
-    Err(FormFault::Line(line))
+    if bytes_equal(word, b"append") {
+        return Some(3);
+    }
+    if bytes_equal(word, b"getattr") {
+        return Some(5);
+    }
+    None
 }
 
-/// Reads `tree PID <kernel>`.
+/// The request of `PERMISSION NAME`.
+fn request_of(alloc: Global, line: u64, perm: &[u8], name: &[u8]) -> Result<Request, FormFault>
+    ensures { Gives result (request_for line (perm_of perm.now) name.now) }
+{
+    match perm_of(perm) {
+        None => Err(FormFault::Line(line)),
+        Some(perm) => named_request(alloc, line, perm, spelled_word(alloc, name)?),
+    }
+}
+
+/// Reads what stands behind `tree`: `PID <kernel>`.
 #[tactic(auto, unfolding(crate::specs::Trace::tree_line))]
 fn tree_line(alloc: Global, line: u64, words: &[Text]) -> Result<Tree, FormFault>
     ensures { Gives result (tree_line line words.now) }
 {
     match words {
-        [key, pid, start] => {
-            if bytes_equal(key.bytes(), b"tree") && bytes_equal(start.bytes(), b"<kernel>") {
-                let pid = pid_of(line, pid.bytes())?;
+        [pid, start] => {
+            if bytes_equal(start.bytes(), b"<kernel>") {
+                let pid = positive_of(line, pid.bytes())?;
                 Ok(Tree {
                     start: Seq::from_bytes(alloc, b"<kernel>")?,
                     pid,
@@ -113,9 +108,45 @@ fn tree_line(alloc: Global, line: u64, words: &[Text]) -> Result<Tree, FormFault
     }
 }
 
+/// The request, where the pid is the tree's own.
+fn same_pid(
+    alloc: Global,
+    line: u64,
+    own: u32,
+    pid: u32,
+    perm: &[u8],
+    name: &[u8],
+) -> Result<Request, FormFault>
+    ensures { Gives result (same_pid line own pid perm.now name.now) }
+{
+    if pid == own {
+        request_of(alloc, line, perm, name)
+    } else {
+        Err(FormFault::Line(line))
+    }
+}
+
+/// Reads what stands behind `do`: `PID file PERMISSION NAME`, with the tree's own pid.
+#[tactic(auto, unfolding(crate::specs::Trace::do_line))]
+fn do_line(alloc: Global, line: u64, own: u32, words: &[Text]) -> Result<Request, FormFault>
+    ensures { Gives result (do_line line own words.now) }
+{
+    match words {
+        [pid, category, perm, name] => {
+            if bytes_equal(category.bytes(), b"file") {
+                let pid = positive_of(line, pid.bytes())?;
+                same_pid(alloc, line, own, pid, perm.bytes(), name.bytes())
+            } else {
+                Err(FormFault::Line(line))
+            }
+        }
+        _ => Err(FormFault::Line(line)),
+    }
+}
+
 /// The tree with one more request of its process.
-fn with_request(tree: Tree, request: Request) -> Result<Tree, FormFault>
-    ensures { Gives result (Ok (with_request tree request)) }
+fn with_request(tree: Tree, request: Request) -> Result<Tree, NoMemory>
+    ensures { IfOk result (λ next. next ≡ with_request tree request) }
 {
     let Tree {
         start,
@@ -130,64 +161,117 @@ fn with_request(tree: Tree, request: Request) -> Result<Tree, FormFault>
     })
 }
 
-/// The tree with one more request, where the pid is that of the tree.
-fn same_pid(
-    alloc: Global,
-    line: u64,
-    tree: Tree,
-    pid: u32,
-    perm: &[u8],
-    name: &[u8],
-) -> Result<Tree, FormFault>
-    ensures { Gives result (same_pid line tree pid perm.now name.now) }
+/// These trees and the last one, if there is one.
+fn joined(mut before: Seq<Tree>, last: Option<Tree>) -> Result<Trace, NoMemory>
+    ensures { IfOk result (λ trees. trees ≡ before ++ option_to_list last) }
 {
-    if pid == tree.pid {
-        let request = request_of(alloc, line, perm, name)?;
-        with_request(tree, request)
-    } else {
-        Err(FormFault::Line(line))
+    match last {
+        None => Ok(before),
+        Some(tree) => {
+            before.push(tree)?;
+            Ok(before)
+        }
     }
 }
 
-/// Reads `do PID file read NAME` or `do PID file write NAME`, with the pid of the tree.
-#[tactic(auto, unfolding(crate::specs::Trace::do_line))]
-fn do_line(alloc: Global, line: u64, tree: Tree, words: &[Text]) -> Result<Tree, FormFault>
-    ensures { Gives result (do_line line tree words.now) }
-{
-    match words {
-        [key, pid, category, perm, name] => {
-            if bytes_equal(key.bytes(), b"do") && bytes_equal(category.bytes(), b"file") {
-                let pid = pid_of(line, pid.bytes())?;
-                same_pid(alloc, line, tree, pid, perm.bytes(), name.bytes())
-            } else {
-                Err(FormFault::Line(line))
+/// The trees that have been read: those before the last one, the last one, and the pids of all of them.
+#[derive(Drop)]
+struct Reading {
+    before: Seq<Tree>,
+    last: Option<Tree>,
+    pids: BTreeSet<u32>,
+}
+
+impl Model for Reading {
+    ghost Value = { Trees };
+
+    ghost view = { λ r. record { before = r.before; last = r.last } };
+
+    ghost invariant = { λ r. HoldsPids r.pids (r.before ++ option_to_list r.last) };
+}
+
+impl Reading {
+    /// No tree yet.
+    fn new(alloc: Global) -> Reading
+        ensures { result ≡ no_trees }
+    {
+        Reading {
+            before: Seq::new(alloc),
+            last: None,
+            pids: BTreeSet::new(alloc),
+        }
+    }
+
+    /// One tree more, whose pid no earlier tree has.
+    fn with_tree(self, line: u64, tree: Tree) -> Result<Reading, FormFault>
+        ensures { Gives result (with_tree line self tree) }
+    {
+        let Reading {
+            before,
+            last,
+            mut pids,
+        } = self;
+        if pids.insert(tree.pid)? {
+            let before = joined(before, last)?;
+            Ok(Reading {
+                before,
+                last: Some(tree),
+                pids,
+            })
+        } else {
+            Err(FormFault::Line(line))
+        }
+    }
+
+    /// One request more of the last tree's process.
+    #[tactic(auto, unfolding(crate::specs::Trace::with_do))]
+    fn with_do(self, alloc: Global, line: u64, words: &[Text]) -> Result<Reading, FormFault>
+        ensures { Gives result (with_do line self self.last words.now) }
+    {
+        let Reading { before, last, pids } = self;
+        match last {
+            None => Err(FormFault::Line(line)),
+            Some(tree) => {
+                let request = do_line(alloc, line, tree.pid, words)?;
+                let tree = with_request(tree, request)?;
+                Ok(Reading {
+                    before,
+                    last: Some(tree),
+                    pids,
+                })
             }
         }
-        _ => Err(FormFault::Line(line)),
     }
 }
 
-/// The tree so far after a line with these words.
+/// The trees so far after a line with these words.
 #[tactic(auto, unfolding(crate::specs::Trace::trace_line))]
 fn trace_line(
     alloc: Global,
     line: u64,
-    state: Option<Tree>,
+    trees: Reading,
     words: &[Text],
-) -> Result<Option<Tree>, FormFault>
-    ensures { Gives result (trace_line line state words.now) }
+) -> Result<Reading, FormFault>
+    ensures { Gives result (trace_line line trees words.now) }
 {
     match words {
-        [] => Ok(state),
-        [_, ..] => match state {
-            None => Ok(Some(tree_line(alloc, line, words)?)),
-            Some(tree) => Ok(Some(do_line(alloc, line, tree, words)?)),
-        },
+        [] => Ok(trees),
+        [key, words @ ..] => {
+            if bytes_equal(key.bytes(), b"tree") {
+                let tree = tree_line(alloc, line, words)?;
+                return trees.with_tree(line, tree);
+            }
+            if bytes_equal(key.bytes(), b"do") {
+                return trees.with_do(alloc, line, words);
+            }
+            Err(FormFault::Line(line))
+        }
     }
 }
 
-/// Reads a trace of the first path: no line with words, or `tree PID <kernel>` and then lines `do PID file read NAME` and
-/// `do PID file write NAME` with that pid and a literal name. Lines without words count and are skipped.
+/// Reads a trace: trees, each of them a line `tree PID <kernel>` with a pid that no earlier tree has, and then lines
+/// `do PID file PERMISSION NAME` with that pid, one of the permissions `read`, `write`, `append` and `getattr`, and a literal name.
+/// Lines without words count and are skipped.
 ///
 /// Errors: the first line outside these forms, or want of memory.
 #[tactic(auto, unfolding(crate::specs::Trace::trace_of, crate::specs::Trace::trace_lines))]
@@ -195,20 +279,64 @@ pub fn read_trace(alloc: Global, bytes: &[u8]) -> Result<Trace, FormFault>
     ensures { Gives result (trace_of bytes.now) }
 {
     let lines = text_lines(alloc, bytes)?;
-    let mut state = None;
+    let mut trees = Reading::new(alloc);
     for (place, line) in lines.iter().enumerate() {
         let words = normal_words(alloc, line.bytes())?;
-        state = trace_line(alloc, place as u64 + 1, state, &words)?;
+        trees = trace_line(alloc, place as u64 + 1, trees, &words)?;
     }
-    let mut trace = Seq::new(alloc);
-    if let Some(tree) = state {
-        trace.push(tree)?;
-    }
-    Ok(trace)
+    let Reading { before, last, .. } = trees;
+    Ok(joined(before, last)?)
 }
 
-/// A law, nothing to run: every trace that is read has at most one tree, which begins in `<kernel>` and has only requests of its
-/// own process, each one that a trace can hold, no execute and no manual transition.
+/// A law, nothing to run: every trace that is read has only trees that begin in `<kernel>`, whose pids are distinct, and each of which has
+/// only requests of its own process, each one that a trace can hold, no execute and no manual transition.
 pub fn plain_traces()
     ensures { EveryTraceIsPlain }
 {}
+
+#[cfg(test)]
+mod tests {
+    use super::*;
+
+    // How many trees a trace has.
+    fn trees(alloc: Global, text: &str) -> Result<usize, FormFault> {
+        let trace = read_trace(alloc, text.as_bytes())?;
+        Ok(trace.len())
+    }
+
+    #[test]
+    fn traces_and_their_first_lines_outside_the_forms(rt: HostRuntime) {
+        for (text, read) in [
+            ("", Ok(0)),
+            (
+                "\n\ntree 7 <kernel>\n\ndo 7 file read /a\ntree 8 <kernel>",
+                Ok(2),
+            ),
+            (
+                "tree 7 <kernel>\ndo 7 file append /a\ndo 7 file getattr /b\n",
+                Ok(1),
+            ),
+            ("do 7 file read /a\n", Err(FormFault::Line(1))),
+            (
+                "tree 7 <kernel>\ntree 8 <kernel>\ndo 7 file read /a\n",
+                Err(FormFault::Line(3)),
+            ),
+            (
+                "tree 7 <kernel>\n\ntree 7 <kernel>\n",
+                Err(FormFault::Line(3)),
+            ),
+            (
+                "tree 7 <kernel>\ndo 7 file unlink /a\n",
+                Err(FormFault::Line(2)),
+            ),
+            (
+                "tree 7 <kernel>\ndo 7 file read @a\n",
+                Err(FormFault::Line(2)),
+            ),
+            ("tree 7 <kernel> /s\n", Err(FormFault::Line(1))),
+            ("tree 0 <kernel>\n", Err(FormFault::Line(1))),
+        ] {
+            assert_eq!(rt; trees(rt.alloc(), text), read, "at {text}");
+        }
+    }
+}

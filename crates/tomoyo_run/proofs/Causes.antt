@@ -1,5 +1,5 @@
 -- The cause of each status, from how the call ends.
-use Rattle.std.proofs.Common.{◌∙◌, inl, inr, ◌++◌, List, ap, sym}
+use Rattle.std.proofs.Common.{◌∙◌, ◌++◌, List, ap, sym}
 use Rattle.tm_io.specs.declared.names.FileName.{FileName}
 use Rattle.tm_io.specs.Causes.{Rose}
 use Rattle.tomoyo_run.specs.declared.status.Status.{Status}
@@ -20,10 +20,10 @@ fetch-cause command old new Status.Done stops untouched = absurd stops.cause
 fetch-cause command old new (Status.ReadFault name) stops untouched = (stops, untouched)
 fetch-cause command old new (Status.WriteFault name) stops untouched = absurd stops.cause
 fetch-cause command old new Status.OutOfMemory stops untouched = untouched.written
-fetch-cause command old new (Status.NotBuilt name line) stops untouched = (inl stops, untouched)
+fetch-cause command old new (Status.NotBuilt name line) stops untouched = absurd stops.cause
 fetch-cause command old new (Status.BadWords place) stops untouched = absurd stops.cause
-fetch-cause command old new (Status.Absent name) stops untouched = absurd stops.cause
-fetch-cause command old new (Status.TooLong name) stops untouched = absurd stops.cause
+fetch-cause command old new (Status.Absent name) stops untouched = (stops, untouched)
+fetch-cause command old new (Status.TooLong name) stops untouched = (stops, untouched)
 fetch-cause command old new (Status.BadPolicy file line reply) stops untouched = absurd stops.cause
 fetch-cause command old new (Status.UndefinedProfile domain) stops untouched = absurd stops.cause
 fetch-cause command old new (Status.BadTrace line kind) stops untouched = absurd stops.cause
@@ -36,7 +36,7 @@ refused-cause command old new texts Status.Done given refused untouched = tt
 refused-cause command old new texts (Status.ReadFault name) given refused untouched = absurd (refusal-kind texts (Status.ReadFault name) refused)
 refused-cause command old new texts (Status.WriteFault name) given refused untouched = absurd (refusal-kind texts (Status.WriteFault name) refused)
 refused-cause command old new texts Status.OutOfMemory given refused untouched = untouched.written
-refused-cause command old new texts (Status.NotBuilt name line) given refused untouched = (inr (texts, given, refused), untouched)
+refused-cause command old new texts (Status.NotBuilt name line) given refused untouched = ((texts, given, refused), untouched)
 refused-cause command old new texts (Status.BadWords place) given refused untouched = absurd (refusal-kind texts (Status.BadWords place) refused)
 refused-cause command old new texts (Status.Absent name) given refused untouched = absurd (refusal-kind texts (Status.Absent name) refused)
 refused-cause command old new texts (Status.TooLong name) given refused untouched = absurd (refusal-kind texts (Status.TooLong name) refused)

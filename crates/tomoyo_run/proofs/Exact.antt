@@ -11,7 +11,7 @@ use Rattle.tomoyo_run.specs.Ends.{Outside, Ends, CarriedOut}
 use Rattle.tomoyo_run.specs.Play.{refusal_of, Refuses}
 use Rattle.tomoyo_run.specs.Call.{wants_of, Allows, CommandCause, answer_of, Answers}
 use Rattle.tomoyo_run.proofs.Refusals.{refusal-kind}
-use Rattle.tomoyo_run.proofs.Told.{texts-told, all-read, stop-unread}
+use Rattle.tomoyo_run.proofs.Told.{texts-told, all-read, absent-unread, too-long-unread, stop-unread}
 
 -- a fetch that ends the call
 fetch-exact : (command : Command) (files : Files) (rose : Type 0) (status : Status) → TellsAll files → FetchStops files (wants_of command) rose status → Answers (answer_of command files) status
@@ -19,11 +19,12 @@ fetch-exact command files rose Status.Done tells stops = absurd stops.cause
 fetch-exact command files rose (Status.ReadFault name) tells stops = tt
 fetch-exact command files rose (Status.WriteFault name) tells stops = absurd stops.cause
 fetch-exact command files rose Status.OutOfMemory tells stops = tt
-fetch-exact command files rose (Status.NotBuilt name line) tells stops =
-    rw (stop-unread files (wants_of command) stops.place stops.want stops.texts rose name line tells stops.stands stops.before stops.cause) refl
+fetch-exact command files rose (Status.NotBuilt name line) tells stops = absurd stops.cause
 fetch-exact command files rose (Status.BadWords place) tells stops = absurd stops.cause
-fetch-exact command files rose (Status.Absent name) tells stops = absurd stops.cause
-fetch-exact command files rose (Status.TooLong name) tells stops = absurd stops.cause
+fetch-exact command files rose (Status.Absent name) tells stops =
+    rw (stop-unread files (wants_of command) stops.place stops.want stops.texts rose (Status.Absent name) (λ want state is h. absent-unread want state rose name is h) tells stops.stands stops.before stops.cause) refl
+fetch-exact command files rose (Status.TooLong name) tells stops =
+    rw (stop-unread files (wants_of command) stops.place stops.want stops.texts rose (Status.TooLong name) (λ want state is h. too-long-unread want state rose name is h) tells stops.stands stops.before stops.cause) refl
 fetch-exact command files rose (Status.BadPolicy file line reply) tells stops = absurd stops.cause
 fetch-exact command files rose (Status.UndefinedProfile domain) tells stops = absurd stops.cause
 fetch-exact command files rose (Status.BadTrace line kind) tells stops = absurd stops.cause

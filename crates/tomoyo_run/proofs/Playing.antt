@@ -33,7 +33,7 @@ use Rattle.tomoyo_run.proofs.Openings.{is_alone, is_built}
 loads : (texts : Texts) (loaded : Loaded) → IsLoaded texts loaded → opening_of (content texts FileName.Profile) (content texts FileName.DomainPolicy) ≡ Ok (opened loaded.policy)
 unfolding opening_of
 loads texts loaded h =
-    ap (with_domains (content texts FileName.DomainPolicy)) h.profiles_are ∙ ap (opened_or_fault FileKind.Domain) h.domains_are
+    ap (with_domains (content texts FileName.DomainPolicy)) h.policy_is.profiles_are ∙ ap (opened_or_fault FileKind.Domain) h.policy_is.domains_are
 
 has_profile : (o : Option Profile) → IsSome o → is_some o ≡ true
 has_profile None h = absurd cc
@@ -65,27 +65,29 @@ reached policy trace player can starts =
     (scene, record { built = can.built bare bare-is; schedule = []; led = starts scene (is_alone bare (opened policy) trace) refl refl })
 
 -- the run of a player that was played out from such a start
-pub plays_on : (policy : Policy) (trace : Trace) (run : Run) (last : Policy) (player : Player) → CanBePlayed policy trace
+pub plays_on : (policy : Policy) (trace : Trace) (schedule : List Turn) (run : Run) (last : Policy) (player : Player) → CanBePlayed policy trace
     → ((scene : Scene) → IsAlone scene → scene.policy ≡ opened policy → scene.trace ≡ trace → player ≡ start_of scene)
-    → ((scene : Scene) → IsBuilt scene → player ≡ start_of scene → core.Plays scene [] run × Legal scene run)
+    → ((scene : Scene) → IsBuilt scene → player ≡ start_of scene → core.Plays scene schedule run × Legal scene run)
     → ((scene : Scene) → IsBuilt scene → player ≡ start_of scene → final_policy scene run ≡ last)
-    → PlaysOn (opened policy) trace run last
-plays_on policy trace run last player can starts out ends =
-    let of : (g : Grammar) → IsGrammar g → core.Plays (alone g (opened policy) trace) [] run × Legal (alone g (opened policy) trace) run = λ g grammar. out (alone g (opened policy) trace) (can.built g grammar) (starts (alone g (opened policy) trace) (is_alone g (opened policy) trace) refl refl) in
+    → PlaysOn (opened policy) trace schedule run last
+plays_on policy trace schedule run last player can starts out ends =
+    let of : (g : Grammar) → IsGrammar g → core.Plays (alone g (opened policy) trace) schedule run × Legal (alone g (opened policy) trace) run = λ g grammar. out (alone g (opened policy) trace) (can.built g grammar) (starts (alone g (opened policy) trace) (is_alone g (opened policy) trace) refl refl) in
     record {
       is_play = record { plays = λ g grammar. (of g grammar).0; is_legal = λ g grammar. (of g grammar).1 };
       ends = λ g grammar. ends (alone g (opened policy) trace) (can.built g grammar) (starts (alone g (opened policy) trace) (is_alone g (opened policy) trace) refl refl);
     }
 
 -- what was played of what was loaded is what the files ask for
-pub plays_texts : (texts : Texts) (loaded : Loaded) (played : Played) → IsLoaded texts loaded → PlaysLoaded (opened loaded.policy) loaded.trace played → Plays texts played
+pub plays_texts : (texts : Texts) (loaded : Loaded) (played : Played) → IsLoaded texts loaded → PlaysLoaded (opened loaded.policy) loaded.trace loaded.schedule played → Plays texts played
 plays_texts texts loaded played h it =
     record {
       opening = opened loaded.policy;
       trace = loaded.trace;
+      schedule = loaded.schedule;
       run = it.run;
       loads = loads texts loaded h;
       spells = h.trace_is;
+      turns = h.schedule_is;
       is_play = it.plays.is_play;
       printed = λ g grammar. subst (λ (last : Policy). IsPrinted it.run (opened loaded.policy) last played) (sym (it.plays.ends g grammar)) it.texts;
     }

@@ -1,5 +1,5 @@
 -- What was read of told files is what they hold.
-use Rattle.std.proofs.Common.{zero, suc, ◌≡◌, ◌∙◌, inl, inr, ℕ, ◌∷◌, [], List, Some, None, ap, sym, refl, subst, take, length, slice_get}
+use Rattle.std.proofs.Common.{zero, suc, ◌≡◌, ◌∙◌, ℕ, ◌∷◌, [], List, Some, None, ap, sym, refl, subst, take, length, slice_get}
 use Rattle.std.proofs.lemmas.Bool.{lt-ltb, le-ltb}
 use Rattle.tm_io.specs.declared.names.FileName.{FileName}
 use Rattle.tm_io.specs.Files.{FileState, Files}
@@ -41,27 +41,27 @@ all-read files (w ∷ wants) [] tells all = absurd all
 all-read files (w ∷ wants) (t ∷ texts) tells all =
     rw (given-read w (files w.name) t.1 (tells w.name) all.1) (all-read files wants texts tells all.2)
 
--- a told file that ends the call does so by its state
-cause-unread : (want : Want) (state : FileState) (rose : Type 0) (name : FileName) (line : ℕ) → IsTold state → FetchCause want state rose (Status.NotBuilt name line) → unread want state ≡ Some (Status.NotBuilt name line)
-cause-unread want FileState.Untold rose name line is h = absurd is
-cause-unread want FileState.Missing rose name line is h =
-    elim h.2 [
-      | inl lacks ↦ rw (lacks.0, h.0, h.1) refl
-      | inr exceeds ↦ absurd exceeds
-    ]
-cause-unread want (FileState.Holds bytes) rose name line is h =
-    elim h.2 [
-      | inl lacks ↦ absurd lacks.1
-      | inr exceeds ↦ rw (lt-ltb 16777216 (length bytes) exceeds, h.0, h.1) refl
-    ]
+-- a told file that isn't there ends the call by its state
+pub absent-unread : (want : Want) (state : FileState) (rose : Type 0) (name : FileName) → IsTold state → FetchCause want state rose (Status.Absent name) → unread want state ≡ Some (Status.Absent name)
+absent-unread want FileState.Untold rose name is h = absurd is
+absent-unread want FileState.Missing rose name is h = rw (h.1, h.0) refl
+absent-unread want (FileState.Holds bytes) rose name is h = absurd h.2
 
--- the first fetch that ends the call is the first file that does so by its state
-pub stop-unread : (files : Files) (wants : List Want) (place : ℕ) (want : Want) (texts : Texts) (rose : Type 0) (name : FileName) (line : ℕ) → TellsAll files → slice_get wants place ≡ Some want → AllGiven files (take place wants) texts → FetchCause want (files want.name) rose (Status.NotBuilt name line) → first_unread wants files ≡ Some (Status.NotBuilt name line)
-stop-unread files [] place want texts rose name line tells stands all cause = cc
-stop-unread files (w ∷ wants) zero want texts rose name line tells stands all cause =
+-- a told file that is too long does so too
+pub too-long-unread : (want : Want) (state : FileState) (rose : Type 0) (name : FileName) → IsTold state → FetchCause want state rose (Status.TooLong name) → unread want state ≡ Some (Status.TooLong name)
+too-long-unread want FileState.Untold rose name is h = absurd is
+too-long-unread want FileState.Missing rose name is h = absurd h.1
+too-long-unread want (FileState.Holds bytes) rose name is h = rw (lt-ltb 16777216 (length bytes) h.1, h.0) refl
+
+-- the first fetch that ends the call by a file's state is that of the first file that does so
+pub stop-unread : (files : Files) (wants : List Want) (place : ℕ) (want : Want) (texts : Texts) (rose : Type 0) (status : Status)
+    → ((w : Want) (state : FileState) → IsTold state → FetchCause w state rose status → unread w state ≡ Some status)
+    → TellsAll files → slice_get wants place ≡ Some want → AllGiven files (take place wants) texts → FetchCause want (files want.name) rose status → first_unread wants files ≡ Some status
+stop-unread files [] place want texts rose status by tells stands all cause = cc
+stop-unread files (w ∷ wants) zero want texts rose status by tells stands all cause =
     let is : w ≡ want = cc in
-    let here : FetchCause w (files w.name) rose (Status.NotBuilt name line) = subst (λ (x : Want). FetchCause x (files x.name) rose (Status.NotBuilt name line)) (sym is) cause in
-    rw (cause-unread w (files w.name) rose name line (tells w.name) here) refl
-stop-unread files (w ∷ wants) (suc place) want [] rose name line tells stands all cause = absurd all
-stop-unread files (w ∷ wants) (suc place) want (t ∷ texts) rose name line tells stands all cause =
-    rw (given-read w (files w.name) t.1 (tells w.name) all.1) (stop-unread files wants place want texts rose name line tells stands all.2 cause)
+    let here : FetchCause w (files w.name) rose status = subst (λ (x : Want). FetchCause x (files x.name) rose status) (sym is) cause in
+    rw (by w (files w.name) (tells w.name) here) refl
+stop-unread files (w ∷ wants) (suc place) want [] rose status by tells stands all cause = absurd all
+stop-unread files (w ∷ wants) (suc place) want (t ∷ texts) rose status by tells stands all cause =
+    rw (given-read w (files w.name) t.1 (tells w.name) all.1) (stop-unread files wants place want texts rose status by tells stands all.2 cause)

@@ -54,17 +54,21 @@ abbrev pub CallEnds : Result Command ℕ → Outside → Outside → Status → 
 CallEnds (Err place) old new status = (status ≡ Status.BadWords place) × Untouched old new
 CallEnds (Ok command) old new status = Ends (wants_of command) Refuses (Allows command) old new status
 
--- a line or a file that isn't built: at a fetch, or in what was read
-abbrev pub IsNotBuilt : Command → Outside → Outside → Status → Type 0
-IsNotBuilt command old new status =
-    FetchStops old.files (wants_of command) (Rose old.shelf_faults new.shelf_faults) status
-    ⊎ ((texts : Texts) × AllGiven old.files (wants_of command) texts × (refusal_of texts ≡ Some status))
+-- a line of what was read that isn't built
+abbrev pub IsNotBuilt : Command → Files → Status → Type 0
+IsNotBuilt command files status = (texts : Texts) × AllGiven files (wants_of command) texts × (refusal_of texts ≡ Some status)
+
+-- a fetch that ends the call: nothing is stored, and nothing is put
+abbrev pub IsUnfetched : Command → Outside → Outside → Status → Type 0
+IsUnfetched command old new status = FetchStops old.files (wants_of command) (Rose old.shelf_faults new.shelf_faults) status × Untouched old new
 
 -- the cause of each status of a command; the statuses that aren't named never come
 abbrev pub CommandCause : Command → Outside → Outside → Status → Type 0
 CommandCause command old new Status.Done = ⊤
-CommandCause command old new (Status.ReadFault name) = FetchStops old.files (wants_of command) (Rose old.shelf_faults new.shelf_faults) (Status.ReadFault name) × Untouched old new
-CommandCause command old new (Status.NotBuilt name line) = IsNotBuilt command old new (Status.NotBuilt name line) × Untouched old new
+CommandCause command old new (Status.ReadFault name) = IsUnfetched command old new (Status.ReadFault name)
+CommandCause command old new (Status.Absent name) = IsUnfetched command old new (Status.Absent name)
+CommandCause command old new (Status.TooLong name) = IsUnfetched command old new (Status.TooLong name)
+CommandCause command old new (Status.NotBuilt name line) = IsNotBuilt command old.files (Status.NotBuilt name line) × Untouched old new
 CommandCause command old new (Status.WriteFault (OutName.File name)) =
     Rose old.shelf_faults new.shelf_faults × (is_named (stored_by command) name ≡ true) × (new.written ≡ old.written)
 CommandCause command old new (Status.WriteFault OutName.StandardOutput) = Rose old.sink_faults new.sink_faults

@@ -1,5 +1,5 @@
 -- What the fetches of a command give, and where they stop.
-use Rattle.std.specs.Prelude.{◌≡◌, ℕ, ◌⊎◌, false, IsTrue, List, [], ◌∷◌, map, take, ⊤, Option, Some, None, slice_get, length, nat_lt, if◌then◌else◌}
+use Rattle.std.specs.Prelude.{◌≡◌, ℕ, false, IsTrue, List, [], ◌∷◌, map, take, ⊤, Option, Some, None, slice_get, length, nat_lt, if◌then◌else◌}
 use Rattle.tm_io.specs.declared.names.FileName.{FileName}
 use Rattle.tm_io.specs.Names.{same_name}
 use Rattle.tm_io.specs.Files.{FileState, Files, MayGive, MayLack, MayExceed}
@@ -27,10 +27,11 @@ AllGiven files [] (text ∷ texts) = ⊥
 AllGiven files (want ∷ wants) [] = ⊥
 AllGiven files (want ∷ wants) (text ∷ texts) = (text.0 ≡ want.name) × Given want (files want.name) text.1 × AllGiven files wants texts
 
--- why a fetch ends the call: a counted fault, a needed file that is missing, or one that is too long
+-- why a fetch ends the call: a counted fault, a needed file that isn't there, or a file that is too long
 abbrev pub FetchCause : Want → FileState → Type 0 → Status → Type 0
 FetchCause want state rose (Status.ReadFault name) = (name ≡ want.name) × rose
-FetchCause want state rose (Status.NotBuilt name line) = (name ≡ want.name) × (line ≡ 0) × ((IsTrue want.needed × MayLack state) ⊎ MayExceed state)
+FetchCause want state rose (Status.Absent name) = (name ≡ want.name) × IsTrue want.needed × MayLack state
+FetchCause want state rose (Status.TooLong name) = (name ≡ want.name) × MayExceed state
 FetchCause want state rose Status.OutOfMemory = ⊤
 FetchCause want state rose _ = ⊥
 
@@ -71,8 +72,8 @@ or_else (Some status) next = Some status
 -- the status with which the fetch of a told file ends the call, if it does
 abbrev pub unread : Want → FileState → Option Status
 unread want FileState.Untold = None
-unread want FileState.Missing = if want.needed then Some (Status.NotBuilt want.name 0) else None
-unread want (FileState.Holds bytes) = if nat_lt 16777216 (length bytes) then Some (Status.NotBuilt want.name 0) else None
+unread want FileState.Missing = if want.needed then Some (Status.Absent want.name) else None
+unread want (FileState.Holds bytes) = if nat_lt 16777216 (length bytes) then Some (Status.TooLong want.name) else None
 
 -- the same for the first of several files
 abbrev pub first_unread : List Want → Files → Option Status

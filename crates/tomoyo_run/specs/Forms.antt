@@ -1,9 +1,10 @@
 -- The lines that this program doesn't play yet.
-use Rattle.std.specs.Prelude.{◌≡◌, ℕ, ◌+◌, ◌==◌, List, [], ◌∷◌, Option, Some, None, Ok, Err, Result, if◌then◌else◌}
+use Rattle.std.specs.Prelude.{◌≡◌, ℕ, ◌+◌, ◌==◌, List, [], ◌∷◌, Option, Some, None, Ok, Err, Result, if◌then◌else◌, length}
 use Rattle.tm_types.specs.declared.policy.Policy.{Policy}
 use Rattle.tm_rules.specs.Words.{Trace}
 use Rattle.tm_forms.specs.Opening.{profile_opening, domain_opening}
 use Rattle.tm_forms.specs.Trace.{trace_of}
+use Rattle.tm_forms.specs.Schedule.{schedule_of}
 use Rattle.tomoyo_run.specs.declared.forms.Loaded.{Loaded}
 use Rattle.tm_io.specs.declared.names.FileName.{FileName}
 use Rattle.tm_word.specs.Spelling.{is_separator}
@@ -41,12 +42,21 @@ domain_policy_not_built profile domain_policy = domains_not_built (profile_openi
 abbrev pub trace_not_built : List ℕ → Option ℕ
 trace_not_built trace = fault_line (trace_of trace)
 
+-- the same in `schedule`, with the trees of this trace; a fault of the trace comes first
+abbrev pub turns_not_built : Result Trace ℕ → List ℕ → Option ℕ
+turns_not_built (Ok trace) schedule = fault_line (schedule_of (length trace) schedule)
+turns_not_built (Err line) schedule = None
+
+-- the same in `schedule`, whose trees `trace` holds
+abbrev pub schedule_not_built : List ℕ → List ℕ → Option ℕ
+schedule_not_built trace schedule = turns_not_built (trace_of trace) schedule
+
 -- a line of this file, or else what the later files have
 abbrev pub line_of : FileName → Option ℕ → Option (FileName × ℕ) → Option (FileName × ℕ)
 line_of name (Some line) later = Some (name, line)
 line_of name None later = later
 
--- the first file with a line that isn't built, and its first such line; five files are to have no line at all
+-- the first file with a line that isn't built, and its first such line; four files are to have no line with words
 unfoldable pub first_not_built : Texts → Option (FileName × ℕ)
 first_not_built texts =
     line_of FileName.Profile (profile_not_built (content texts FileName.Profile))
@@ -56,11 +66,18 @@ first_not_built texts =
     (line_of FileName.Trace (trace_not_built (content texts FileName.Trace))
     (line_of FileName.Edits (first_line_with_words (content texts FileName.Edits))
     (line_of FileName.Answers (first_line_with_words (content texts FileName.Answers))
-    (line_of FileName.Schedule (first_line_with_words (content texts FileName.Schedule)) None)))))))
+    (line_of FileName.Schedule (schedule_not_built (content texts FileName.Trace) (content texts FileName.Schedule)) None)))))))
 
--- what was loaded: the domain policy's effect on the profiles, and the trace
-pub record IsLoaded (texts : Texts) (loaded : Loaded) : Type 0 where
+-- the domain policy's effect on the profiles, where the other two policy files have no line with words
+pub record IsPolicyLoaded (texts : Texts) (policy : Policy) : Type 0 where
   pub profiles : Policy
   pub profiles_are : profile_opening (content texts FileName.Profile) ≡ Ok profiles
-  pub domains_are : domain_opening profiles (content texts FileName.DomainPolicy) ≡ Ok loaded.policy
+  pub exceptions : first_line_with_words (content texts FileName.ExceptionPolicy) ≡ None
+  pub domains_are : domain_opening profiles (content texts FileName.DomainPolicy) ≡ Ok policy
+  pub managers : first_line_with_words (content texts FileName.Manager) ≡ None
+
+-- what was loaded: the policy, the trace, and the schedule for the trees of the trace
+pub record IsLoaded (texts : Texts) (loaded : Loaded) : Type 0 where
+  pub policy_is : IsPolicyLoaded texts loaded.policy
   pub trace_is : trace_of (content texts FileName.Trace) ≡ Ok loaded.trace
+  pub schedule_is : schedule_of (length loaded.trace) (content texts FileName.Schedule) ≡ Ok loaded.schedule

@@ -1,11 +1,12 @@
 -- What a play of the files gives, and what it refuses.
-use Rattle.std.specs.Prelude.{◌≡◌, ℕ, ⊤, true, List, [], Option, Some, None, Ok, unwrap_or}
+use Rattle.std.specs.Prelude.{◌≡◌, ℕ, ⊤, true, List, [], Option, Some, None, Ok, unwrap_or, length}
 use Rattle.std.specs.List.{flat_map}
 use Rattle.tm_word.specs.Words.{Text}
 use Rattle.std.specs.List.{position_from}
 use Rattle.tm_types.specs.declared.policy.Policy.{Policy}
 use Rattle.tm_types.specs.declared.step.Take.{Take}
 use Rattle.tm_types.specs.declared.step.Run.{Run}
+use Rattle.tm_types.specs.declared.step.Turn.{Turn}
 use Rattle.tm_rules.specs.Words.{Trace}
 use Rattle.tm_rules.specs.Grammar.{Grammar}
 use Rattle.tm_rules.specs.Load.{wants_profile}
@@ -17,6 +18,7 @@ use Rattle.tm_run.specs.RunText.{run_text}
 use Rattle.tm_rerun.specs.Summary.{summary_text}
 use Rattle.tm_forms.specs.Opening.{opening_of}
 use Rattle.tm_forms.specs.Trace.{trace_of}
+use Rattle.tm_forms.specs.Schedule.{schedule_of}
 use Rattle.tm_io.specs.declared.names.FileName.{FileName}
 use Rattle.tomoyo_run.specs.declared.status.Status.{Status}
 use Rattle.tm_text.specs.DomainText.{domain_text}
@@ -45,9 +47,9 @@ Refuses texts status = refusal_of texts ≡ Some status
 abbrev pub alone : Grammar → Policy → Trace → Scene
 alone g policy trace = record { grammar = g; policy = policy; trace = trace; editors = []; book = None }
 
--- the run that the policy and the trace play by the default order, and it is legal: whatever the grammar of the lines that come later
-pub record IsPlayOf (policy : Policy) (trace : Trace) (run : Run) : Type 0 where
-  pub plays : (g : Grammar) → IsGrammar g → core.Plays (alone g policy trace) [] run
+-- the run that the policy and the trace play by the schedule and then by the default order, and it is legal: whatever the grammar of the lines that come later
+pub record IsPlayOf (policy : Policy) (trace : Trace) (schedule : List Turn) (run : Run) : Type 0 where
+  pub plays : (g : Grammar) → IsGrammar g → core.Plays (alone g policy trace) schedule run
   pub is_legal : (g : Grammar) → IsGrammar g → Legal (alone g policy trace) run
 
 -- the policy, opened
@@ -81,24 +83,26 @@ pub record IsPrinted (run : Run) (opening last : Policy) (played : Played) : Typ
   pub policy_is : IsPolicyPrinted last played.policy
   pub summary_is : played.summary ≡ summary_text run opening last
 
--- a run that an opening and a trace play, to this policy
-pub record PlaysOn (policy : Policy) (trace : Trace) (run : Run) (last : Policy) : Type 0 where
-  pub is_play : IsPlayOf policy trace run
+-- a run that an opening and a trace play by a schedule, to this policy
+pub record PlaysOn (policy : Policy) (trace : Trace) (schedule : List Turn) (run : Run) (last : Policy) : Type 0 where
+  pub is_play : IsPlayOf policy trace schedule run
   pub ends : (g : Grammar) → IsGrammar g → final_policy (alone g policy trace) run ≡ last
 
--- what was played are the texts of a run that an opening and a trace play
-pub record PlaysLoaded (policy : Policy) (trace : Trace) (played : Played) : Type 0 where
+-- what was played are the texts of a run that an opening and a trace play by a schedule
+pub record PlaysLoaded (policy : Policy) (trace : Trace) (schedule : List Turn) (played : Played) : Type 0 where
   pub run : Run
   pub last : Policy
-  pub plays : PlaysOn policy trace run last
+  pub plays : PlaysOn policy trace schedule run last
   pub texts : IsPrinted run policy last played
 
--- the files load to an opening and spell a trace, and what was played are the texts of the run that these play
+-- the files load to an opening and spell a trace and a schedule of its trees, and what was played are the texts of the run that these play
 pub record Plays (texts : Texts) (played : Played) : Type 0 where
   pub opening : Policy
   pub trace : Trace
+  pub schedule : List Turn
   pub run : Run
   pub loads : opening_of (content texts FileName.Profile) (content texts FileName.DomainPolicy) ≡ Ok opening
   pub spells : trace_of (content texts FileName.Trace) ≡ Ok trace
-  pub is_play : IsPlayOf opening trace run
+  pub turns : schedule_of (length trace) (content texts FileName.Schedule) ≡ Ok schedule
+  pub is_play : IsPlayOf opening trace schedule run
   pub printed : (g : Grammar) → IsGrammar g → IsPrinted run opening (final_policy (alone g opening trace) run) played

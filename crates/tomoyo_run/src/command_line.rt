@@ -11,8 +11,8 @@ usage: tomoyo_run step
 
 Works on the files of the current folder.
 
-  step   plays the trace under the policy, learns where a profile says so, and
-         stores the run and the policy as it stands afterwards
+  step   plays the trace under the policy by the schedule, learns where a profile
+         says so, and stores the run and the policy as it stands afterwards
 
 Files that are read: profile, domain_policy and trace, which have to be there;
 exception_policy, manager, edits, answers and schedule, which count as empty

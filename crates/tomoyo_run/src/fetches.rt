@@ -46,12 +46,12 @@ fn fetch_one<S: Shelf>(alloc: Global, shelf: &mut S, want: Want) -> Result<Text,
         Fetched::Done => Ok(Text::from_vec(text)),
         Fetched::Absent => {
             if want.needed {
-                Err(Status::NotBuilt(want.name, 0))
+                Err(Status::Absent(want.name))
             } else {
                 Ok(Text::from_vec(text))
             }
         }
-        Fetched::TooLong => Err(Status::NotBuilt(want.name, 0)),
+        Fetched::TooLong => Err(Status::TooLong(want.name)),
         Fetched::Failed => Err(Status::ReadFault(want.name)),
         Fetched::NoMemory => Err(Status::OutOfMemory),
     }

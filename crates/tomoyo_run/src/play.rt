@@ -1,4 +1,4 @@
-//! The play of the files: they are loaded, the trace is played under the opened policy, and the run is printed and summed up.
+//! The play of the files: they are loaded, the trace is played by the schedule under the opened policy, and the run is printed and summed up.
 ghost use Rattle.std.specs.Prelude.{◌≡◌, ◌++◌, IfOk, IfErr, OnOk, None};
 ghost use Rattle.tm_rules.specs.Few.{IsFew};
 ghost use Rattle.tm_run.specs.RunText.{run_text};
@@ -21,7 +21,7 @@ use tm_run::print_run;
 use tm_text::{print_domain, print_exception, print_manager, print_profile};
 use tm_types::policy::Policy;
 use tm_types::request::Trace;
-use tm_types::step::{Run, Take};
+use tm_types::step::{Run, Take, Turn};
 use tm_word::Text;
 
 /// The printed files of a policy.
@@ -43,11 +43,16 @@ pub struct Played {
     pub summary: Text,
 }
 
-// The run that an opening and a trace play by the default order, and the machine at its last version.
-fn run_of(alloc: Global, opening: &Policy, trace: Trace) -> Result<(Run, Machine<Plain>), NoMemory>
+// The run that an opening and a trace play by a schedule and then by the default order, and the machine at its last version.
+fn run_of(
+    alloc: Global,
+    opening: &Policy,
+    trace: Trace,
+    schedule: &[Turn],
+) -> Result<(Run, Machine<Plain>), NoMemory>
     requires few { IsFew opening.now }
     requires can { (policy : Policy) × (opening.now ≡ opened policy) × CanBePlayed policy trace }
-    ensures { IfOk result (λ ended. PlaysOn opening.now trace ended.0 ended.1.policy) }
+    ensures { IfOk result (λ ended. PlaysOn opening.now trace schedule.now ended.0 ended.1.policy) }
 {
     let policy = opening.copy(alloc)?;
     let rep = Plain::new(alloc, policy)?;
@@ -56,7 +61,7 @@ fn run_of(alloc: Global, opening: &Policy, trace: Trace) -> Result<(Run, Machine
     };
     let machine = Machine::start(alloc, rep, Vec::new(alloc), trees, false)?;
     let player = start_play(alloc, machine, trace)?;
-    let played = play_out(alloc, player, &[])?;
+    let played = play_out(alloc, player, schedule)?;
     let (run, last) = end_play(alloc, played)?;
     Ok((run, last))
 }
@@ -120,15 +125,20 @@ fn texts_of(alloc: Global, run: &Run, opening: &Policy, last: &Policy) -> Result
 }
 
 // Opens what was loaded, and plays it. A list of 2^32 members doesn't fit in memory beside its text.
-fn play_loaded(alloc: Global, mut policy: Policy, trace: Trace) -> Result<Played, NoMemory>
+fn play_loaded(
+    alloc: Global,
+    mut policy: Policy,
+    trace: Trace,
+    schedule: &[Turn],
+) -> Result<Played, NoMemory>
     requires { CanBePlayed policy trace }
-    ensures { IfOk result (PlaysLoaded (opened policy) trace) }
+    ensures { IfOk result (PlaysLoaded (opened policy) trace schedule.now) }
 {
     set_opened(&mut policy);
     if !is_few(&policy) {
         return Err(AllocError);
     }
-    let (run, machine) = run_of(alloc, &policy, trace)?;
+    let (run, machine) = run_of(alloc, &policy, trace, schedule)?;
     texts_of(alloc, &run, &policy, machine.policy())
 }
 
@@ -138,11 +148,15 @@ pub fn play_of(alloc: Global, texts: &FileList) -> Result<Played, Status>
     ensures played { IfOk result (λ played. (refusal_of texts.now ≡ None) × Plays texts.now played) }
     ensures refused { IfErr result (Refuses texts.now) }
 {
-    let Loaded { policy, trace } = match load(alloc, texts) {
+    let Loaded {
+        policy,
+        trace,
+        schedule,
+    } = match load(alloc, texts) {
         Ok(loaded) => loaded,
         Err(status) => return Err(status),
     };
-    match play_loaded(alloc, policy, trace) {
+    match play_loaded(alloc, policy, trace, schedule.as_slice()) {
         Ok(played) => Ok(played),
         Err(_) => Err(Status::OutOfMemory),
     }

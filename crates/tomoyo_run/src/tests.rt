@@ -49,14 +49,20 @@ fn call(alloc: Global, word: &str, files: FileList, fails: Vec<u32>) -> Result<E
     })
 }
 
-// The three needed files.
-fn files(alloc: Global, domain_policy: &[u8], trace: &[u8]) -> Result<FileList, NoMemory> {
+// The two needed policy files.
+fn policy_files(alloc: Global, domain_policy: &[u8]) -> Result<FileList, NoMemory> {
     let mut files = FileList::new(alloc);
     files.push((FileName::Profile, Text::from_bytes(alloc, PROFILE)?))?;
     files.push((
         FileName::DomainPolicy,
         Text::from_bytes(alloc, domain_policy)?,
     ))?;
+    Ok(files)
+}
+
+// The three needed files.
+fn files(alloc: Global, domain_policy: &[u8], trace: &[u8]) -> Result<FileList, NoMemory> {
+    let mut files = policy_files(alloc, domain_policy)?;
     files.push((FileName::Trace, Text::from_bytes(alloc, trace)?))?;
     Ok(files)
 }
@@ -134,6 +140,55 @@ fn a_line_that_is_not_built_is_named(rt: HostRuntime) -> Result<(), Fail> {
     let texts = files(alloc, b"<kernel>\nuse_profile 1\nfile unlink /a\n", TRACE)?;
     let ended = call(alloc, "step", texts, Vec::new(alloc))?;
     assert_eq!(rt; ended.status, Status::NotBuilt(FileName::DomainPolicy, 3));
+    assert!(rt; ended.run.is_empty());
+    assert!(rt; ended.line.is_empty());
+    Ok(())
+}
+
+#[test]
+fn two_trees_that_look_at_one_version_learn_one_line(rt: HostRuntime) -> Result<(), Fail> {
+    let alloc = rt.alloc();
+    let trace = b"tree 7 <kernel>\ndo 7 file read /x\ntree 8 <kernel>\ndo 8 file read /x\n";
+    let schedule = b"tree 1\ntree 2\ntree 1\ntree 2\n";
+    let mut texts = files(alloc, b"<kernel>\nuse_profile 2\n", trace)?;
+    texts.push((FileName::Schedule, Text::from_bytes(alloc, schedule)?))?;
+    let ended = call(alloc, "step", texts, Vec::new(alloc))?;
+    let run: &[u8] = b"run 1\n\
+step 1 added learn 0 file read /x\n\
+step 2 there learn 0 file read /x\n\
+take 1 7 0 0 granted\n\
+look 0 learning learn stay 1 -\n\
+audit -\n\
+take 2 8 0 0 granted\n\
+look 0 learning learn stay 2 -\n\
+audit -\n";
+    let line: &[u8] =
+        b"requests 2 granted 2 denied 0 learned 1 steps 2 domains 1 clean yes plain yes\n";
+    assert_eq!(rt; ended.status, Status::Done);
+    assert_eq!(rt; ended.run.bytes(), run);
+    assert_eq!(rt; ended.line.bytes(), line);
+    Ok(())
+}
+
+#[test]
+fn a_schedule_names_trees_that_are_there(rt: HostRuntime) -> Result<(), Fail> {
+    let alloc = rt.alloc();
+    let mut texts = files(alloc, b"<kernel>\nuse_profile 1\n", TRACE)?;
+    texts.push((
+        FileName::Schedule,
+        Text::from_bytes(alloc, b"tree 1\ntree 9\n")?,
+    ))?;
+    let ended = call(alloc, "step", texts, Vec::new(alloc))?;
+    assert_eq!(rt; ended.status, Status::NotBuilt(FileName::Schedule, 2));
+    Ok(())
+}
+
+#[test]
+fn a_trace_has_to_be_there(rt: HostRuntime) -> Result<(), Fail> {
+    let alloc = rt.alloc();
+    let texts = policy_files(alloc, b"<kernel>\nuse_profile 1\n")?;
+    let ended = call(alloc, "step", texts, Vec::new(alloc))?;
+    assert_eq!(rt; ended.status, Status::Absent(FileName::Trace));
     assert!(rt; ended.run.is_empty());
     assert!(rt; ended.line.is_empty());
     Ok(())

@@ -111,9 +111,13 @@ fn perform<S: Shelf, K: Sink>(alloc: Global, command: Command, shelf: &mut S, ou
     }
 }
 
-/// Does the command that the words name, over any shelf and sink, and answers how it ended. `step` plays the trace
+/// Does the command that the words name, over any shelf and sink, and answers how it ended. `step` plays the trace by the schedule
 /// under the policy and stores `run`, `audit`, and the final policy as `profile.new`, `exception_policy.new`, `domain_policy.new` and
 /// `manager.new`; nothing is stored before all is read and played.
+///
+/// The first fetch that gives neither a text nor a file that may be missing decides, and no later one is made: `Absent` where
+/// `profile`, `domain_policy` or `trace` isn't there, `TooLong` where a file has more than 16,777,216 bytes, `ReadFault` where reading
+/// failed. Of what was read, the first line that isn't built is `NotBuilt`.
 pub fn run_alone<S: Shelf, K: Sink>(
     alloc: Global,
     words: &[String],

@@ -19,7 +19,7 @@ returns c =
     let run = run_of (player_of c.in_ok-played.played.machine c.in_ok-played.played.walks.items) in
     let run_is : c.in_ok-run.run' ≡ run = search rules in
     let last_is : c.in_ok-run.last.policy ≡ c.in_ok-played.played.machine.policy = search rules in
-    subst (λ r. PlaysOn c.args.opening.now c.args.trace r c.in_ok-run.last.policy) (sym run_is)
-    (subst (λ l. PlaysOn c.args.opening.now c.args.trace run l) (sym last_is)
-    (subst (λ p. PlaysOn p c.args.trace run c.in_ok-played.played.machine.policy) (sym can.1)
-    (plays_on can.0 c.args.trace run c.in_ok-played.played.machine.policy player can.2 (λ scene alone policy trace. c.in_ok-player.ensures scene alone (policy ∙ sym policy_is) trace) c.in_ok-played.ensures.plays c.in_ok-played.ensures.ends)))
+    subst (λ r. PlaysOn c.args.opening.now c.args.trace c.args.schedule.now r c.in_ok-run.last.policy) (sym run_is)
+    (subst (λ l. PlaysOn c.args.opening.now c.args.trace c.args.schedule.now run l) (sym last_is)
+    (subst (λ p. PlaysOn p c.args.trace c.args.schedule.now run c.in_ok-played.played.machine.policy) (sym can.1)
+    (plays_on can.0 c.args.trace c.args.schedule.now run c.in_ok-played.played.machine.policy player can.2 (λ scene alone policy trace. c.in_ok-player.ensures scene alone (policy ∙ sym policy_is) trace) c.in_ok-played.ensures.plays c.in_ok-played.ensures.ends)))
