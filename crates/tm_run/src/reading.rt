@@ -19,7 +19,7 @@ use tm_word::{Text, normal_words};
 
 /// What has been read of a run: its steps, its takes, and the take that is begun, with its looks so far.
 #[derive(Drop)]
-pub(crate) struct Reading {
+struct Reading {
     steps: Seq<(Step, Reply)>,
     takes: Seq<Take>,
     begun: Option<Take>,
