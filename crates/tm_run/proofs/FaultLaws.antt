@@ -191,23 +191,18 @@ begins_before (line ∷ rest) number n steps takes begun front e g o k =
         subst (λ (ls : List Text). Begins (n - 1) ls) (append_assoc front (line ∷ []) rest)
         (more next f step.good (opens_more (text_of steps takes begun) line (text_of next.steps next.takes next.begun) front o step.ends step.text) longer)
 
+-- before the first line every text begins as every other
+begins_none : (n : ℕ) → n ≡ 1 → (lines : List Text) → Begins (n - 1) lines
+begins_none n k lines =
+    let count : n - 1 ≡ 0 = omega (arith, k) in
+    let p = printed_by [] [] fresh_good in
+    (run_by [] [], p.0, subst (λ (m : ℕ). take m (lines_of (run_text (run_by [] []))) ≡ take m lines) (sym count) refl)
+
 begins_in : (lines : List Text) (n : ℕ) → run_in lines ≡ Err n → Begins (n - 1) lines
 unfolding stop
 begins_in [] n e = let same : 1 ≡ n = err_is 1 n e in begins_none n (sym same) []
-  where
-    begins_none : (n : ℕ) → n ≡ 1 → (lines : List Text) → Begins (n - 1) lines
-    begins_none n k lines =
-        let count : n - 1 ≡ 0 = omega (arith, k) in
-        let p = printed_by [] [] fresh_good in
-        (run_by [] [], p.0, subst (λ (m : ℕ). take m (lines_of (run_text (run_by [] []))) ≡ take m lines) (sym count) refl)
 begins_in (line ∷ lines) n e = by_first (texts_equal line (codes "run 1\n")) refl e
   where
-    begins_none : (n : ℕ) → n ≡ 1 → (lines : List Text) → Begins (n - 1) lines
-    begins_none n k lines =
-        let count : n - 1 ≡ 0 = omega (arith, k) in
-        let p = printed_by [] [] fresh_good in
-        (run_by [] [], p.0, subst (λ (m : ℕ). take m (lines_of (run_text (run_by [] []))) ≡ take m lines) (sym count) refl)
-
     by_first : (b : Bool) → texts_equal line (codes "run 1\n") ≡ b → cond b (run_from 2 fresh lines) (Err 1) ≡ Err n → Begins (n - 1) (line ∷ lines)
     by_first true h f =
         let same : line ≡ codes "run 1\n" = same_texts line (codes "run 1\n") h in

@@ -16,9 +16,6 @@ use Rattle.tm_run.specs.Reading.{onto_line, lines_of}
 
 -- ---- where the first line ends
 
-is_end : ℕ → Bool
-is_end b = b == 10
-
 -- the place of the first byte 10, counted from i, cuts the first line off
 abbrev Found : Text → ℕ → ℕ → Type 0
 Found xs i j = (k : ℕ) × (j ≡ i + k) × (lines_of xs ≡ take (suc k) xs ∷ lines_of (drop (suc k) xs)) × (k < length xs)

@@ -23,13 +23,15 @@ or_zero (Err kind) = 0
 unfoldable pub number_of : ℕ → Text → ℕ
 number_of limit word = or_zero (plain_word limit word)
 
--- the numbers of each size
+-- a number of 8 bits
 abbrev pub small_of : Text → ℕ
 small_of = number_of 256
 
+-- a number of 32 bits
 abbrev pub plain_of : Text → ℕ
 plain_of = number_of (2 ^ 32)
 
+-- a number of 64 bits
 abbrev pub wide_of : Text → ℕ
 wide_of = number_of (2 ^ 64)
 
@@ -47,7 +49,7 @@ unfoldable pub case_of : Text → Reason
 case_of word =
     if texts_equal word (codes "disabled") then Reason.Disabled else (if texts_equal word (codes "permissive") then Reason.Permissive else (if texts_equal word (codes "quota") then Reason.Quota else (if texts_equal word (codes "learn") then Reason.Learn else (if texts_equal word (codes "ask") then Reason.Ask else (if texts_equal word (codes "no_entry") then Reason.NoEntry else (if texts_equal word (codes "not_ready") then Reason.NotReady else Reason.NoManual))))))
 
--- a reason's word, or an entry's place between colons
+-- the pieces of a reason's word: the word alone, or an entry's place after a colon, or its group and place
 abbrev pub reason_in : List Text → Reason
 reason_in [] = Reason.NoManual
 reason_in (word ∷ []) = case_of word
@@ -55,6 +57,7 @@ reason_in (word ∷ place ∷ []) = Reason.Entry (EntryPlace.Own (plain_of place
 reason_in (word ∷ group ∷ place ∷ []) = Reason.Entry (EntryPlace.Acl (small_of group) (plain_of place))
 reason_in (word ∷ group ∷ place ∷ other ∷ others) = Reason.NoManual
 
+-- a reason's word, cut at its colons
 unfoldable pub reason_of : Text → Reason
 reason_of word = reason_in (pieces_at 58 word)
 
@@ -62,13 +65,14 @@ reason_of word = reason_in (pieces_at 58 word)
 unfoldable pub way_of : Text → Move
 way_of word = if texts_equal word (codes "stay") then Move.Stay else (if texts_equal word (codes "make") then Move.Make else Move.Fail)
 
--- a move's word, or a live domain after a colon
+-- the pieces of a move's word: the word alone, or a live domain's number after a colon
 abbrev pub move_in : List Text → Move
 move_in [] = Move.Fail
 move_in (word ∷ []) = way_of word
 move_in (word ∷ domain ∷ []) = Move.Enter (plain_of domain)
 move_in (word ∷ domain ∷ other ∷ others) = Move.Fail
 
+-- a move's word, cut at its colons
 unfoldable pub move_of : Text → Move
 move_of word = move_in (pieces_at 58 word)
 
@@ -85,13 +89,14 @@ answer_of word =
 abbrev pub heard : Option Answered → ℕ → Heard
 heard answer version = record { answer = answer; version = version }
 
--- an answer, `@` and a version; another word for none
+-- an answer and a version; anything else for none
 abbrev pub heard_in : List Text → Option Heard
 heard_in [] = None
 heard_in (word ∷ []) = None
 heard_in (answer ∷ version ∷ []) = Some (heard (answer_of answer) (wide_of version))
 heard_in (answer ∷ version ∷ other ∷ others) = None
 
+-- what was learned, cut at its `@`
 unfoldable pub heard_of : Text → Option Heard
 heard_of word = heard_in (pieces_at 64 word)
 

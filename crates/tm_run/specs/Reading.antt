@@ -105,6 +105,7 @@ within reading take line words = if starts (codes "audit") words then with_audit
 abbrev pub closed : Reading → Reading
 closed reading = record reading { begun = None }
 
+-- outside a take, or within the one that is begun
 abbrev pub read_in : Reading → Option Take → Text → List Text → Option Reading
 read_in reading None line words = outside (closed reading) line words
 read_in reading (Some take) line words = within (closed reading) take line words

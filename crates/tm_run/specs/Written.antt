@@ -14,10 +14,11 @@ use Rattle.tm_types.specs.declared.step.Run.{Run}
 use Rattle.tm_rules.specs.Equality.{texts_equal}
 use Rattle.tm_entry.specs.Entries.{is_entry}
 
--- numbers of 32 and of 64 bits
+-- a number of 32 bits
 abbrev pub is_plain : ℕ → Bool
 is_plain number = nat_lt number (2 ^ 32)
 
+-- a number of 64 bits
 abbrev pub is_wide : ℕ → Bool
 is_wide number = nat_lt number (2 ^ 64)
 
@@ -26,10 +27,12 @@ abbrev pub is_learn : Step → Bool
 is_learn (Step.Learn domain entry) = is_plain domain && is_entry entry
 is_learn _ = false
 
+-- the reply to a Learn
 abbrev pub is_learn_reply : Reply → Bool
 is_learn_reply (Reply.Learn reply) = true
 is_learn_reply _ = false
 
+-- a learned entry with its reply
 abbrev pub is_step : Step × Reply → Bool
 is_step pair = is_learn pair.0 && is_learn_reply pair.1
 
@@ -52,6 +55,7 @@ abbrev pub is_heard : Option Heard → Bool
 is_heard None = true
 is_heard (Some heard) = is_wide heard.version
 
+-- a look with all its numbers in their ranges
 abbrev pub is_look : Look → Bool
 is_look look = is_wide look.version && is_reason look.reason && is_move look.step && list_all is_wide look.own && is_heard look.heard
 
@@ -60,9 +64,10 @@ abbrev pub is_audit : Option Text → Bool
 is_audit None = true
 is_audit (Some text) = list_all (λ byte. nat_lt byte 256) text && not (texts_equal text (codes "-"))
 
+-- a take with all its numbers in their ranges, its looks, and an audit text that can be told from none
 abbrev pub is_take : Take → Bool
 is_take take = is_plain take.pid && is_plain take.before && is_plain take.after && list_all is_look take.looks && is_audit take.audit
 
--- the runs whose steps all learn an entry, with numbers in their ranges
+-- the runs whose steps all learn an entry, with numbers in their ranges, also those of the steps and takes
 unfoldable pub is_written : Run → Bool
 is_written run = is_wide (length run.steps) && list_all is_step run.steps && is_wide (length run.takes) && list_all is_take run.takes

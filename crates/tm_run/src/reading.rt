@@ -19,7 +19,7 @@ use tm_word::{Text, normal_words};
 
 /// What has been read of a run: its steps, its takes, and the take that is begun, with its looks so far.
 #[derive(Drop)]
-pub(crate) struct Reading {
+struct Reading {
     steps: Seq<(Step, Reply)>,
     takes: Seq<Take>,
     begun: Option<Take>,
@@ -289,9 +289,9 @@ fn run_of(alloc: Global, text: &[u8]) -> Result<Result<Run, u64>, NoMemory>
     }
 }
 
-/// Reads the text of a run whose steps all learn an entry. It accepts exactly the texts that `print_run` writes of the runs that a
-/// text can write: each line in its printed form, steps and takes numbered from 1, all steps before the takes, and each take with
-/// its audit line.
+/// Reads the text of a run whose steps all learn an entry. It accepts exactly the texts that `print_run` writes of such runs: each
+/// line in its printed form, steps and takes numbered from 1, all steps before the takes, and each take with its looks and its audit
+/// line. The audit text `-` can't be read, since `-` stands for none. Takes time in proportion to the text.
 ///
 /// Errors: `BadLine`, the first line with which no such text can go on, from 1 (one past the last line where the text ends too
 /// early; a last line without its byte 10 can't stand); or want of memory.
@@ -325,6 +325,7 @@ mod tests {
             "run 1\n",
             "run 1\nstep 1 added learn 0 file read /x\nstep 2 there learn 0 file read /x\ntake 1 7 0 0 granted\nlook 0 learning learn stay 1 -\naudit -\ntake 2 8 0 0 granted\nlook 0 learning learn stay 2 -\naudit -\n",
             "run 1\nstep 1 quota learn 4294967295 file symlink /l symlink.target=\"/t\"\nstep 2 mode learn 3 misc env PATH\n",
+            "run 1\nstep 1 added learn 0 file execute /usr/bin/python exec.realpath=\"/usr/bin/python3.11\" exec.argv[0]=\"python3\"\n",
             "run 1\ntake 1 7 0 0 denied\nlook 0 enforcing no_entry stay - -\naudit profile=1\\040mode=enforcing\\012<kernel>\\012file\\040read\\040/b\\012\\012\n",
             "run 1\ntake 1 3 0 15 granted\nlook 7 learning entry:65 enter:15 - -\nlook 9 permissive group:255:1 make 2,5 nobody@18446744073709551615\naudit -\ntake 2 3 0 0 denied\naudit -\ntake 3 1 2 3 denied\nlook 0 none no_manual fail - detached@0\nlook 0 disabled disabled stay - retry@1\naudit -\n",
         ] {
