@@ -1,11 +1,11 @@
 -- Every trace that is read has plain trees with distinct pids.
-use Rattle.std.proofs.Common.{◌≡◌, ℕ, suc, ◌==◌, Bool, true, false, ◌&&◌, ◌||◌, List, [], ◌∷◌, ◌++◌, refl, sym, ap, ◌∙◌, subst, map}
+use Rattle.std.proofs.Common.{◌≡◌, ℕ, suc, ◌==◌, Bool, true, false, ◌||◌, List, [], ◌∷◌, ◌++◌, refl, sym, ap, ◌∙◌, subst}
 use Rattle.std.specs.Prelude.{Option, Some, None, Result, Ok, Err, if◌then◌else◌, codes, option_to_list}
 use Rattle.std.specs.List.{AllByRecursion, IsDistinct}
 use Rattle.tm_word.specs.Words.{Text, Word}
 use Rattle.tm_word.specs.Spelling.{words_of}
 use Rattle.tm_word.specs.Matching.{is_empty}
-use Rattle.tm_word.specs.Printing.{literal, literal_word}
+use Rattle.tm_word.specs.Printing.{literal}
 use Rattle.tm_word.proofs.Literals.{literal-name}
 use Rattle.tm_pattern.specs.Reading.{word_of}
 use Rattle.tm_types.specs.declared.request.Request.{Request}

@@ -1,5 +1,5 @@
 -- The numbers of processes and trees: they are written in decimal, and none is 0.
-use Rattle.std.specs.Prelude.{◌≡◌, ℕ, ◌^◌, ◌==◌, nat_lt, Result, Ok, Err, if◌then◌else◌}
+use Rattle.std.specs.Prelude.{ℕ, ◌^◌, ◌==◌, nat_lt, Result, Ok, Err, if◌then◌else◌}
 use Rattle.tm_word.specs.Words.{Text}
 use Rattle.tm_number.specs.declared.Base.{Base}
 use Rattle.tm_number.specs.declared.Number.{Number}

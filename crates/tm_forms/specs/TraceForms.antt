@@ -1,5 +1,5 @@
 -- What every trace that is read is.
-use Rattle.std.specs.Prelude.{◌≡◌, ℕ, ◌==◌, Bool, true, false, List, [], ◌∷◌, map, Ok}
+use Rattle.std.specs.Prelude.{◌≡◌, ℕ, ◌==◌, Bool, true, false, List, map, Ok}
 use Rattle.std.specs.List.{AllByRecursion, IsDistinct}
 use Rattle.tm_word.specs.Words.{Text}
 use Rattle.tm_types.specs.declared.request.Request.{Request}

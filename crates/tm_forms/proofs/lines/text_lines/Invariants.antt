@@ -1,4 +1,4 @@
-use Rattle.std.proofs.Common.{◌≡◌, ℕ, List, [], drop}
+use Rattle.std.proofs.Common.{◌≡◌, [], drop}
 use Rattle.tm_forms.specs.Lines.{lines_after}
 use Rattle.tm_forms.proofs.lines.text_lines.Given as goal
 

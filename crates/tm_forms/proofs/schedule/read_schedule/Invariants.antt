@@ -1,4 +1,4 @@
-use Rattle.std.proofs.Common.{◌≡◌, ℕ, suc, List, [], drop}
+use Rattle.std.proofs.Common.{◌≡◌, suc, [], drop}
 use Rattle.tm_forms.specs.Schedule.{schedule_lines}
 use Rattle.tm_forms.proofs.schedule.read_schedule.Given as goal
 

@@ -1,4 +1,4 @@
-use Rattle.std.proofs.Common.{◌≡◌, ℕ, suc, List, [], drop}
+use Rattle.std.proofs.Common.{◌≡◌, suc, drop}
 use Rattle.tm_forms.specs.Trace.{no_trees, trace_lines}
 use Rattle.tm_forms.proofs.trace.read_trace.Given as goal
 
