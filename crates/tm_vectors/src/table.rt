@@ -1,0 +1,29 @@
+//! The tables.
+
+/// A table of recorded answers. Each row has fields between tabs, and the last one is what the real TOMOYO answered.
+#[derive(Clone, Copy, PartialEq, Eq, Debug)]
+pub enum Table {
+    /// A line of `domain_policy`, and its printed text or `refused`.
+    AclLines,
+    /// A line of `exception_policy`, and its printed text without the namespace word, or `refused`.
+    ExceptionLines,
+    /// A number, a domain, a program, and controls with `|` between them; and the domain to which an execute leads.
+    Transitions,
+    /// A pattern and a name, and `yes` where the one matches the other, else `no`.
+    PatternVectors,
+    /// A text, and `yes` where it is a right pattern, else `no`.
+    PatternValidity,
+}
+
+impl Table {
+    /// The name that the table's file and lines have.
+    pub fn name(self) -> &'static str {
+        match self {
+            Table::AclLines => "acl_lines",
+            Table::ExceptionLines => "exception_lines",
+            Table::Transitions => "transitions",
+            Table::PatternVectors => "pattern_vectors",
+            Table::PatternValidity => "pattern_validity",
+        }
+    }
+}
