@@ -1,8 +1,7 @@
 -- What is loaded can be opened and played, and what was played is what the files ask for.
-use Rattle.std.proofs.Common.{◌≡◌, ℕ, true, false, List, [], ◌∷◌, refl, sym, ap, ◌∙◌, subst}
-use Rattle.std.specs.Prelude.{Option, Some, None, Ok, not, is_some, IsSome}
+use Rattle.std.proofs.Common.{◌≡◌, true, List, [], refl, sym, ap, ◌∙◌, subst}
+use Rattle.std.specs.Prelude.{Option, Some, None, Ok, is_some, IsSome}
 use Rattle.std.specs.List.{position_from}
-use Rattle.tm_types.specs.declared.policy.Domain.{Domain}
 use Rattle.tm_types.specs.declared.policy.Policy.{Policy}
 use Rattle.tm_types.specs.declared.policy.Profile.{Profile}
 use Rattle.tm_types.specs.declared.step.FileKind.{FileKind}
@@ -17,7 +16,7 @@ use Rattle.tm_core.specs.Play.{IsGrammar, IsAlone, Player, start_of, run_of, tur
 use Rattle.tm_core.specs.Play as core
 use Rattle.tm_core.specs.Stands.{IsBuilt, IsReached}
 use Rattle.tm_core.proofs.Playable.{bare, bare-is}
-use Rattle.tm_forms.specs.Opening.{profile_opening, domain_opening, opening_of, with_domains, opened_or_fault}
+use Rattle.tm_forms.specs.Opening.{opening_of, with_domains, opened_or_fault}
 use Rattle.tm_forms.specs.Opened.{IsFirst}
 use Rattle.tm_forms.proofs.OpeningLaws.{every_opening_is_first}
 use Rattle.tm_forms.proofs.TraceLaws.{every_trace_is_plain}
@@ -26,7 +25,7 @@ use Rattle.tomoyo_run.specs.declared.forms.Loaded.{Loaded}
 use Rattle.tomoyo_run.specs.declared.play.Played.{Played}
 use Rattle.tomoyo_run.specs.Fetches.{Texts, content}
 use Rattle.tomoyo_run.specs.Forms.{IsLoaded}
-use Rattle.tomoyo_run.specs.Play.{alone, opened, CanBePlayed, IsPlayOf, PlaysOn, PlaysLoaded, IsPrinted, Plays}
+use Rattle.tomoyo_run.specs.Play.{alone, opened, CanBePlayed, PlaysOn, PlaysLoaded, IsPrinted, Plays}
 use Rattle.tomoyo_run.proofs.Openings.{is_alone, is_built}
 
 -- what was loaded is the opening, once it is opened

@@ -195,6 +195,17 @@ fn a_trace_has_to_be_there(rt: HostRuntime) -> Result<(), Fail> {
 }
 
 #[test]
+fn a_file_has_no_more_bytes_than_are_taken(rt: HostRuntime) -> Result<(), Fail> {
+    let alloc = rt.alloc();
+    let mut texts = FileList::new(alloc);
+    let profile = Text::from_vec(vec![in alloc; b'#'; 16_777_217]?);
+    texts.push((FileName::Profile, profile))?;
+    let ended = call(alloc, "step", texts, Vec::new(alloc))?;
+    assert_eq!(rt; ended.status, Status::TooLong(FileName::Profile));
+    Ok(())
+}
+
+#[test]
 fn without_words_there_is_no_command(rt: HostRuntime) -> Result<(), Fail> {
     let alloc = rt.alloc();
     let texts = files(alloc, b"<kernel>\nuse_profile 1\n", TRACE)?;
