@@ -1,5 +1,5 @@
 -- References put into a list, as the namespaces that they lend.
-use Rattle.std.proofs.Common.{◌≡◌, ◌∷◌, [], ℕ, suc, Bool, true, false, if◌then◌else◌, List, ap, refl}
+use Rattle.std.proofs.Common.{◌≡◌, ◌∷◌, [], suc, Bool, true, false, if◌then◌else◌, List, ap, refl}
 use Rattle.std.specs.Borrow.{Bor}
 use Rattle.std.specs.List.{insert}
 use Rattle.tm_types.specs.declared.policy.Namespace.{Namespace}

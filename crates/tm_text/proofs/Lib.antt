@@ -1,3 +1,4 @@
 pub mod Examples
 pub mod LentLaws
 pub mod OrderLaws
+pub mod SlotExamples

@@ -1,5 +1,5 @@
 -- Namespaces put into their places: each stays, and they are in the order of their names.
-use Rattle.std.proofs.Common.{◌≡◌, ◌∷◌, [], ℕ, ◌==◌, nat_lt, Bool, true, false, if◌then◌else◌, List, ◌++◌, arith, refl, sym, subst, append-nil}
+use Rattle.std.proofs.Common.{◌≡◌, ◌∷◌, [], Bool, true, false, if◌then◌else◌, List, ◌++◌, arith, refl, sym, subst, append-nil}
 use Rattle.std.specs.List.Sorted.{IsPermutation}
 use Rattle.std.proofs.lemmas.List.Sorted.{IsPermutation-refl, IsPermutation-cons, IsPermutation-trans, IsPermutation-swap}
 use Rattle.tm_word.specs.Words.{Text}
