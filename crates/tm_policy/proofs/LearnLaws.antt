@@ -1,5 +1,5 @@
 -- What a Learn leaves, by its reply.
-use Rattle.std.proofs.Common.{◌≡◌, ℕ, ◌<◌, true, List, length, map, refl, sym, ap, ◌∙◌}
+use Rattle.std.proofs.Common.{◌≡◌, ℕ, ◌<◌, true, List, length, map, refl, sym, ap}
 use Rattle.std.specs.Prelude.{Option, Some, None, IsSome, option_map, unwrap_or, slice_get, slice_index_or}
 use Rattle.std.specs.Option.{option_and_then}
 use Rattle.tm_types.specs.declared.entry.Entry.{Entry}

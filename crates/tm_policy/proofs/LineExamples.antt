@@ -22,7 +22,7 @@ use Rattle.tm_file.specs.FileLines.{row_of, args_at, row_line, perms_line, file_
 use Rattle.tm_file.specs.Preferences.{path_at}
 use Rattle.tm_cond.specs.Reading.{sides, clause_word, log_word, cond_from, cond_of}
 use Rattle.tm_entry.specs.Entries.{acl_line, entry_of}
-use Rattle.tm_policy.specs.Lines.{kernel_profile, setting, numbered_line, after_number, preference_line, config_line, profile_line, entry_line, use_profile_line, domain_line, read_words, read_line}
+use Rattle.tm_policy.specs.Lines.{kernel_profile, setting, numbered_line, after_number, config_line, profile_line, entry_line, use_profile_line, domain_line, read_words, read_line}
 
 pub empty : read_line FileKind.Manager (codes "  ") ≡ Ok PolicyLine.Nothing
 unfolding read_line words_of read_words

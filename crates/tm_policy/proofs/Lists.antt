@@ -1,9 +1,8 @@
 -- A search through one list after another.
 use Rattle.std.proofs.Common.{◌≡◌, ℕ, zero, suc, ◌+◌, ◌<◌, ◌==◌, subst, length, drop, get_or, arith, Bool, true, false, List, [], ◌∷◌, ◌++◌, refl, sym, ap, ◌∙◌}
-use Rattle.std.specs.Prelude.{Option, Some, None, option_map, unwrap_or, slice_get, flat_map, if◌then◌else◌}
+use Rattle.std.specs.Prelude.{Option, Some, None, option_map, unwrap_or, slice_get, if◌then◌else◌}
 use Rattle.std.specs.Option.{option_or}
 use Rattle.std.specs.List.{AllByRecursion, find}
-use Rattle.tm_list.specs.Map.{at_rank}
 use Rattle.tm_types.specs.declared.unions.Groups.{Groups}
 use Rattle.tm_types.specs.declared.entry.Args.{Args}
 use Rattle.tm_types.specs.declared.entry.Entry.{Entry}
@@ -16,7 +15,7 @@ use Rattle.tm_types.specs.Request.{argument_words}
 use Rattle.tm_rules.specs.Condition.{first_of_all, is_execute}
 use Rattle.tm_rules.specs.Few.{IsShort}
 use Rattle.tm_rules.specs.Policy.{at_key}
-use Rattle.tm_rules.specs.Search.{Granting, granting, path_of, placed, found_of}
+use Rattle.tm_rules.specs.Search.{granting, path_of, placed, found_of}
 use Rattle.tm_policy.specs.Searching.{found_in, acl_entries}
 
 or-or : {B : Type 0} (x y z : Option B) → option_or x (option_or y z) ≡ option_or (option_or x y) z

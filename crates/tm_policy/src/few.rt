@@ -1,5 +1,5 @@
 //! Whether each place of a policy's lists can be written as a number below 2^32.
-ghost use Rattle.std.specs.Prelude.{◌≡◌, ◌&&◌, ℕ, List, length, nat_lt, true};
+ghost use Rattle.std.specs.Prelude.{◌≡◌, ◌↔◌, ℕ, List, length, IsTrue};
 ghost use Rattle.std.specs.List.{list_all};
 ghost use Rattle.tm_types.specs.declared.entry.Entry.{Entry};
 ghost use Rattle.tm_types.specs.declared.policy.Domain.{Domain};
@@ -53,9 +53,9 @@ fn have_short_lists(namespaces: &[Namespace]) -> bool
 }
 
 /// Whether the places of all lists of the policy fit a u32, as verdicts and runs write them.
-#[tactic(auto, using(crate::proofs::FewLaws::few_by_tests))]
+#[tactic(auto, using(crate::proofs::FewLaws::few_by_tests, crate::proofs::FewLaws::tests_by_few))]
 pub fn is_few(policy: &Policy) -> bool
-    ensures { result ≡ true → IsFew policy.now }
+    ensures { IsTrue result ↔ IsFew policy.now }
 {
     is_short(policy.domains.len())
         && have_short_entries(policy.domains.as_slice())

@@ -1,4 +1,4 @@
-use Rattle.std.proofs.Common.{◌≡◌, None, sym, ap, ◌∙◌}
+use Rattle.std.proofs.Common.{sym, ap, ◌∙◌}
 use Rattle.std.specs.Option.{option_copied}
 use Rattle.tm_policy.proofs.LearnLaws.{learns_there}
 use Rattle.tm_policy.proofs.learning.apply_learn.Goals as goal

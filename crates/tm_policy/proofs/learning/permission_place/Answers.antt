@@ -1,4 +1,4 @@
-use Rattle.std.proofs.Common.{◌≡◌, ℕ, suc, ◌-◌, ◌≤◌, ◌+◌, true, false, Some, None, refl, sym, ap, ◌∙◌, arith, rules}
+use Rattle.std.proofs.Common.{◌≡◌, ℕ, suc, ◌-◌, ◌≤◌, ◌+◌, true, false, Some, None, sym, ap, ◌∙◌, arith, rules}
 use Rattle.std.specs.Prelude.{unwrap_or}
 use Rattle.tm_rules.specs.Policy.{has_permission}
 use Rattle.tm_policy.proofs.Places.{first_place, place_from, place_here, place_later, no_place, place_is}

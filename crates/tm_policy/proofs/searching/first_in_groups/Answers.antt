@@ -1,4 +1,4 @@
-use Rattle.std.proofs.Common.{◌≡◌, sym, ◌∙◌}
+use Rattle.std.proofs.Common.{sym, ◌∙◌}
 use Rattle.std.specs.Option.{option_copied}
 use Rattle.tm_policy.specs.Searching.{asked_as}
 use Rattle.tm_policy.proofs.Lists.{found_here, found_later}

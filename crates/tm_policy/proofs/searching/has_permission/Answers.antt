@@ -1,4 +1,4 @@
-use Rattle.std.proofs.Common.{◌≡◌, refl, arith, ap, sym, ◌==◌}
+use Rattle.std.proofs.Common.{ap, sym, ◌==◌}
 use Rattle.std.proofs.lemmas.Nat.Bits.{bit_at_above}
 use Rattle.tm_policy.proofs.searching.has_permission.Goals as goal
 

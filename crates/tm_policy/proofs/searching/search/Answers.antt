@@ -1,4 +1,4 @@
-use Rattle.std.proofs.Common.{◌≡◌, sym, ◌∙◌}
+use Rattle.std.proofs.Common.{sym, ◌∙◌}
 use Rattle.tm_policy.proofs.Finds.{found-there, found-nowhere}
 use Rattle.tm_policy.proofs.searching.search.Goals as goal
 

@@ -1,9 +1,6 @@
-use Rattle.std.proofs.Common.{◌≡◌, true, sym, ap, ◌∙◌}
+use Rattle.std.proofs.Common.{◌≡◌, true, sym, ◌∙◌}
 use Rattle.std.specs.Option.{option_copied}
-use Rattle.tm_types.specs.declared.verdict.EntryPlace.{EntryPlace}
 use Rattle.tm_rules.specs.Condition.{is_execute}
-use Rattle.tm_rules.specs.Search.{placed}
-use Rattle.tm_policy.specs.Searching.{asked_as, found_in}
 use Rattle.tm_policy.proofs.Lists.{execute_path}
 use Rattle.tm_policy.proofs.Finds.{alone_execute, alone_plain}
 use Rattle.tm_policy.proofs.searching.search_alone.Goals as goal

@@ -1,7 +1,5 @@
-use Rattle.std.proofs.Common.{◌≡◌, List, ℕ, sym, ap, subst, ◌∙◌, Some, None}
-use Rattle.std.specs.Prelude.{Option, option_map}
-use Rattle.std.specs.List.{find}
-use Rattle.std.specs.Option.{option_copied}
+use Rattle.std.proofs.Common.{sym, ap, ◌∙◌}
+use Rattle.std.specs.Prelude.{option_map}
 use Rattle.tm_types.specs.declared.policy.Namespace.{Namespace}
 use Rattle.tm_rules.specs.Equality.{texts_equal}
 use Rattle.tm_rules.specs.Few.{IsFewHere}

@@ -1,4 +1,4 @@
-use Rattle.std.proofs.Common.{◌≡◌, ℕ, true, false, sym, ap, ◌∙◌, Some}
+use Rattle.std.proofs.Common.{◌≡◌, true, sym, ap, ◌∙◌, Some}
 use Rattle.tm_rules.specs.Condition.{is_execute}
 use Rattle.tm_rules.specs.Search.{aggregated, path_of}
 use Rattle.tm_policy.proofs.Lists.{execute_path}

@@ -1,4 +1,4 @@
-use Rattle.std.proofs.Common.{◌≡◌, ◌<◌, ℕ, length, List, slice_index_or, sym, ap, ◌∙◌, subst, true}
+use Rattle.std.proofs.Common.{◌<◌, ℕ, length, List, slice_index_or, sym, ap, ◌∙◌, subst}
 use Rattle.std.specs.Prelude.{IsSome}
 use Rattle.tm_types.specs.declared.policy.Policy.{Policy}
 use Rattle.tm_rules.specs.Policy.{changed_at}
