@@ -8,7 +8,6 @@ ghost use Rattle.std.specs.Option.{option_copied};
 ghost use Rattle.tm_word.specs.Printing.{literal};
 ghost use Rattle.tm_types.specs.declared.entry.Attr.{Attr};
 ghost use Rattle.tm_rules.specs.Policy.{permission};
-ghost use Rattle.tm_rules.specs.Condition.{is_execute};
 ghost use Rattle.tm_rules.specs.Learned.{is_word, learned_line};
 ghost use Rattle.tm_rules.specs.Changes.{count, is_task};
 ghost use Rattle.tm_learn.specs.Counting.{permissions_of};
@@ -17,29 +16,12 @@ ghost use Rattle.tm_rules.specs.Few.{IsShort};
 use std::alloc::Global;
 use tm_list::{Copied, NoMemory, Seq};
 use tm_pattern::literal;
+use tm_rules::is_execute;
 use tm_types::entry::{Args, Attr, Clause, Cond, Entry, Perms, Right};
 use tm_types::policy::Domain;
 use tm_types::request::Request;
 use tm_types::unions::NameUnion;
 use tm_word::Word;
-
-/// Whether a request is an execute: its line has a path, and its permission is the first.
-pub fn is_execute(request: &Request) -> bool
-    ensures { result ≡ is_execute request.now }
-{
-    match request.args() {
-        Args::Path(_) => request.perm() == 0,
-        Args::PathNumber(_, _)
-        | Args::Device(_, _, _, _)
-        | Args::Path2(_, _)
-        | Args::Mount(_, _, _, _)
-        | Args::Inet(_, _, _)
-        | Args::Unix(_, _)
-        | Args::Env(_)
-        | Args::Manual(_)
-        | Args::Execute(_, _) => false,
-    }
-}
 
 /// The permission at a place of its row.
 fn permission(place: u8) -> Perms
@@ -173,4 +155,77 @@ pub fn count(domain: &Domain) -> u64
         permissions += permissions_of(entry);
     }
     permissions
+}
+
+#[cfg(test)]
+mod tests {
+    use super::*;
+    use tm_list::Same;
+    use tm_types::request::Attributes;
+
+    fn attributes(alloc: Global) -> Attributes {
+        Attributes {
+            real_path: None,
+            argv: Seq::new(alloc),
+            envp: Seq::new(alloc),
+            target: None,
+            stats: Seq::new(alloc),
+        }
+    }
+
+    fn path(alloc: Global, name: &[u8]) -> Result<Args, NoMemory> {
+        let name = Seq::from_bytes(alloc, name)?;
+        Ok(Args::Path(NameUnion::One(literal(alloc, &name)?)))
+    }
+
+    #[test]
+    fn an_execute_is_learned_with_its_real_path(rt: HostRuntime) -> Result<(), NoMemory> {
+        let alloc = rt.alloc();
+        let mut recorded = attributes(alloc);
+        recorded.real_path = Some(Seq::from_bytes(alloc, b"/bin/dash")?);
+        recorded.argv.push(Seq::from_bytes(alloc, b"sh")?)?;
+        let request = Request::new(alloc, path(alloc, b"/bin/sh")?, 0, recorded)?;
+        let line = learned_line(alloc, &request, &Seq::from_bytes(alloc, b"/sh")?)?;
+        assert!(rt; line.args.same(&path(alloc, b"/sh")?));
+        assert_eq!(rt; line.perms, Perms { bits: 1 });
+        assert_eq!(rt; line.cond.clauses.len(), 2);
+        Ok(())
+    }
+
+    #[test]
+    fn a_symlink_is_learned_with_its_target(rt: HostRuntime) -> Result<(), NoMemory> {
+        let alloc = rt.alloc();
+        let mut recorded = attributes(alloc);
+        recorded.target = Some(Seq::from_bytes(alloc, b"to")?);
+        let request = Request::new(alloc, path(alloc, b"/link")?, 8, recorded)?;
+        let line = learned_line(alloc, &request, &Seq::new(alloc))?;
+        assert!(rt; line.args.same(&path(alloc, b"/link")?));
+        assert_eq!(rt; line.perms, Perms { bits: 256 });
+        match line.cond.clauses.get(0) {
+            Some(clause) => assert!(rt; clause.equal && clause.left.same(&Attr::Target)),
+            None => assert!(rt; false, "no target"),
+        }
+        Ok(())
+    }
+
+    #[test]
+    fn permissions_of_a_task_line_do_not_count(rt: HostRuntime) {
+        let alloc = rt.alloc();
+        for (is_task, bits, want) in [(false, 0b111u16, 3u64), (false, 1, 1), (true, 1, 0)] {
+            let args = if is_task {
+                Args::Manual(Seq::new(alloc))
+            } else {
+                Args::Path(NameUnion::Group(Seq::new(alloc)))
+            };
+            let entry = Entry {
+                args,
+                perms: Perms { bits },
+                cond: Cond {
+                    clauses: Seq::new(alloc),
+                    grant_log: None,
+                },
+            };
+            assert_eq!(rt; permissions_of(&entry), want);
+        }
+    }
 }

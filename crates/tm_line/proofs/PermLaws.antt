@@ -21,7 +21,7 @@ is_bits None bits = false
 is_bits (Some n) bits = n == bits
 
 abbrev is_again : Row → ℕ → Bool
-is_again acl_row bits = is_bits (bits_of acl_row 0 (pieces_of (perms_spelling acl_row bits))) bits
+is_again acl_row bits = is_bits (bits_of 0 acl_row (pieces_of (perms_spelling acl_row bits))) bits
 
 bits_are : (o : Option ℕ) (bits : ℕ) → is_bits o bits ≡ true → o ≡ Some bits
 bits_are None bits e = absurd cc
@@ -74,10 +74,10 @@ set_again Row.Pair bits low high = all_at 7 (is_again Row.Pair) bits pair low (o
 set_again Row.Listening bits low high = all_at 7 (is_again Row.Listening) bits listening low (omega (arith, high))
 set_again Row.Sending bits low high = all_at 3 (is_again Row.Sending) bits sending low (omega (arith, high))
 
-pub bits_again : (acl_row : Row) (bits : ℕ) → is_set acl_row bits ≡ true → bits_of acl_row 0 (pieces_of (perms_spelling acl_row bits)) ≡ Some bits
+pub bits_again : (acl_row : Row) (bits : ℕ) → is_set acl_row bits ≡ true → bits_of 0 acl_row (pieces_of (perms_spelling acl_row bits)) ≡ Some bits
 bits_again acl_row bits h =
     let b = both (nat_lt 0 bits) (nat_lt bits (2 ^ length (names acl_row))) h in
-    bits_are (bits_of acl_row 0 (pieces_of (perms_spelling acl_row bits))) bits (set_again acl_row bits (ltb-true _ _ b.0) (ltb-true _ _ b.1))
+    bits_are (bits_of 0 acl_row (pieces_of (perms_spelling acl_row bits))) bits (set_again acl_row bits (ltb-true _ _ b.0) (ltb-true _ _ b.1))
 
 pub perms_again : (acl_row : Row) (bits : ℕ) (last : Bool) → is_set acl_row bits ≡ true → perms_of acl_row (perms_spelling acl_row bits) last ≡ Ok bits
 unfolding perms_of
@@ -114,30 +114,30 @@ row_fits acl_row piece m e = let place : 0 + width acl_row ≡ width acl_row = o
 abbrev Grows : Row → ℕ → ℕ → Type 0
 Grows acl_row before bits = (before ≤ bits) × (bits < 2 ^ width acl_row)
 
-mask_grows : (acl_row : Row) (before bits : ℕ) (o : Option ℕ) (more : ℕ → Option ℕ) → before < 2 ^ width acl_row → ((m : ℕ) → o ≡ Some m → FitsTo (width acl_row) m) → with_mask o before more ≡ Some bits
+mask_grows : (before : ℕ) (acl_row : Row) (bits : ℕ) (o : Option ℕ) (more : ℕ → Option ℕ) → before < 2 ^ width acl_row → ((m : ℕ) → o ≡ Some m → FitsTo (width acl_row) m) → with_mask o before more ≡ Some bits
     → ((b : ℕ) → b < 2 ^ width acl_row → more b ≡ Some bits → Grows acl_row b bits) → (m : ℕ) × (o ≡ Some m) × Grows acl_row (bit_or before m) bits
-mask_grows acl_row before bits None more low fits e go = absurd cc
-mask_grows acl_row before bits (Some m) more low fits e go = (m, refl, go (bit_or before m) (or_lt (width acl_row) before m low (fits m refl).1) e)
+mask_grows before acl_row bits None more low fits e go = absurd cc
+mask_grows before acl_row bits (Some m) more low fits e go = (m, refl, go (bit_or before m) (or_lt (width acl_row) before m low (fits m refl).1) e)
 
 le_trans : (a b c : ℕ) → a ≤ b → b ≤ c → a ≤ c
 le_trans a b c h k = omega (arith, h, k)
 
-bits_grow : (acl_row : Row) (pieces : List Text) (before bits : ℕ) → before < 2 ^ width acl_row → bits_of acl_row before pieces ≡ Some bits → Grows acl_row before bits
+bits_grow : (acl_row : Row) (pieces : List Text) (before bits : ℕ) → before < 2 ^ width acl_row → bits_of before acl_row pieces ≡ Some bits → Grows acl_row before bits
 bits_grow acl_row [] before bits low e = subst (Grows acl_row before) (some_is before bits e) (omega arith, low)
 bits_grow acl_row (piece ∷ pieces) before bits low e =
-    let g = mask_grows acl_row before bits (mask_in acl_row piece) (λ b. bits_of acl_row b pieces) low (row_fits acl_row piece) e (λ b lt h. bits_grow acl_row pieces b bits lt h) in
+    let g = mask_grows before acl_row bits (mask_in acl_row piece) (λ b. bits_of b acl_row pieces) low (row_fits acl_row piece) e (λ b lt h. bits_grow acl_row pieces b bits lt h) in
     (le_trans before (bit_or before g.0) bits (le_or_l before g.0) g.2.0, g.2.1)
 
-bits_set : (acl_row : Row) (piece : Text) (pieces : List Text) (bits : ℕ) → bits_of acl_row 0 (piece ∷ pieces) ≡ Some bits → is_set acl_row bits ≡ true
+bits_set : (acl_row : Row) (piece : Text) (pieces : List Text) (bits : ℕ) → bits_of 0 acl_row (piece ∷ pieces) ≡ Some bits → is_set acl_row bits ≡ true
 bits_set acl_row piece pieces bits e =
     let low : 0 < 2 ^ width acl_row = one-le-pow (width acl_row) 2 (omega arith) in
-    let g = mask_grows acl_row 0 bits (mask_in acl_row piece) (λ b. bits_of acl_row b pieces) low (row_fits acl_row piece) e (λ b lt h. bits_grow acl_row pieces b bits lt h) in
+    let g = mask_grows 0 acl_row bits (mask_in acl_row piece) (λ b. bits_of b acl_row pieces) low (row_fits acl_row piece) e (λ b lt h. bits_grow acl_row pieces b bits lt h) in
     let first : 0 < g.0 = (row_fits acl_row piece g.0 g.1).0 in
     let some : 0 < bits = omega (arith, first, le_or_r 0 g.0, g.2.0) in
     rw (lt-ltb _ _ some) (lt-ltb _ _ g.2.1)
 
-pub word_set : (acl_row : Row) (word : Text) (bits : ℕ) → bits_of acl_row 0 (pieces_of word) ≡ Some bits → is_set acl_row bits ≡ true
-word_set acl_row word bits e = let p = cut_of (λ b. b == 47) word in bits_set acl_row p.first p.rest bits (ap (bits_of acl_row 0) (sym p.are) ∙ e)
+pub word_set : (acl_row : Row) (word : Text) (bits : ℕ) → bits_of 0 acl_row (pieces_of word) ≡ Some bits → is_set acl_row bits ≡ true
+word_set acl_row word bits e = let p = cut_of (λ b. b == 47) word in bits_set acl_row p.first p.rest bits (ap (bits_of 0 acl_row) (sym p.are) ∙ e)
 
 from_kind : (o : Option ℕ) (unfinished : Bool) (bits : ℕ) → bits_or_kind o unfinished ≡ done bits → o ≡ Some bits
 from_kind None unfinished bits e = absurd cc
@@ -145,4 +145,4 @@ from_kind (Some n) unfinished bits e = ap Some (ok_is n bits e)
 
 pub perms_read : (acl_row : Row) (word : Text) (last : Bool) (bits : ℕ) → perms_of acl_row word last ≡ Ok bits → is_set acl_row bits ≡ true
 unfolding perms_of
-perms_read acl_row word last bits e = word_set acl_row word bits (from_kind (bits_of acl_row 0 (pieces_of word)) (last && finishes acl_row (pieces_of word)) bits e)
+perms_read acl_row word last bits e = word_set acl_row word bits (from_kind (bits_of 0 acl_row (pieces_of word)) (last && finishes acl_row (pieces_of word)) bits e)

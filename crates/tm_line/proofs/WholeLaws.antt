@@ -332,7 +332,7 @@ names_solid Row.Pair = refl
 names_solid Row.Listening = refl
 names_solid Row.Sending = refl
 
-no_piece : (acl_row : Row) (bits : ℕ) → ¬ (bits_of acl_row 0 (pieces_of []) ≡ Some bits)
+no_piece : (acl_row : Row) (bits : ℕ) → ¬ (bits_of 0 acl_row (pieces_of []) ≡ Some bits)
 no_piece Row.Path bits e = cc
 no_piece Row.PathNumber bits e = cc
 no_piece Row.Device bits e = cc
@@ -340,7 +340,7 @@ no_piece Row.Pair bits e = cc
 no_piece Row.Listening bits e = cc
 no_piece Row.Sending bits e = cc
 
-perms_text : (acl_row : Row) (bits : ℕ) (text : Text) → bits_of acl_row 0 (pieces_of text) ≡ Some bits → is_solid text ≡ true → is_word text ≡ true
+perms_text : (acl_row : Row) (bits : ℕ) (text : Text) → bits_of 0 acl_row (pieces_of text) ≡ Some bits → is_solid text ≡ true → is_word text ≡ true
 perms_text acl_row bits [] e h = absurd (no_piece acl_row bits e)
 perms_text acl_row bits (b ∷ text) e h = word_from b text h
 

@@ -40,9 +40,9 @@ with_mask None before more = None
 with_mask (Some mask) before more = more (bit_or before mask)
 
 -- the bits of permissions of the row, beside those before
-abbrev pub bits_of : Row → ℕ → List Text → Option ℕ
-bits_of acl_row before [] = Some before
-bits_of acl_row before (piece ∷ pieces) = with_mask (mask_in acl_row piece) before (λ bits. bits_of acl_row bits pieces)
+abbrev pub bits_of : ℕ → Row → List Text → Option ℕ
+bits_of before acl_row [] = Some before
+bits_of before acl_row (piece ∷ pieces) = with_mask (mask_in acl_row piece) before (λ bits. bits_of bits acl_row pieces)
 
 -- permissions of the row, and then a front of one
 abbrev pub finishes : Row → List Text → Bool
@@ -57,7 +57,7 @@ bits_or_kind None unfinished = Err (keyword_kind unfinished)
 
 -- the permissions that a word writes; an unfinished list as the last word is a missing word
 unfoldable pub perms_of : Row → Text → Bool → Result ℕ LineKind
-perms_of acl_row word last = bits_or_kind (bits_of acl_row 0 (pieces_of word)) (last && finishes acl_row (pieces_of word))
+perms_of acl_row word last = bits_or_kind (bits_of 0 acl_row (pieces_of word)) (last && finishes acl_row (pieces_of word))
 
 -- a permission whose bit is set joins those before
 unfoldable pub perm_on : ℕ → ℕ → Text → Text → Text

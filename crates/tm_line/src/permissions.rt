@@ -224,7 +224,7 @@ pub fn pieces_of(alloc: Global, word: &[u8]) -> Result<Vec<Text>, NoMemory>
 }
 
 fn bits_of(acl_row: Row, pieces: &[Text]) -> Option<u16>
-    ensures { result ≡ bits_of acl_row 0 pieces.now }
+    ensures { result ≡ bits_of 0 acl_row pieces.now }
 {
     let mut bits = 0u16;
     for piece in pieces {
