@@ -1,5 +1,5 @@
 -- the components of a literal, joined
-use Rattle.std.proofs.Common.{◌≡◌, ℕ, List, [], ◌∷◌, ◌++◌, refl, ap, sym, ◌∙◌}
+use Rattle.std.proofs.Common.{◌≡◌, ℕ, List, [], ◌∷◌, ◌++◌, refl, ap, sym}
 use Rattle.std.specs.Prelude.{map, flat_map}
 use Rattle.std.specs.List.{join_with_byte}
 use Rattle.std.proofs.Common.{append-nil}
