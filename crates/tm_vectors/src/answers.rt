@@ -1,4 +1,6 @@
 //! What our crates answer to a row.
+ghost use Rattle.std.specs.Prelude.{◌≡◌, IfOk};
+ghost use Rattle.tm_vectors.specs.Answers.{decision, answer_to, answer};
 
 use crate::lines::{entry_line, exception_line};
 use crate::patterns::{is_matched, is_right};
@@ -8,22 +10,17 @@ use std::alloc::Global;
 use tm_list::{NoMemory, Seq};
 use tm_word::Text;
 
-/// The pieces of a text between these bytes.
-pub fn pieces_of(alloc: Global, text: &[u8], between: u8) -> Result<Vec<Text>, NoMemory> {
-    let mut pieces = Vec::new(alloc);
-    for piece in text.split(|byte| *byte == between) {
-        pieces.push(Seq::from_bytes(alloc, piece)?)?;
-    }
-    Ok(pieces)
-}
-
-// `yes` or `no`.
-fn decision(decided: bool) -> &'static [u8] {
+/// `yes` or `no`.
+fn decision(decided: bool) -> &'static [u8]
+    ensures { result.now ≡ decision decided }
+{
     if decided { b"yes" } else { b"no" }
 }
 
-// The answer, where the row is one of its table and isn't refused.
-fn answered(alloc: Global, table: Table, question: &[Text]) -> Result<Option<Vec<u8>>, NoMemory> {
+/// The answer, where the row is one of its table and isn't refused.
+fn answered(alloc: Global, table: Table, question: &[Text]) -> Result<Option<Text>, NoMemory>
+    ensures { IfOk result (λ text. text ≡ answer_to table question.now) }
+{
     match (table, question) {
         (Table::AclLines, [line]) => entry_line(alloc, line.bytes()),
         (Table::ExceptionLines, [line]) => exception_line(alloc, line.bytes()),
@@ -32,22 +29,25 @@ fn answered(alloc: Global, table: Table, question: &[Text]) -> Result<Option<Vec
         }
         (Table::PatternVectors, [pattern, name]) => {
             match is_matched(alloc, pattern.bytes(), name.bytes())? {
-                Some(matched) => Ok(Some(Vec::from_slice(alloc, decision(matched))?)),
+                Some(matched) => Ok(Some(Seq::from_bytes(alloc, decision(matched))?)),
                 None => Ok(None),
             }
         }
         (Table::PatternValidity, [text]) => {
             let right = is_right(alloc, text.bytes())?;
-            Ok(Some(Vec::from_slice(alloc, decision(right))?))
+            Ok(Some(Seq::from_bytes(alloc, decision(right))?))
         }
         _ => Ok(None),
     }
 }
 
 /// What our crates answer to a row's question, `refused` where they refuse it.
-pub fn answer(alloc: Global, table: Table, question: &[Text]) -> Result<Vec<u8>, NoMemory> {
+#[tactic(auto, unfolding(crate::specs::Answers::answer))]
+pub fn answer(alloc: Global, table: Table, question: &[Text]) -> Result<Text, NoMemory>
+    ensures { IfOk result (λ text. text ≡ answer table question.now) }
+{
     match answered(alloc, table, question)? {
         Some(answer) => Ok(answer),
-        None => Vec::from_slice(alloc, b"refused"),
+        None => Seq::from_bytes(alloc, b"refused"),
     }
 }

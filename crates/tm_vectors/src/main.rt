@@ -1,12 +1,12 @@
-//! The recorded tables of the real TOMOYO: each row is asked of our readers, printers, patterns and controls, and their answer is compared with the kernel's.
-//! Stands on the crates of patterns, domain names, exception lines and entries.
-//! Prints a line for each row that differs, and a line of counts for each table. Rows of lines with `\(dir\)` are left out of the
-//! tables: that form of a pattern came later than the kernel whose answers were recorded.
+//! Compares what our readers, printers, patterns and controls answer with what the real TOMOYO answered, row by row of recorded tables.
+//! Stands on the crates of patterns, domain names, exception lines and entries; rows of lines with `\(dir\)`, which came later than that kernel, are left out.
+//! Promises that the report on a table's text is the defined one: a line for each row whose recorded answer isn't ours, and how many agree and differ.
 #![tactic(auto)]
 
 mod answers;
 mod lines;
 mod patterns;
+mod pieces;
 mod rows;
 mod table;
 mod transitions;

@@ -1,83 +1,179 @@
 //! Rows of a table, and what is said of those that differ.
+ghost use Rattle.std.specs.Prelude.{◌≡◌, ◌++◌, IfOk, OnOk, decimal};
+ghost use Rattle.tm_vectors.specs.Reports.{recorded, question, agreeing, differing, judgement, line_place, both_answers, difference, said, all_said, counts, report_of, report};
 
-use crate::answers::{answer, pieces_of};
+use crate::answers::answer;
+use crate::pieces::{fields_of, lines_of};
 use crate::table::Table;
 use std::alloc::Global;
+use tm_line::joined;
 use tm_list::NoMemory;
+use tm_number::{Base, Number, write_number};
 use tm_rules::bytes_equal;
 use tm_word::Text;
 
-// Appends the fields of a question with a space between each two.
-fn push_question(question: &[Text], report: &mut Vec<u8>) -> Result<(), NoMemory> {
-    for (place, field) in question.iter().enumerate() {
-        if place > 0 {
-            report.push(b' ')?;
-        }
-        report.extend_from_slice(field.bytes())?;
-    }
-    Ok(())
+/// Appends a number in decimal.
+fn push_decimal(alloc: Global, value: u64, out: &mut Vec<u8>) -> Result<(), NoMemory>
+    ensures { OnOk result (out.new.items ≡ out.old.items ++ decimal value) }
+{
+    let number = Number {
+        value,
+        base: Base::Decimal,
+    };
+    write_number(alloc, &number, out)
 }
 
-// Says what a row that differs asked, what was wanted and what our crates answer.
+/// What a line of a table's file is: no row, where it is empty, or a row that agrees with our answer or differs from it.
+#[derive(Clone, Copy, PartialEq, Eq, Debug)]
+pub enum Judgement {
+    NoRow,
+    Agrees,
+    Differs,
+}
+
+/// The fields of a row before the last.
+fn question(fields: &[Text]) -> &[Text]
+    ensures { result.now ≡ question fields.now }
+{
+    &fields[..fields.len().saturating_sub(1)]
+}
+
+/// The last field of a row.
+fn recorded(fields: &[Text]) -> &[u8]
+    ensures { result.now ≡ recorded fields.now }
+{
+    match fields.get(fields.len().saturating_sub(1)) {
+        Some(field) => field.bytes(),
+        None => b"",
+    }
+}
+
+/// Appends the name of a table and the number of a line.
+fn push_place(alloc: Global, table: Table, number: u64, out: &mut Vec<u8>) -> Result<(), NoMemory>
+    ensures { OnOk result (out.new.items ≡ out.old.items ++ line_place table number) }
+{
+    out.extend_from_slice(table.name().as_bytes())?;
+    out.extend_from_slice(b" line ")?;
+    push_decimal(alloc, number, out)?;
+    out.extend_from_slice(b": ")
+}
+
+/// Appends what was recorded and what our crates answer.
+fn push_answers(wanted: &[u8], answered: &[u8], out: &mut Vec<u8>) -> Result<(), NoMemory>
+    ensures { OnOk result (out.new.items ≡ out.old.items ++ both_answers wanted.now answered.now) }
+{
+    out.extend_from_slice(b": wanted ")?;
+    out.extend_from_slice(wanted)?;
+    out.extend_from_slice(b", got ")?;
+    out.extend_from_slice(answered)?;
+    out.extend_from_slice(b"\n")
+}
+
+/// Says what a row that differs asked, what was recorded and what our crates answer.
 fn push_difference(
     alloc: Global,
     table: Table,
-    number: usize,
-    question: &[Text],
-    wanted: &[u8],
-    got: &[u8],
-    report: &mut Vec<u8>,
-) -> Result<(), NoMemory> {
-    let place = format!(in alloc; "{} line {number}: ", table.name())?;
-    report.extend_from_slice(place.as_bytes())?;
-    push_question(question, report)?;
-    report.extend_from_slice(b": wanted ")?;
-    report.extend_from_slice(wanted)?;
-    report.extend_from_slice(b", got ")?;
-    report.extend_from_slice(got)?;
-    report.push(b'\n')?;
+    number: u64,
+    fields: &[Text],
+    answered: &Text,
+    out: &mut Vec<u8>,
+) -> Result<(), NoMemory>
+    ensures { OnOk result (out.new.items ≡ out.old.items ++ difference table number fields.now answered.now) }
+{
+    push_place(alloc, table, number, out)?;
+    let asked = joined(alloc, question(fields))?;
+    out.extend_from_slice(&asked)?;
+    push_answers(recorded(fields), answered.bytes(), out)
+}
+
+/// Judges a line of a table's file, and says so where it is a row that differs.
+#[tactic(auto, unfolding(crate::specs::Reports::judgement, crate::specs::Reports::said))]
+fn judge_line(
+    alloc: Global,
+    table: Table,
+    number: u64,
+    line: &[u8],
+    out: &mut Vec<u8>,
+) -> Result<Judgement, NoMemory>
+    ensures judged { IfOk result (λ judged. judged ≡ judgement table line.now) }
+    ensures told { OnOk result (out.new.items ≡ out.old.items ++ said table number line.now) }
+{
+    if line.is_empty() {
+        return Ok(Judgement::NoRow);
+    }
+    let fields = fields_of(alloc, line)?;
+    let answered = answer(alloc, table, question(&fields))?;
+    if bytes_equal(answered.bytes(), recorded(&fields)) {
+        return Ok(Judgement::Agrees);
+    }
+    push_difference(alloc, table, number, &fields, &answered, out)?;
+    Ok(Judgement::Differs)
+}
+
+/// Judges the lines of a table's file, says which rows differ, and counts those that agree and those that differ.
+fn judge_lines(
+    alloc: Global,
+    table: Table,
+    lines: &[Text],
+    out: &mut Vec<u8>,
+) -> Result<(u64, u64), NoMemory>
+    ensures counted { IfOk result (λ counted. (counted.0 ≡ agreeing table lines.now) × (counted.1 ≡ differing table lines.now)) }
+    ensures told { OnOk result (out.new.items ≡ out.old.items ++ all_said table 1 lines.now) }
+{
+    let mut agree: u64 = 0;
+    let mut differ: u64 = 0;
+    for (place, line) in lines.iter().enumerate() {
+        match judge_line(alloc, table, place as u64 + 1, line.bytes(), out)? {
+            Judgement::NoRow => {}
+            Judgement::Agrees => agree += 1,
+            Judgement::Differs => differ += 1,
+        }
+    }
+    Ok((agree, differ))
+}
+
+/// Appends the line of counts.
+fn push_counts(
+    alloc: Global,
+    table: Table,
+    agree: u64,
+    differ: u64,
+    out: &mut Vec<u8>,
+) -> Result<(), NoMemory>
+    ensures { OnOk result (out.new.items ≡ out.old.items ++ counts table agree differ) }
+{
+    out.extend_from_slice(table.name().as_bytes())?;
+    out.extend_from_slice(b": ")?;
+    push_decimal(alloc, agree, out)?;
+    out.extend_from_slice(b" rows agree, ")?;
+    push_decimal(alloc, differ, out)?;
+    out.extend_from_slice(b" differ\n")
+}
+
+/// Appends what is to be said of the lines of a table's file.
+fn push_report(
+    alloc: Global,
+    table: Table,
+    lines: &[Text],
+    out: &mut Vec<u8>,
+) -> Result<(), NoMemory>
+    ensures { OnOk result (out.new.items ≡ out.old.items ++ report_of table lines.now) }
+{
+    let (agree, differ) = judge_lines(alloc, table, lines, out)?;
+    push_counts(alloc, table, agree, differ, out)?;
     Ok(())
 }
 
-// Whether our crates answer a row as TOMOYO did; says so where they don't.
-fn judge_row(
-    alloc: Global,
-    table: Table,
-    number: usize,
-    row: &[u8],
-    report: &mut Vec<u8>,
-) -> Result<bool, NoMemory> {
-    let fields = pieces_of(alloc, row, b'\t')?;
-    let [question @ .., wanted] = fields.as_slice() else {
-        return Ok(false);
-    };
-    let got = answer(alloc, table, question)?;
-    if bytes_equal(&got, wanted.bytes()) {
-        return Ok(true);
-    }
-    push_difference(alloc, table, number, question, wanted.bytes(), &got, report)?;
-    Ok(false)
-}
-
 /// Appends what is to be said of a table whose file has this text: a line for each row that differs, and one line of counts.
+#[tactic(auto, unfolding(crate::specs::Reports::report))]
 pub fn judge_table(
     alloc: Global,
     table: Table,
     text: &[u8],
-    report: &mut Vec<u8>,
-) -> Result<(), NoMemory> {
-    let mut agree = 0u64;
-    let mut differ = 0u64;
-    for (place, row) in text.split(|byte| *byte == b'\n').enumerate() {
-        if row.is_empty() {
-            continue;
-        }
-        if judge_row(alloc, table, place.saturating_add(1), row, report)? {
-            agree = agree.saturating_add(1);
-        } else {
-            differ = differ.saturating_add(1);
-        }
-    }
-    let said = format!(in alloc; "{}: {agree} rows agree, {differ} differ\n", table.name())?;
-    report.extend_from_slice(said.as_bytes())
+    out: &mut Vec<u8>,
+) -> Result<(), NoMemory>
+    ensures { OnOk result (out.new.items ≡ out.old.items ++ report table text.now) }
+{
+    let lines = lines_of(alloc, text)?;
+    push_report(alloc, table, &lines, out)
 }

@@ -1,4 +1,6 @@
 //! The tables.
+ghost use Rattle.std.specs.Prelude.{◌≡◌};
+ghost use Rattle.tm_vectors.specs.Reports.{table_name};
 
 /// A table of recorded answers. Each row has fields between tabs, and the last one is what the real TOMOYO answered.
 #[derive(Clone, Copy, PartialEq, Eq, Debug)]
@@ -17,7 +19,9 @@ pub enum Table {
 
 impl Table {
     /// The name that the table's file and lines have.
-    pub fn name(self) -> &'static str {
+    pub fn name(self) -> &'static str
+        ensures { result.now ≡ table_name self }
+    {
         match self {
             Table::AclLines => "acl_lines",
             Table::ExceptionLines => "exception_lines",

@@ -1,7 +1,11 @@
 //! Where an execute leads.
+ghost use Rattle.std.specs.Prelude.{◌≡◌, ℕ, List, IfOk, unwrap_or};
+ghost use Rattle.tm_rules.specs.Transition.{By_control, target_name};
+ghost use Rattle.tm_domain.specs.Names.{preferred_name};
+ghost use Rattle.tm_vectors.specs.Answers.{control_of, control_line, controls_of, bar_lines, kernel_with, domain_after};
 
-use crate::answers::pieces_of;
 use crate::lines::read_line;
+use crate::pieces::listed;
 use std::alloc::{AllocError, Global};
 use tm_domain::{DomainFault, preferred};
 use tm_except::control_kind;
@@ -9,9 +13,12 @@ use tm_list::{Map, NoMemory, Seq};
 use tm_types::entry::Prefer;
 use tm_types::policy::{Control, ControlKind, ExceptRule, Namespace};
 use tm_types::unions::{DomainName, Groups};
+use tm_word::Text;
 
-// The namespace `<kernel>` with these controls alone.
-fn namespace_with(alloc: Global, controls: Seq<Control>) -> Result<Namespace, NoMemory> {
+/// The namespace `<kernel>` with these controls alone.
+fn namespace_with(alloc: Global, controls: Seq<Control>) -> Result<Namespace, NoMemory>
+    ensures { IfOk result (λ namespace. namespace ≡ kernel_with controls) }
+{
     Ok(Namespace {
         name: Seq::from_bytes(alloc, b"<kernel>")?,
         profiles: Map::new(alloc),
@@ -26,8 +33,10 @@ fn namespace_with(alloc: Global, controls: Seq<Control>) -> Result<Namespace, No
     })
 }
 
-// The control that a rule is, if it is one.
-fn control_of(rule: ExceptRule) -> Option<Control> {
+/// The control that a rule is, if it is one.
+fn control_of(rule: ExceptRule) -> Option<Control>
+    ensures { result ≡ control_of rule }
+{
     match rule {
         ExceptRule::Control(control) => Some(control),
         ExceptRule::PathGroup(_, _) => None,
@@ -38,21 +47,33 @@ fn control_of(rule: ExceptRule) -> Option<Control> {
     }
 }
 
-// The control that a line of `exception_policy` adds; none where it adds no control.
-fn read_control(alloc: Global, line: &[u8]) -> Result<Option<Control>, NoMemory> {
+/// The control that a line of `exception_policy` adds; none where it adds no control.
+fn read_control(alloc: Global, line: &[u8]) -> Result<Option<Control>, NoMemory>
+    ensures { IfOk result (λ control. control ≡ control_line line.now) }
+{
     match read_line(alloc, line)? {
         Some(read) => Ok(control_of(read.rule)),
         None => Ok(None),
     }
 }
 
-// The controls of these lines, with `|` between them; none where one of them is no control.
-fn read_controls(alloc: Global, lines: &[u8]) -> Result<Option<Seq<Control>>, NoMemory> {
-    let mut controls = Seq::new(alloc);
-    if lines.is_empty() {
-        return Ok(Some(controls));
+/// The lines of a text with `|` between them; an empty text has none.
+fn bar_lines(alloc: Global, text: &[u8]) -> Result<Vec<Text>, NoMemory>
+    ensures { IfOk result (λ lines. lines.items ≡ bar_lines text.now) }
+{
+    if text.is_empty() {
+        Ok(Vec::new(alloc))
+    } else {
+        listed(alloc, text)
     }
-    for line in pieces_of(alloc, lines, b'|')?.as_slice() {
+}
+
+/// The controls that these lines add, in their order; none where one of them adds no control.
+fn read_controls(alloc: Global, lines: &[Text]) -> Result<Option<Seq<Control>>, NoMemory>
+    ensures { IfOk result (λ controls. controls ≡ controls_of lines.now) }
+{
+    let mut controls = Seq::new(alloc);
+    for line in lines {
         let Some(control) = read_control(alloc, line.bytes())? else {
             return Ok(None);
         };
@@ -61,8 +82,11 @@ fn read_controls(alloc: Global, lines: &[u8]) -> Result<Option<Seq<Control>>, No
     Ok(Some(controls))
 }
 
-// What a control of this kind prefers: to reset, to initialize or to keep; else the execute leads to the domain below.
-fn prefer_of(kind: ControlKind) -> Prefer {
+/// The preference that leads where a control of this kind leads: to reset, to initialize or to keep; else to the domain below.
+#[tactic(auto, unfolding(tm_domain::specs::Names::preferred_name, tm_rules::specs::Transition::target_name))]
+fn prefer_of(kind: ControlKind) -> Prefer
+    ensures { (domain program : List ℕ) → preferred_name domain program result ≡ unwrap_or (target_name domain program (By_control kind)) domain }
+{
     match kind {
         ControlKind::Reset => Prefer::Reset,
         ControlKind::Initialize => Prefer::Initialize,
@@ -74,21 +98,23 @@ fn prefer_of(kind: ControlKind) -> Prefer {
     }
 }
 
-/// The domain to which an execute of a program leads from a domain, under these controls with `|` between them; none where one of them
-/// is refused, or where no domain can have that name.
+/// The domain to which an execute of a program leads from a domain, under the controls that these lines add, with `|` between them;
+/// none where one of the lines adds no control, or where no domain can have that name.
 pub fn domain_after(
     alloc: Global,
     domain: &DomainName,
     program: &[u8],
-    controls: &[u8],
-) -> Result<Option<Vec<u8>>, NoMemory> {
-    let Some(controls) = read_controls(alloc, controls)? else {
+    lines: &[u8],
+) -> Result<Option<DomainName>, NoMemory>
+    ensures { IfOk result (λ name. name ≡ domain_after domain.now program.now lines.now) }
+{
+    let Some(controls) = read_controls(alloc, &bar_lines(alloc, lines)?)? else {
         return Ok(None);
     };
     let namespace = namespace_with(alloc, controls)?;
     let kind = control_kind(&namespace, domain, program);
     match preferred(alloc, domain, program, &prefer_of(kind)) {
-        Ok(name) => Ok(Some(name.into_vec())),
+        Ok(name) => Ok(Some(name)),
         Err(DomainFault::NoMemory) => Err(AllocError),
         Err(_) => Ok(None),
     }
