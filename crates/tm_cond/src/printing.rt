@@ -11,7 +11,7 @@ use crate::left::place_text;
 use std::alloc::Global;
 use tm_line::print_number;
 use tm_list::NoMemory;
-use tm_number::{Base, Number, write_number};
+use tm_number::write_decimal;
 use tm_pattern::print_pattern;
 use tm_types::entry::{Attr, Clause, Cond, FileKindWord, IdField, Right, StatField};
 use tm_types::unions::NameUnion;
@@ -63,17 +63,6 @@ fn kind_text(kind: FileKindWord) -> &'static [u8]
     }
 }
 
-// Appends the digits of a number.
-fn push_decimal(alloc: Global, value: u32, out: &mut Vec<u8>) -> Result<(), NoMemory>
-    ensures { OnOk result (out.new.items ≡ out.old.items ++ decimal value) }
-{
-    let number = Number {
-        value: u64::from(value),
-        base: Base::Decimal,
-    };
-    write_number(alloc, &number, out)
-}
-
 // Appends a word between double quotes.
 fn push_name(alloc: Global, name: &Word, out: &mut Vec<u8>) -> Result<(), NoMemory>
     ensures { OnOk result (out.new.items ≡ out.old.items ++ 34 ∷ spell name.now ++ 34 ∷ []) }
@@ -114,7 +103,7 @@ fn push_attr(alloc: Global, attr: &Attr, out: &mut Vec<u8>) -> Result<(), NoMemo
         }
         Attr::Argv(place) => {
             out.extend_from_slice(b"exec.argv[")?;
-            push_decimal(alloc, *place, out)?;
+            write_decimal(alloc, u64::from(*place), out)?;
             out.extend_from_slice(b"]")
         }
         Attr::Envp(name) => {

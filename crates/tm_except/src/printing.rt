@@ -16,7 +16,7 @@ use std::alloc::Global;
 use tm_addr::write_addr_range;
 use tm_line::print_domain;
 use tm_list::NoMemory;
-use tm_number::{AddrRange, Base, Number, Range, write_number, write_range};
+use tm_number::{AddrRange, Range, write_decimal, write_range};
 use tm_pattern::print_pattern;
 use tm_types::policy::{Control, ControlKind, ExceptRule, Namespace};
 use tm_word::{Pattern, Text, Word, write_word};
@@ -97,12 +97,8 @@ fn push_three(
 fn push_decimal(alloc: Global, value: u8, out: &mut Vec<u8>) -> Result<(), NoMemory>
     ensures { OnOk result (out.new.items ≡ out.old.items ++ 32 ∷ decimal value) }
 {
-    let number = Number {
-        value: u64::from(value),
-        base: Base::Decimal,
-    };
     out.push(b' ')?;
-    write_number(alloc, &number, out)
+    write_decimal(alloc, u64::from(value), out)
 }
 
 /// Appends the line of a path group, or a part of it.

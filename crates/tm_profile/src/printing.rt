@@ -17,7 +17,7 @@ ghost use Rattle.tm_profile.specs.Texts.{is_word, IsNamespaceWord, IsWritten, li
 use crate::slots::slot_text;
 use std::alloc::Global;
 use tm_list::NoMemory;
-use tm_number::{Base, Number, write_number};
+use tm_number::write_decimal;
 use tm_types::policy::{Config, Mode, Profile, Profiles, SlotName};
 use tm_word::Text;
 
@@ -55,17 +55,6 @@ fn reject_text(log: bool) -> &'static [u8]
     }
 }
 
-/// Appends a decimal, or a part of it.
-fn push_decimal(alloc: Global, value: u64, out: &mut Vec<u8>) -> Result<(), NoMemory>
-    ensures { OnOk result (out.new.items ≡ out.old.items ++ decimal value) }
-{
-    let number = Number {
-        value,
-        base: Base::Decimal,
-    };
-    write_number(alloc, &number, out)
-}
-
 /// Appends the namespace word and, after a space, `N-` and a word; or a part of it.
 fn push_head(
     alloc: Global,
@@ -78,7 +67,7 @@ fn push_head(
 {
     out.extend_from_slice(ns)?;
     out.push(b' ')?;
-    push_decimal(alloc, u64::from(number), out)?;
+    write_decimal(alloc, u64::from(number), out)?;
     out.push(b'-')?;
     out.extend_from_slice(word)
 }
@@ -96,7 +85,7 @@ fn push_limit(alloc: Global, word: &[u8], limit: u32, out: &mut Vec<u8>) -> Resu
     ensures { OnOk result (out.new.items ≡ out.old.items ++ 32 ∷ (word.now ++ decimal limit)) }
 {
     push_word(word, out)?;
-    push_decimal(alloc, u64::from(limit), out)
+    write_decimal(alloc, u64::from(limit), out)
 }
 
 /// Appends the limit of audit logs after a space, or a part of it.

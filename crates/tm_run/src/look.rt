@@ -5,20 +5,10 @@ ghost use Rattle.tm_run.specs.RunText.{mode_text, place_text, reason_text, move_
 
 use std::alloc::Global;
 use tm_list::NoMemory;
-use tm_number::{Base, Number, write_number};
+use tm_number::write_decimal;
 use tm_types::policy::Mode;
 use tm_types::step::{Answered, Heard, Look};
 use tm_types::verdict::{EntryPlace, Move, Reason};
-
-pub(crate) fn push_decimal(alloc: Global, value: u64, out: &mut Vec<u8>) -> Result<(), NoMemory>
-    ensures { OnOk result (out.new.items ≡ out.old.items ++ decimal value) }
-{
-    let number = Number {
-        value,
-        base: Base::Decimal,
-    };
-    write_number(alloc, &number, out)
-}
 
 fn push_mode(mode: Option<Mode>, out: &mut Vec<u8>) -> Result<(), NoMemory>
     ensures { OnOk result (out.new.items ≡ out.old.items ++ mode_text mode) }
@@ -38,13 +28,13 @@ fn push_place(alloc: Global, place: EntryPlace, out: &mut Vec<u8>) -> Result<(),
     match place {
         EntryPlace::Own(place) => {
             out.extend_from_slice(b"entry:")?;
-            push_decimal(alloc, place as u64, out)
+            write_decimal(alloc, place as u64, out)
         }
         EntryPlace::Acl(group, place) => {
             out.extend_from_slice(b"group:")?;
-            push_decimal(alloc, group as u64, out)?;
+            write_decimal(alloc, group as u64, out)?;
             out.push(b':')?;
-            push_decimal(alloc, place as u64, out)
+            write_decimal(alloc, place as u64, out)
         }
     }
 }
@@ -72,7 +62,7 @@ fn push_move(alloc: Global, step: Move, out: &mut Vec<u8>) -> Result<(), NoMemor
         Move::Stay => out.extend_from_slice(b"stay"),
         Move::Enter(domain) => {
             out.extend_from_slice(b"enter:")?;
-            push_decimal(alloc, domain as u64, out)
+            write_decimal(alloc, domain as u64, out)
         }
         Move::Make => out.extend_from_slice(b"make"),
         Move::Fail => out.extend_from_slice(b"fail"),
@@ -84,7 +74,7 @@ fn push_others(alloc: Global, numbers: &[u64], out: &mut Vec<u8>) -> Result<(), 
 {
     for number in numbers {
         out.push(b',')?;
-        push_decimal(alloc, *number, out)?;
+        write_decimal(alloc, *number, out)?;
     }
     Ok(())
 }
@@ -95,7 +85,7 @@ fn push_numbers(alloc: Global, numbers: &[u64], out: &mut Vec<u8>) -> Result<(),
     match numbers {
         [] => out.extend_from_slice(b"-"),
         [number, others @ ..] => {
-            push_decimal(alloc, *number, out)?;
+            write_decimal(alloc, *number, out)?;
             push_others(alloc, others, out)
         }
     }
@@ -121,7 +111,7 @@ fn push_heard(alloc: Global, heard: Option<Heard>, out: &mut Vec<u8>) -> Result<
         Some(heard) => {
             push_answer(heard.answer, out)?;
             out.push(b'@')?;
-            push_decimal(alloc, heard.version, out)
+            write_decimal(alloc, heard.version, out)
         }
     }
 }
@@ -148,7 +138,7 @@ pub(crate) fn push_look(alloc: Global, look: &Look, out: &mut Vec<u8>) -> Result
     ensures { OnOk result (out.new.items ≡ out.old.items ++ look_text look.now) }
 {
     out.extend_from_slice(b"look ")?;
-    push_decimal(alloc, look.version, out)?;
+    write_decimal(alloc, look.version, out)?;
     out.push(b' ')?;
     push_verdict(alloc, look, out)?;
     out.push(b' ')?;

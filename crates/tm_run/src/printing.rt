@@ -2,10 +2,11 @@
 ghost use Rattle.std.specs.Prelude.{◌≡◌, ◌++◌, ◌∷◌, [], IfOk, OnOk, OnErr};
 ghost use Rattle.tm_run.specs.RunText.{granted_text, domains_text, take_line, take_text, audit_word, audit_line, with_takes, run_text};
 
-use crate::look::{push_decimal, push_looks};
+use crate::look::push_looks;
 use crate::steps::push_steps;
 use std::alloc::Global;
 use tm_list::NoMemory;
+use tm_number::write_decimal;
 use tm_types::step::{Run, Take};
 use tm_word::{Text, write_word};
 
@@ -22,11 +23,11 @@ fn push_granted(granted: bool, out: &mut Vec<u8>) -> Result<(), NoMemory>
 fn push_domains(alloc: Global, take: &Take, out: &mut Vec<u8>) -> Result<(), NoMemory>
     ensures { OnOk result (out.new.items ≡ out.old.items ++ domains_text take.now) }
 {
-    push_decimal(alloc, take.pid as u64, out)?;
+    write_decimal(alloc, take.pid as u64, out)?;
     out.push(b' ')?;
-    push_decimal(alloc, take.before as u64, out)?;
+    write_decimal(alloc, take.before as u64, out)?;
     out.push(b' ')?;
-    push_decimal(alloc, take.after as u64, out)
+    write_decimal(alloc, take.after as u64, out)
 }
 
 pub(crate) fn push_take_line(
@@ -38,7 +39,7 @@ pub(crate) fn push_take_line(
     ensures { OnOk result (out.new.items ≡ out.old.items ++ take_line number take.now) }
 {
     out.extend_from_slice(b"take ")?;
-    push_decimal(alloc, number, out)?;
+    write_decimal(alloc, number, out)?;
     out.push(b' ')?;
     push_domains(alloc, take, out)?;
     out.push(b' ')?;

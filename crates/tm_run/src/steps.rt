@@ -2,10 +2,10 @@
 ghost use Rattle.std.specs.Prelude.{◌≡◌, ◌++◌, OnOk, decimal};
 ghost use Rattle.tm_run.specs.Steps.{learn_text, make_text, fail_text, held_text, answer_reply_text, change_text, kind_text, edit_text, reply_text, file_text, step_text, step_line, with_steps};
 
-use crate::look::push_decimal;
 use std::alloc::Global;
 use tm_entry::print_entry;
 use tm_list::NoMemory;
+use tm_number::write_decimal;
 use tm_types::entry::{Entry, LineKind};
 use tm_types::step::{AnswerFault, EditReply, FileKind, Held, LearnReply, MakeReply, Reply, Step};
 
@@ -26,11 +26,11 @@ fn push_make(alloc: Global, reply: MakeReply, out: &mut Vec<u8>) -> Result<(), N
     match reply {
         MakeReply::New(domain) => {
             out.extend_from_slice(b"new:")?;
-            push_decimal(alloc, domain as u64, out)
+            write_decimal(alloc, domain as u64, out)
         }
         MakeReply::Old(domain) => {
             out.extend_from_slice(b"old:")?;
-            push_decimal(alloc, domain as u64, out)
+            write_decimal(alloc, domain as u64, out)
         }
     }
 }
@@ -52,7 +52,7 @@ fn push_held(alloc: Global, held: Held, out: &mut Vec<u8>) -> Result<(), NoMemor
         Held::Nobody => out.extend_from_slice(b"nobody"),
         Held::Serial(serial) => {
             out.extend_from_slice(b"held:")?;
-            push_decimal(alloc, serial, out)
+            write_decimal(alloc, serial, out)
         }
     }
 }
@@ -143,7 +143,7 @@ fn push_numbered(alloc: Global, word: &[u8], number: u64, out: &mut Vec<u8>) -> 
     ensures { OnOk result (out.new.items ≡ out.old.items ++ word.now ++ decimal number) }
 {
     out.extend_from_slice(word)?;
-    push_decimal(alloc, number, out)
+    write_decimal(alloc, number, out)
 }
 
 fn push_learned(

@@ -8,20 +8,9 @@ use crate::table::Table;
 use std::alloc::Global;
 use tm_line::joined;
 use tm_list::NoMemory;
-use tm_number::{Base, Number, write_number};
+use tm_number::write_decimal;
 use tm_rules::bytes_equal;
 use tm_word::Text;
-
-/// Appends a number in decimal.
-fn push_decimal(alloc: Global, value: u64, out: &mut Vec<u8>) -> Result<(), NoMemory>
-    ensures { OnOk result (out.new.items ≡ out.old.items ++ decimal value) }
-{
-    let number = Number {
-        value,
-        base: Base::Decimal,
-    };
-    write_number(alloc, &number, out)
-}
 
 /// What a line of a table's file is: no row, where it is empty, or a row that agrees with our answer or differs from it.
 #[derive(Clone, Copy, PartialEq, Eq, Debug)]
@@ -54,7 +43,7 @@ fn push_place(alloc: Global, table: Table, number: u64, out: &mut Vec<u8>) -> Re
 {
     out.extend_from_slice(table.name().as_bytes())?;
     out.extend_from_slice(b" line ")?;
-    push_decimal(alloc, number, out)?;
+    write_decimal(alloc, number, out)?;
     out.extend_from_slice(b": ")
 }
 
@@ -144,9 +133,9 @@ fn push_counts(
 {
     out.extend_from_slice(table.name().as_bytes())?;
     out.extend_from_slice(b": ")?;
-    push_decimal(alloc, agree, out)?;
+    write_decimal(alloc, agree, out)?;
     out.extend_from_slice(b" rows agree, ")?;
-    push_decimal(alloc, differ, out)?;
+    write_decimal(alloc, differ, out)?;
     out.extend_from_slice(b" differ\n")
 }
 
