@@ -40,7 +40,8 @@ fn field_place(field: StatField) -> u8
     field as u8
 }
 
-pub fn kind_place(kind: FileKindWord) -> u8
+// The place of a kind in the list of kinds.
+pub(crate) fn kind_place(kind: FileKindWord) -> u8
     ensures { result ≡ kind_place kind }
 {
     kind as u8
