@@ -5,7 +5,6 @@ use Rattle.std.specs.List.{AllByRecursion, list_all}
 use Rattle.std.specs.Option.{option_and_then, option_map_or, IfSome}
 use Rattle.std.proofs.lemmas.Bool.{and_parts}
 use Rattle.tm_types.specs.declared.entry.Entry.{Entry}
-use Rattle.tm_types.specs.declared.policy.Namespace.{Namespace}
 use Rattle.tm_types.specs.declared.policy.Domain.{Domain}
 use Rattle.tm_types.specs.declared.policy.Policy.{Policy}
 use Rattle.tm_types.specs.declared.request.Request.{Request}
@@ -16,18 +15,17 @@ use Rattle.tm_types.specs.declared.step.Reply.{Reply}
 use Rattle.tm_types.specs.declared.step.LearnReply.{LearnReply}
 use Rattle.tm_types.specs.declared.step.Editor.{Editor}
 use Rattle.tm_types.specs.declared.step.Turn.{Turn}
-use Rattle.tm_types.specs.declared.verdict.Verdict.{Verdict}
 use Rattle.tm_rules.specs.Words.{Trace}
 use Rattle.tm_rules.specs.Grammar.{Grammar}
 use Rattle.tm_rules.specs.Condition.{is_execute, is_manual}
 use Rattle.tm_types.specs.declared.policy.Profile.{Profile}
-use Rattle.tm_rules.specs.Policy.{domain_at, profile_of, namespace_named, changed_at, with_domain, same_line, adding}
+use Rattle.tm_rules.specs.Policy.{profile_of, namespace_named, changed_at, with_domain, same_line, adding}
 use Rattle.tm_rules.specs.Changes.{learn, learned_domain}
 use Rattle.tm_policy.proofs.LearnLaws.{IsLearned, learned}
 use Rattle.tm_core.specs.Verdict.{verdict}
 use Rattle.tm_core.specs.Queries.{no_queries}
 use Rattle.tm_core.specs.Run.{Situation, Situations, at_start}
-use Rattle.tm_core.specs.Steps.{State, Applied, fits_entry, on_policy, unfit, apply}
+use Rattle.tm_core.specs.Steps.{Applied, fits_entry, on_policy, unfit, apply}
 use Rattle.tm_core.specs.Legal.{Scene}
 use Rattle.tm_core.specs.Judging.{IsOther}
 use Rattle.tm_core.specs.Silent.{IsSilentProfile, IsSilentEntry, IsSilent}

@@ -28,13 +28,11 @@ use Rattle.tm_core.specs.Owing.{OwesLearn, OwesStep, MakesStep}
 use Rattle.tm_core.specs.Steps.{fits_entry}
 use Rattle.tm_rules.specs.Changes.{learn}
 use Rattle.tm_types.specs.declared.entry.Entry.{Entry}
-use Rattle.tm_types.specs.declared.policy.Policy.{Policy}
-use Rattle.tm_types.specs.declared.step.LearnReply.{LearnReply}
 use Rattle.tm_core.specs.Silent.{IsSilent}
 use Rattle.tm_core.specs.Still.{is_plain_request, is_plain_item}
 use Rattle.tm_core.specs.Stands.{begun_of, begun_with, asked_of, way_of, looked, ItemIsOther, CanLook, FirstLooks, LooksFirst, player_of, IsReached, Answers}
 use Rattle.tm_core.proofs.SilentLaws.{all_get, audit_silent}
-use Rattle.tm_core.proofs.Learns.{Learning, LearnWay, IsLearnt, learnt, learn_settles, turns-learn, start-learns}
+use Rattle.tm_core.proofs.Learns.{Learning, LearnWay, learnt, learn_settles, turns-learn, start-learns}
 use Rattle.tm_core.proofs.Players.{PlayHolds, passed-next, passed-pids, Next}
 use Rattle.tm_core.proofs.Trees.{TreeMoves}
 use Rattle.tm_core.proofs.TakeEvents.{tree-moves}

@@ -1,13 +1,11 @@
 -- A rule that was read is one that a line can write.
-use Rattle.std.proofs.Common.{◌≡◌, ℕ, ◌<◌, ◌==◌, nat_lt, Bool, true, false, ◌&&◌, not, List, [], ◌∷◌, Some, None, Result, Ok, Err, refl, sym, ap, subst, ◌∙◌, arith}
+use Rattle.std.proofs.Common.{◌≡◌, ℕ, ◌<◌, ◌==◌, nat_lt, Bool, true, false, ◌&&◌, not, List, [], ◌∷◌, Some, None, Result, Ok, Err, refl, sym, ap, subst, ◌∙◌}
 use Rattle.std.specs.Prelude.{Option, codes, if◌then◌else◌}
 use Rattle.std.specs.List.{list_all}
-use Rattle.std.proofs.lemmas.Bool.{lt-ltb, eqb-true}
+use Rattle.std.proofs.lemmas.Bool.{lt-ltb}
 use Rattle.tm_word.specs.Words.{Text, Word, Pattern}
-use Rattle.tm_word.specs.Spelling.{spell, spelling_of}
+use Rattle.tm_word.specs.Spelling.{spell}
 use Rattle.tm_word.specs.Printing.{spelled_pattern}
-use Rattle.tm_number.specs.declared.Range.{Range}
-use Rattle.tm_number.specs.declared.AddrRange.{AddrRange}
 use Rattle.tm_pattern.specs.Grammar.{is_right}
 use Rattle.tm_pattern.specs.Reading.{word_of}
 use Rattle.tm_pattern.proofs.LexLaws.{word_found}
@@ -19,7 +17,7 @@ use Rattle.tm_types.specs.declared.policy.ExceptLine.{ExceptLine}
 use Rattle.tm_rules.specs.Equality.{texts_equal}
 use Rattle.tm_rules.specs.Transition.{is_domain_name}
 use Rattle.tm_domain.specs.Names.{is_path}
-use Rattle.tm_line.specs.Lines.{◌>>=◌, is_last, word_at}
+use Rattle.tm_line.specs.Lines.{is_last, word_at}
 use Rattle.tm_line.specs.Arguments.{group_word, pattern_word, path_word, range_word, addr_range_word, plain_word}
 use Rattle.tm_line.specs.Domains.{domain_to_end}
 use Rattle.tm_line.specs.Written.{is_front, is_group, is_range, is_addr_range}
@@ -32,10 +30,10 @@ use Rattle.tm_line.proofs.SpellLaws.{word_small}
 use Rattle.tm_line.proofs.DomainLaws.{to_end_right}
 use Rattle.tm_namespace.specs.Namespaces.{opens, namespace_at, IsNamespace}
 use Rattle.tm_namespace.proofs.NamespaceLaws.{found_is}
-use Rattle.tm_namespace.proofs.Steps.{OkIs, then_ok, then_any, if_ok, each_ok, word_ok, ok_of}
+use Rattle.tm_namespace.proofs.Steps.{OkIs, then_ok, if_ok, each_ok, word_ok, ok_of}
 use Rattle.tm_except.specs.declared.reading.Head.{Head}
 use Rattle.tm_except.specs.Reading.{ended, member_word, word_or_name, literal_word, path_group, number_group, address_group, aggregator, group_line, acl_group, program_by, program_word, any_domain, path_side, name_side, domain_side, control, from_side, program_line, alone, keep_side, keep_line, is_keep, control_sides, control_line, control_word, control_head, head_of, rule_by, rule_at, line, named_line, line_of}
-use Rattle.tm_except.specs.Written.{is_kind, is_program, is_side, is_control, is_literal_path, is_line, is_rule}
+use Rattle.tm_except.specs.Written.{is_kind, is_program, is_side, is_control, is_literal_path, is_rule}
 
 end_ok : {A : Type 0} (P : A → Type 0) (x : A) (words : List Text) → P x → OkIs P (ended x words)
 end_ok P x [] h = h

@@ -1,5 +1,5 @@
 -- A printed rule is read again.
-use Rattle.std.proofs.Common.{◌≡◌, ℕ, ◌<◌, ◌^◌, ◌==◌, nat_lt, Bool, true, false, ◌&&◌, not, List, [], ◌∷◌, ◌++◌, Some, None, Result, Ok, Err, refl, sym, ap, subst, ◌∙◌, arith}
+use Rattle.std.proofs.Common.{◌≡◌, ℕ, ◌<◌, nat_lt, Bool, true, false, ◌&&◌, not, List, [], ◌∷◌, Some, None, Result, Ok, refl, sym, ap, subst, ◌∙◌, arith}
 use Rattle.std.specs.Prelude.{Option, codes, if◌then◌else◌}
 use Rattle.std.specs.List.{list_all}
 use Rattle.std.specs.Fmt.{decimal}
@@ -10,16 +10,13 @@ use Rattle.tm_word.specs.Printing.{spelled_pattern}
 use Rattle.tm_number.specs.declared.Range.{Range}
 use Rattle.tm_number.specs.declared.AddrRange.{AddrRange}
 use Rattle.tm_pattern.specs.Grammar.{is_right}
-use Rattle.tm_pattern.specs.Reading.{word_of}
 use Rattle.tm_types.specs.declared.entry.LineKind.{LineKind}
 use Rattle.tm_types.specs.declared.policy.ControlKind.{ControlKind}
 use Rattle.tm_types.specs.declared.policy.Control.{Control}
 use Rattle.tm_types.specs.declared.policy.ExceptRule.{ExceptRule}
-use Rattle.tm_types.specs.declared.policy.ExceptLine.{ExceptLine}
 use Rattle.tm_rules.specs.Equality.{texts_equal}
-use Rattle.tm_rules.specs.Transition.{is_domain_name}
 use Rattle.tm_domain.specs.Names.{is_path, begins_with_slash}
-use Rattle.tm_line.specs.Lines.{◌>>=◌, is_last, word_at}
+use Rattle.tm_line.specs.Lines.{◌>>=◌}
 use Rattle.tm_line.specs.Arguments.{path_word}
 use Rattle.tm_line.specs.DomainWords.{domain_parts}
 use Rattle.tm_line.specs.Written.{is_front, is_group, is_range, is_addr_range}
@@ -33,7 +30,7 @@ use Rattle.tm_line.proofs.DomainLaws.{path_begins, parts_begin, to_end_again}
 use Rattle.tm_namespace.specs.Namespaces.{opens, IsNamespace}
 use Rattle.tm_namespace.proofs.NamespaceLaws.{named, opens_is}
 use Rattle.tm_except.specs.declared.reading.Head.{Head}
-use Rattle.tm_except.specs.Reading.{member_word, literal_word, word_or_name, path_group, number_group, address_group, aggregator, acl_group, program_word, name_side, domain_side, control, from_side, program_line, keep_line, is_keep, control_sides, control_line, control_word, head_of, rule_by, rule_at, line, named_line, line_of}
+use Rattle.tm_except.specs.Reading.{member_word, literal_word, word_or_name, path_group, number_group, address_group, aggregator, acl_group, program_word, name_side, domain_side, control, from_side, program_line, keep_line, is_keep, control_word, head_of, rule_by, rule_at, line, named_line, line_of}
 use Rattle.tm_except.specs.Printing.{range_text, addr_range_text, path_group_words, number_group_words, address_group_words, aggregator_words, kind_text, program_text, domain_words, control_words, rule_words, line_words}
 use Rattle.tm_except.specs.Written.{is_kind, is_program, is_side, is_control, is_literal_path, is_line, is_rule}
 

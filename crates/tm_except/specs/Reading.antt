@@ -1,5 +1,5 @@
 -- Exception lines: what each word gives, and the kind of the first one at which the line can't go on.
-use Rattle.std.specs.Prelude.{ℕ, ◌==◌, ◌&&◌, ◌||◌, not, if◌then◌else◌, Bool, true, false, List, [], ◌∷◌, Option, Some, None, Result, Ok, Err, codes}
+use Rattle.std.specs.Prelude.{ℕ, ◌&&◌, ◌||◌, not, if◌then◌else◌, Bool, true, false, List, [], ◌∷◌, Option, Some, None, Result, Ok, Err, codes}
 use Rattle.tm_word.specs.Words.{Text, Word, Pattern}
 use Rattle.tm_pattern.specs.Reading.{word_of}
 use Rattle.tm_types.specs.declared.entry.LineKind.{LineKind}

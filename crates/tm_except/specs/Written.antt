@@ -1,5 +1,5 @@
 -- The rules that a line can write.
-use Rattle.std.specs.Prelude.{ℕ, ◌==◌, nat_lt, Bool, true, false, ◌&&◌, not, List, [], ◌∷◌, Option, Some, None}
+use Rattle.std.specs.Prelude.{nat_lt, Bool, true, false, ◌&&◌, not, List, [], ◌∷◌, Option, Some, None}
 use Rattle.std.specs.List.{list_all}
 use Rattle.tm_word.specs.Words.{Text, Word}
 use Rattle.tm_word.specs.Printing.{spelled_pattern}

@@ -1,5 +1,6 @@
 -- The lines of a text, numbered from 1, and a fold over them that stops at the first that doesn't fit.
-use Rattle.std.specs.Prelude.{◌≡◌, ℕ, ◌==◌, List, [], ◌∷◌, ◌++◌, Result, Ok, Err, if◌then◌else◌}
+use Rattle.std.specs.Prelude.{◌≡◌, ℕ, ◌==◌, ◌-◌, Bool, List, [], length, take, slice_get, unwrap_or, Result, Ok, Err, if◌then◌else◌}
+use Rattle.std.specs.List.{slice_split}
 use Rattle.tm_word.specs.Words.{Text}
 use Rattle.tm_forms.specs.declared.lines.FormFault.{FormFault}
 
@@ -18,16 +19,14 @@ abbrev pub Gives : {Y : Type 0} → Result Y FormFault → Result Y ℕ → Type
 Gives (Ok x) read = read ≡ Ok x
 Gives (Err fault) read = Fails fault read
 
--- what stands after the last byte 10 is a line only where it is not empty
-abbrev pub with_last : List Text → Text → List Text
-with_last lines [] = lines
-with_last lines (b ∷ bs) = lines ++ (b ∷ bs) ∷ []
+-- the last piece is empty
+abbrev pub ends_empty : List Text → Bool
+ends_empty pieces = length (unwrap_or (slice_get pieces (length pieces - 1)) []) == 0
 
--- the lines of a text, after these lines and this part of the next
-abbrev pub lines_after : List Text → Text → Text → List Text
-lines_after lines line [] = with_last lines line
-lines_after lines line (b ∷ bs) = if b == 10 then lines_after (lines ++ line ∷ []) [] bs else lines_after lines (line ++ b ∷ []) bs
+-- what stands after the last byte 10 is a line only where it is not empty
+abbrev pub ended : List Text → List Text
+ended pieces = if ends_empty pieces then take (length pieces - 1) pieces else pieces
 
 -- the lines of a text: each ends with byte 10, and the last one needn't
 unfoldable pub text_lines : Text → List Text
-text_lines text = lines_after [] [] text
+text_lines text = ended (slice_split (λ b. b == 10) text)

@@ -3,7 +3,6 @@ use Rattle.std.proofs.Common.{◌≡◌, ℕ, ◌++◌, List, [], ◌∷◌, ref
 use Rattle.std.specs.Prelude.{Some, map}
 use Rattle.std.specs.List.{flat_map}
 use Rattle.std.proofs.lemmas.List.{append_assoc, append-nil}
-use Rattle.tm_word.specs.Words.{Text}
 use Rattle.tm_list.specs.Map.{Rises}
 use Rattle.tm_types.specs.declared.policy.Config.{Config}
 use Rattle.tm_types.specs.declared.policy.SlotName.{SlotName}

@@ -11,17 +11,16 @@ use Rattle.tm_number.specs.declared.text.NumberFault.{NumberFault}
 use Rattle.tm_number.specs.Numbers.{number_of, same_base}
 use Rattle.tm_types.specs.declared.entry.LineKind.{LineKind}
 use Rattle.tm_types.specs.declared.policy.SlotName.{SlotName}
-use Rattle.tm_types.specs.declared.policy.Setting.{Setting}
 use Rattle.tm_types.specs.declared.policy.ProfileEffect.{ProfileEffect}
 use Rattle.tm_types.specs.declared.policy.ProfileLine.{ProfileLine}
 use Rattle.tm_rules.specs.Equality.{texts_equal}
 use Rattle.tm_rules.proofs.EqualityLaws.{both}
-use Rattle.tm_line.specs.Lines.{◌>>=◌, is_last}
+use Rattle.tm_line.specs.Lines.{is_last}
 use Rattle.tm_namespace.specs.Namespaces.{opens, namespace_of, namespace_at}
 use Rattle.tm_namespace.proofs.Steps.{OkIs, then_ok, then_any, if_ok, ok_of}
 use Rattle.tm_profile.specs.declared.reading.Limits.{Limits}
 use Rattle.tm_profile.specs.Lines.{after, or_kind}
-use Rattle.tm_profile.specs.Reading.{at_end, plain_by, plain, comment_of, unseen, setting_after, unlimited, limit_of, once, begins_limit, learning_by, limits_by, limits_with, limits_after, preference, slot_of, slot_by, comment_by, numbered, numbered_by, version_by, effect_by, effect_at, line, line_of}
+use Rattle.tm_profile.specs.Reading.{at_end, plain_by, plain, comment_of, unseen, setting_after, unlimited, limit_of, once, learning_by, limits_by, limits_with, limits_after, preference, slot_of, slot_by, comment_by, numbered, numbered_by, version_by, effect_by, effect_at, line, line_of}
 use Rattle.tm_profile.specs.Texts.{proper, is_word, IsComment, IsLimit, IsEffect}
 
 abbrev SomeIs : {A : Type 0} → (A → Type 0) → Option A → Type 0

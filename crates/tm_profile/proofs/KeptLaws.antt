@@ -1,10 +1,10 @@
 -- Lines that fit keep profiles that a text can write.
-use Rattle.std.proofs.Common.{◌≡◌, ℕ, ◌<◌, ◌≤◌, ◌^◌, ◌==◌, nat_lt, Bool, true, false, List, [], ◌∷◌, Some, None, Ok, refl, subst, arith}
+use Rattle.std.proofs.Common.{◌≡◌, ℕ, ◌<◌, ◌^◌, ◌==◌, nat_lt, Bool, true, false, List, [], ◌∷◌, Some, None, Ok, refl, subst, arith}
 use Rattle.std.specs.Prelude.{Option, if◌then◌else◌, unwrap_or}
 use Rattle.std.specs.List.{list_all}
 use Rattle.std.proofs.lemmas.Bool.{eqb-true}
 use Rattle.tm_word.specs.Words.{Text}
-use Rattle.tm_list.specs.Map.{Rises, at_rank, put, without}
+use Rattle.tm_list.specs.Map.{put}
 use Rattle.tm_list.proofs.MapLaws.{Rises-put, Rises-without}
 use Rattle.tm_types.specs.declared.policy.SlotName.{SlotName}
 use Rattle.tm_types.specs.declared.policy.Setting.{Setting}
@@ -16,7 +16,7 @@ use Rattle.tm_types.specs.Slot.{slot_rank}
 use Rattle.tm_rules.specs.Policy.{at_key}
 use Rattle.tm_rules.specs.Edit.{new_profile, on_profile, set_config, set_slot, profile_line}
 use Rattle.tm_profile.specs.Reading.{line_of}
-use Rattle.tm_profile.specs.Texts.{is_word, IsComment, IsLimit, IsEffect, IsProfile, AreProfiles, IsWritten}
+use Rattle.tm_profile.specs.Texts.{is_word, IsLimit, IsEffect, IsProfile, AreProfiles, IsWritten}
 use Rattle.tm_profile.proofs.FitLaws.{line_fits}
 
 put_all : (n : ℕ) (p : Profile) (xs : List (ℕ × Profile)) → IsProfile (n, p) → AreProfiles xs → AreProfiles (put (λ k. k) n p xs)

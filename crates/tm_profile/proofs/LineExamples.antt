@@ -1,5 +1,5 @@
 -- Worked examples: what each form of a profile line gives, and the kind of each wrong one.
-use Rattle.std.proofs.Common.{◌≡◌, true, false, [], Some, None, Ok, Err, refl}
+use Rattle.std.proofs.Common.{◌≡◌, false, [], Some, None, Ok, Err, refl}
 use Rattle.std.specs.Prelude.{codes}
 use Rattle.tm_word.specs.Spelling.{words_of}
 use Rattle.tm_number.specs.Numbers.{number_of, value_of}

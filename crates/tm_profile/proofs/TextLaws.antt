@@ -1,38 +1,32 @@
 -- The printed text of profiles gives them again.
-use Rattle.std.proofs.Common.{◌≡◌, ℕ, ◌<◌, ◌^◌, ◌==◌, Bool, true, false, ◌&&◌, not, List, [], ◌∷◌, ◌++◌, length, Some, None, Result, Ok, Err, refl, sym, ap, subst, ◌∙◌}
-use Rattle.std.specs.Prelude.{Option, codes, map, if◌then◌else◌}
+use Rattle.std.proofs.Common.{◌≡◌, ℕ, ◌<◌, ◌^◌, ◌==◌, true, not, List, [], ◌∷◌, ◌++◌, length, Some, Ok, refl, sym, ap, subst, ◌∙◌}
+use Rattle.std.specs.Prelude.{Option, codes, map}
 use Rattle.std.specs.List.{list_all, flat_map}
 use Rattle.std.specs.Option.{option_and_then}
 use Rattle.std.specs.Fmt.{decimal}
 use Rattle.std.proofs.lemmas.List.{append_assoc, append-nil}
 use Rattle.std.proofs.lemmas.Grind.{flat_map-append}
-use Rattle.tm_list.specs.Map.{Rises}
 use Rattle.tm_word.specs.Words.{Text}
 use Rattle.tm_word.specs.Spelling.{words_of, joined}
-use Rattle.tm_types.specs.declared.entry.LineKind.{LineKind}
 use Rattle.tm_types.specs.declared.policy.Config.{Config}
 use Rattle.tm_types.specs.declared.policy.SlotName.{SlotName}
 use Rattle.tm_types.specs.declared.policy.Profile.{Profile}
 use Rattle.tm_types.specs.declared.policy.Namespace.{Namespace}
 use Rattle.tm_types.specs.declared.policy.ProfileEffect.{ProfileEffect}
-use Rattle.tm_types.specs.declared.policy.ProfileLine.{ProfileLine}
-use Rattle.tm_types.specs.Slot.{slot_rank}
-use Rattle.tm_rules.specs.Equality.{texts_equal}
-use Rattle.tm_rules.specs.Policy.{kernel}
 use Rattle.tm_rules.specs.Edit.{profile_line}
 use Rattle.tm_rules.specs.Load.{lines_of}
 use Rattle.tm_rules.proofs.EqualityLaws.{both}
 use Rattle.tm_domain.proofs.NameLaws.{texts_same}
-use Rattle.tm_line.specs.Lines.{◌>>=◌, spaced}
+use Rattle.tm_line.specs.Lines.{spaced}
 use Rattle.tm_line.proofs.JoinLaws.{joined_is}
 use Rattle.tm_profile.specs.Slots.{slot_text}
 use Rattle.tm_namespace.proofs.NamespaceLaws.{named as named_at}
-use Rattle.tm_profile.specs.Reading.{comment_of, effect_at, line, line_of}
+use Rattle.tm_profile.specs.Reading.{effect_at, line, line_of}
 use Rattle.tm_namespace.specs.Namespaces.{line_text}
-use Rattle.tm_profile.specs.Printing.{headed, limit_words, setting_words, comment_words, preference_words, config_words, slot_line, profile_text, profiles_text}
+use Rattle.tm_profile.specs.Printing.{headed, comment_words, preference_words, config_words, slot_line, profile_text, profiles_text}
 use Rattle.tm_profile.specs.Texts.{proper, is_word, IsNamespaceWord, IsComment, IsProfile, AreProfiles, IsWritten, line_done, words_into, lines_into}
-use Rattle.tm_profile.proofs.LineLaws.{proper_all, words_again, line_first}
-use Rattle.tm_profile.proofs.EffectLaws.{applied, applied_append, setting_of, slot_effect, effects_of, with_profiles, SlotsRise, profiles_made}
+use Rattle.tm_profile.proofs.LineLaws.{words_again, line_first}
+use Rattle.tm_profile.proofs.EffectLaws.{applied, setting_of, slot_effect, effects_of, with_profiles, SlotsRise, profiles_made}
 use Rattle.tm_profile.proofs.WordLaws.{headed_word, audit_word, learning_word, version_again, comment_again, preference_again, setting_proper, config_again, slot_again, slot_proper}
 
 -- the words of a line of this namespace give this effect

@@ -1,5 +1,5 @@
 -- Parts of words.
-use Rattle.std.specs.Prelude.{◌==◌, if◌then◌else◌, List, [], ◌∷◌, Option, Some, None, Result, Ok, Err}
+use Rattle.std.specs.Prelude.{◌==◌, if◌then◌else◌, [], ◌∷◌, Option, Some, None, Result, Ok, Err}
 use Rattle.tm_word.specs.Words.{Text}
 use Rattle.tm_types.specs.declared.entry.LineKind.{LineKind}
 

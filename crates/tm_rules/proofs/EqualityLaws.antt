@@ -1,10 +1,10 @@
 -- The tests of equality decide it.
-use Rattle.std.proofs.Common.{◌≡◌, ℕ, ◌+◌, ◌==◌, Bool, true, false, ◌&&◌, List, [], ◌∷◌, refl, sym, ap, ◌∙◌, subst, arith, eq-eqb, true≢false}
+use Rattle.std.proofs.Common.{◌≡◌, ℕ, ◌+◌, ◌==◌, Bool, true, false, ◌&&◌, List, [], ◌∷◌, refl, sym, ap, ◌∙◌, subst, arith, eq-eqb}
 use Rattle.std.specs.Prelude.{Option, Some, None, IsTrue, ◌↔◌}
 use Rattle.std.specs.List.{slice_index_or}
 use Rattle.std.specs.Bool.{beq}
 use Rattle.std.proofs.lemmas.Bool.{eqb-true}
-use Rattle.tm_word.specs.Words.{Text, Part, Pattern}
+use Rattle.tm_word.specs.Words.{Text, Part}
 use Rattle.tm_word.specs.declared.Element.{Element}
 use Rattle.tm_word.specs.declared.Repeat.{Repeat}
 use Rattle.tm_word.specs.declared.Component.{Component}

@@ -14,8 +14,8 @@ use Rattle.tm_rules.specs.Equality.{texts_equal}
 use Rattle.tm_domain.proofs.NameLaws.{texts_same}
 use Rattle.tm_line.proofs.Steps.{both}
 use Rattle.tm_run.specs.declared.reading.Reading.{Reading}
-use Rattle.tm_run.specs.Steps.{step_line, with_steps}
-use Rattle.tm_run.specs.RunText.{look_text, audit_line, take_line, take_text, with_takes, run_text}
+use Rattle.tm_run.specs.Steps.{step_line, steps_text}
+use Rattle.tm_run.specs.RunText.{look_text, audit_line, take_line, take_text, takes_text, run_text}
 use Rattle.tm_run.specs.Reading.{line_read, lines_of, run_from, run_of}
 use Rattle.tm_run.specs.Written.{is_plain, is_wide, is_step, is_look, is_audit, is_take, is_written}
 use Rattle.tm_run.proofs.TextLaws.{IsLine, end_line, free_by, line_from, no_line}
@@ -84,20 +84,8 @@ Reads r rest run = (number : ℕ) → run_from number r (lines_of rest) ≡ Ok r
 one_line : (r next : Reading) (line rest : Text) (run : Run) → IsLine line → line_read r line ≡ Some next → Reads next rest run → Reads r (line ++ rest) run
 one_line r next line rest run h e more number = rw (h rest, e) (more (number + 1))
 
--- the lines of steps, of which the first has the number after `count`
-pub steps_text : ℕ → List (Step × Reply) → Text
-steps_text count [] = []
-steps_text count (pair ∷ steps) = step_line (count + 1) pair ++ steps_text (count + 1) steps
-
-pub with_steps_is : (before : Text) (count : ℕ) (steps : List (Step × Reply)) → with_steps before count steps ≡ before ++ steps_text count steps
-unfolding steps_text
-with_steps_is before count [] = sym (append-nil before)
-with_steps_is before count (pair ∷ steps) =
-    with_steps_is (before ++ step_line (count + 1) pair) (count + 1) steps ∙ append_assoc before (step_line (count + 1) pair) (steps_text (count + 1) steps)
-
 steps_read : (steps done : List (Step × Reply)) (count : ℕ) (rest : Text) (run : Run) → length done ≡ count → is_wide (count + length steps) ≡ true → list_all is_step steps ≡ true
     → Reads (reading (done ++ steps) [] None) rest run → Reads (reading done [] None) (steps_text count steps ++ rest) run
-unfolding steps_text
 steps_read [] done count rest run c h k more = subst (λ (ps : List (Step × Reply)). Reads (reading ps [] None) rest run) (append-nil done) more
 steps_read (pair ∷ steps) done count rest run c h k more =
     let t = both (is_step pair) (list_all is_step steps) k in
@@ -137,19 +125,8 @@ take_read steps takes count t rest run c h k more =
     subst (λ (x : Text). Reads (reading steps takes None) x run) (sym text)
     (one_line (reading steps takes None) (reading steps takes (Some (looked t []))) first (looks ++ (audit ++ rest)) run (take_first (count + 1) t h p.pid p.before p.after).ends (take_reads steps takes count t c h p.pid p.before p.after) seen)
 
--- the lines of takes, of which the first has the number after `count`
-pub takes_text : ℕ → List Take → Text
-takes_text count [] = []
-takes_text count (t ∷ takes) = take_text (count + 1) t ++ takes_text (count + 1) takes
-
-pub with_takes_is : (before : Text) (count : ℕ) (takes : List Take) → with_takes before count takes ≡ before ++ takes_text count takes
-unfolding takes_text
-with_takes_is before count [] = sym (append-nil before)
-with_takes_is before count (t ∷ takes) = with_takes_is (before ++ take_text (count + 1) t) (count + 1) takes ∙ append_assoc before (take_text (count + 1) t) (takes_text (count + 1) takes)
-
 takes_read : (takes done : List Take) (count : ℕ) (steps : List (Step × Reply)) (rest : Text) (run : Run) → length done ≡ count → is_wide (count + length takes) ≡ true → list_all is_take takes ≡ true
     → Reads (reading steps (done ++ takes) None) rest run → Reads (reading steps done None) (takes_text count takes ++ rest) run
-unfolding takes_text
 takes_read [] done count steps rest run c h k more = subst (λ (ts : List Take). Reads (reading steps ts None) rest run) (append-nil done) more
 takes_read (t ∷ takes) done count steps rest run c h k more =
     let p = both (is_take t) (list_all is_take takes) k in
@@ -168,8 +145,7 @@ first_line = line_from (codes "run 1") (10 ∷ []) (free_by 10 (codes "run 1") r
 
 pub run_text_is : (run : Run) → run_text run ≡ codes "run 1\n" ++ (steps_text 0 run.steps ++ takes_text 0 run.takes)
 unfolding run_text
-run_text_is run =
-    with_takes_is (with_steps (codes "run 1\n") 0 run.steps) 0 run.takes ∙ ap (λ (x : Text). x ++ takes_text 0 run.takes) (with_steps_is (codes "run 1\n") 0 run.steps) ∙ append_assoc (codes "run 1\n") (steps_text 0 run.steps) (takes_text 0 run.takes)
+run_text_is run = append_assoc (codes "run 1\n") (steps_text 0 run.steps) (takes_text 0 run.takes)
 
 -- what a run that can be written has
 pub record RunParts (run : Run) : Type 0 where

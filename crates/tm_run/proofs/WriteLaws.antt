@@ -23,8 +23,8 @@ use Rattle.tm_line.proofs.SpellLaws.{word_small}
 use Rattle.tm_entry.specs.Entries.{entry_of}
 use Rattle.tm_entry.proofs.EntryLaws.{entry_read}
 use Rattle.tm_run.specs.declared.reading.Reading.{Reading}
-use Rattle.tm_run.specs.Steps.{step_line, with_steps}
-use Rattle.tm_run.specs.RunText.{look_text, audit_line, take_line, take_text, with_takes, run_text}
+use Rattle.tm_run.specs.Steps.{step_line, steps_text}
+use Rattle.tm_run.specs.RunText.{look_text, audit_line, take_line, take_text, takes_text, run_text}
 use Rattle.tm_run.specs.Fields.{plain_of, reply_of}
 use Rattle.tm_run.specs.Reading.{learned, step_of, take_of, look_of, audit_of, has_number, with_step, with_take, with_look, with_audit, is_empty, starts, line_read, lines_of, fresh, go_on, run_from, run_in, run_of}
 use Rattle.tm_run.specs.Written.{is_plain, is_wide, is_step, is_look, is_audit, is_take, is_written}
@@ -119,8 +119,12 @@ pub begun_text : Text → ℕ → Option Take → Text
 begun_text front count None = front
 begun_text front count (Some t) = front ++ (take_line (count + 1) t ++ flat_map look_text t.looks)
 
+-- the first line and the lines of these steps
+abbrev pub steps_front : List (Step × Reply) → Text
+steps_front steps = codes "run 1\n" ++ steps_text 0 steps
+
 pub text_of : List (Step × Reply) → List Take → Option Take → Text
-text_of steps takes begun = begun_text (with_takes (with_steps (codes "run 1\n") 0 steps) 0 takes) (length takes) begun
+text_of steps takes begun = begun_text (steps_front steps ++ takes_text 0 takes) (length takes) begun
 
 pub IsBegun : Option Take → List Take → Type 0
 IsBegun None takes = Unit {0}
@@ -149,15 +153,26 @@ chosen : {A : Type 0} (b : Bool) (x y : A) → cond b (Some x) None ≡ Some y �
 chosen true x y e = (refl, cc)
 chosen false x y e = absurd cc
 
-steps_more : (front : Text) (count : ℕ) (steps : List (Step × Reply)) (pair : Step × Reply) → with_steps front count (steps ++ pair ∷ []) ≡ with_steps front count steps ++ step_line (count + length steps + 1) pair
-steps_more front count [] pair = ap (λ n. front ++ step_line n pair) (omega arith)
-steps_more front count (first ∷ steps) pair =
-    steps_more (front ++ step_line (count + 1) first) (count + 1) steps pair ∙ ap (λ n. with_steps (front ++ step_line (count + 1) first) (count + 1) steps ++ step_line n pair) (omega arith)
+steps_more : (count : ℕ) (steps : List (Step × Reply)) (pair : Step × Reply) → steps_text count (steps ++ pair ∷ []) ≡ steps_text count steps ++ step_line (count + length steps + 1) pair
+steps_more count [] pair = append-nil (step_line (count + 1) pair) ∙ ap (λ n. step_line n pair) (omega arith)
+steps_more count (first ∷ steps) pair =
+    let line = step_line (count + 1) first in
+    let rest = steps_text (count + 1) steps in
+    ap (λ (x : Text). line ++ x) (steps_more (count + 1) steps pair) ∙ sym (append_assoc line rest (step_line (count + 1 + length steps + 1) pair)) ∙ ap (λ n. line ++ rest ++ step_line n pair) (omega arith)
 
-takes_more : (front : Text) (count : ℕ) (takes : List Take) (t : Take) → with_takes front count (takes ++ t ∷ []) ≡ with_takes front count takes ++ take_text (count + length takes + 1) t
-takes_more front count [] t = ap (λ n. front ++ take_text n t) (omega arith)
-takes_more front count (first ∷ takes) t =
-    takes_more (front ++ take_text (count + 1) first) (count + 1) takes t ∙ ap (λ n. with_takes (front ++ take_text (count + 1) first) (count + 1) takes ++ take_text n t) (omega arith)
+takes_more : (count : ℕ) (takes : List Take) (t : Take) → takes_text count (takes ++ t ∷ []) ≡ takes_text count takes ++ take_text (count + length takes + 1) t
+takes_more count [] t = append-nil (take_text (count + 1) t) ∙ ap (λ n. take_text n t) (omega arith)
+takes_more count (first ∷ takes) t =
+    let text = take_text (count + 1) first in
+    let rest = takes_text (count + 1) takes in
+    ap (λ (x : Text). text ++ x) (takes_more (count + 1) takes t) ∙ sym (append_assoc text rest (take_text (count + 1 + length takes + 1) t)) ∙ ap (λ n. text ++ rest ++ take_text n t) (omega arith)
+
+-- behind a front the lines are one line more
+behind : (front text more line : Text) → more ≡ text ++ line → front ++ more ≡ front ++ text ++ line
+behind front text more line e = ap (λ (x : Text). front ++ x) e ∙ sym (append_assoc front text line)
+
+without_takes : (front line longer : Text) → longer ≡ front ++ line → longer ++ [] ≡ (front ++ []) ++ line
+without_takes front line longer e = append-nil longer ∙ e ∙ ap (λ (x : Text). x ++ line) (sym (append-nil front))
 
 -- ---- what one line more adds
 
@@ -169,14 +184,14 @@ step_added steps pair h k g =
     let number : 0 + length steps + 1 ≡ length steps + 1 = omega arith in
     record {
       good = record { count = more; are_steps = one_more is_step steps pair g.are_steps k; takes_count = refl; are_takes = refl; going = tt };
-      text = steps_more (codes "run 1\n") 0 steps pair ∙ ap (λ n. with_steps (codes "run 1\n") 0 steps ++ step_line n pair) number;
+      text = without_takes (steps_front steps) (step_line (length steps + 1) pair) (steps_front (steps ++ pair ∷ [])) (behind (codes "run 1\n") (steps_text 0 steps) (steps_text 0 (steps ++ pair ∷ [])) (step_line (length steps + 1) pair) (steps_more 0 steps pair ∙ ap (λ n. steps_text 0 steps ++ step_line n pair) number));
       ends = (step_again (length steps + 1) pair.0 pair.1 h k).line.ends;
     }
 
 take_added : (steps : List (Step × Reply)) (takes : List Take) (t : Take) → is_wide (length takes + 1) ≡ true → IsFirst t → Good steps takes None → Grown steps takes None (take_line (length takes + 1) t) (reading steps takes (Some t))
 unfolding text_of begun_text IsBegun
 take_added steps takes t h f g =
-    let front = with_takes (with_steps (codes "run 1\n") 0 steps) 0 takes in
+    let front = steps_front steps ++ takes_text 0 takes in
     let first = take_line (length takes + 1) t in
     record {
       good = record { count = g.count; are_steps = g.are_steps; takes_count = g.takes_count; are_takes = g.are_takes; going = (f.begun, h) };
@@ -194,7 +209,7 @@ look_added : (steps : List (Step × Reply)) (takes : List Take) (t : Take) (look
     → Grown steps takes (Some t) (look_text look) (reading steps takes (Some (record t { looks = t.looks ++ look ∷ [] })))
 unfolding text_of begun_text IsBegun
 look_added steps takes t look h g =
-    let front = with_takes (with_steps (codes "run 1\n") 0 steps) 0 takes in
+    let front = steps_front steps ++ takes_text 0 takes in
     let first = take_line (length takes + 1) t in
     let b = g.going.0 in
     let more : Begun (record t { looks = t.looks ++ look ∷ [] }) = record { pid = b.pid; before = b.before; after = b.after; looks = one_more is_look t.looks look b.looks h } in
@@ -208,7 +223,7 @@ pub audit_added : (steps : List (Step × Reply)) (takes : List Take) (t : Take) 
     → Grown steps takes (Some t) (audit_line audit) (reading steps (takes ++ record t { audit = audit } ∷ []) None)
 unfolding text_of begun_text IsBegun
 audit_added steps takes t audit h g =
-    let front = with_takes (with_steps (codes "run 1\n") 0 steps) 0 takes in
+    let front = steps_front steps ++ takes_text 0 takes in
     let done : Take = record t { audit = audit } in
     let first = take_line (length takes + 1) t in
     let b = g.going.0 in
@@ -217,7 +232,7 @@ audit_added steps takes t audit h g =
     let number : 0 + length takes + 1 ≡ length takes + 1 = omega arith in
     record {
       good = record { count = g.count; are_steps = g.are_steps; takes_count = more; are_takes = one_more is_take takes done g.are_takes is; going = tt };
-      text = takes_more (with_steps (codes "run 1\n") 0 steps) 0 takes done ∙ ap (λ n. front ++ take_text n done) number ∙ sym (append_assoc front (first ++ flat_map look_text t.looks) (audit_line audit));
+      text = behind (steps_front steps) (takes_text 0 takes) (takes_text 0 (takes ++ done ∷ [])) (take_text (length takes + 1) done) (takes_more 0 takes done ∙ ap (λ n. takes_text 0 takes ++ take_text n done) number) ∙ sym (append_assoc front (first ++ flat_map look_text t.looks) (audit_line audit));
       ends = (audit_again audit h).line.ends;
     }
 

@@ -12,7 +12,7 @@ use Rattle.tm_types.specs.declared.step.Heard.{Heard}
 use Rattle.tm_types.specs.declared.step.Look.{Look}
 use Rattle.tm_types.specs.declared.step.Take.{Take}
 use Rattle.tm_types.specs.declared.step.Run.{Run}
-use Rattle.tm_run.specs.Steps.{with_steps}
+use Rattle.tm_run.specs.Steps.{steps_text}
 
 -- a mode's word, and `none` for a manual transition
 abbrev pub mode_text : Option Mode → Text
@@ -102,11 +102,11 @@ take_line number t = codes "take " ++ decimal number ++ 32 ∷ domains_text t ++
 abbrev pub take_text : ℕ → Take → Text
 take_text number t = take_line number t ++ flat_map look_text t.looks ++ audit_line t.audit
 
--- the text before, and the takes after it, of which the first has the number after `count`
-abbrev pub with_takes : Text → ℕ → List Take → Text
-with_takes before count [] = before
-with_takes before count (t ∷ takes) = with_takes (before ++ take_text (count + 1) t) (count + 1) takes
+-- the lines of takes, of which the first has the number after `count`
+abbrev pub takes_text : ℕ → List Take → Text
+takes_text count [] = []
+takes_text count (t ∷ takes) = take_text (count + 1) t ++ takes_text (count + 1) takes
 
 -- the line `run 1`, the steps by number, and the takes in order, both numbered from 1
 unfoldable pub run_text : Run → Text
-run_text run = with_takes (with_steps (codes "run 1\n") 0 run.steps) 0 run.takes
+run_text run = codes "run 1\n" ++ steps_text 0 run.steps ++ takes_text 0 run.takes

@@ -104,7 +104,7 @@ step_text (Step.End tree) = codes "end " ++ decimal tree
 abbrev pub step_line : ℕ → Step × Reply → Text
 step_line number pair = codes "step " ++ decimal number ++ 32 ∷ reply_text pair.1 ++ 32 ∷ step_text pair.0 ++ 10 ∷ []
 
--- the text before, and the steps after it, of which the first has the number after `count`
-abbrev pub with_steps : Text → ℕ → List (Step × Reply) → Text
-with_steps before count [] = before
-with_steps before count (pair ∷ steps) = with_steps (before ++ step_line (count + 1) pair) (count + 1) steps
+-- the lines of steps, of which the first has the number after `count`
+abbrev pub steps_text : ℕ → List (Step × Reply) → Text
+steps_text count [] = []
+steps_text count (pair ∷ steps) = step_line (count + 1) pair ++ steps_text (count + 1) steps

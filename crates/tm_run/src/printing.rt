@@ -1,6 +1,6 @@
 //! The text of a run.
 ghost use Rattle.std.specs.Prelude.{◌≡◌, ◌++◌, ◌∷◌, [], IfOk, OnOk, OnErr};
-ghost use Rattle.tm_run.specs.RunText.{granted_text, domains_text, take_line, take_text, audit_word, audit_line, with_takes, run_text};
+ghost use Rattle.tm_run.specs.RunText.{granted_text, domains_text, take_line, take_text, audit_word, audit_line, takes_text, run_text};
 
 use crate::look::push_looks;
 use crate::steps::push_steps;
@@ -79,7 +79,7 @@ fn push_take(alloc: Global, number: u64, take: &Take, out: &mut Vec<u8>) -> Resu
 }
 
 fn push_takes(alloc: Global, takes: &[Take], out: &mut Vec<u8>) -> Result<(), NoMemory>
-    ensures { OnOk result (out.new.items ≡ with_takes out.old.items 0 takes.now) }
+    ensures { OnOk result (out.new.items ≡ out.old.items ++ takes_text 0 takes.now) }
 {
     let mut count = 0;
     while count < takes.len() {

@@ -1,6 +1,6 @@
 //! The lines of the steps of a run.
 ghost use Rattle.std.specs.Prelude.{◌≡◌, ◌++◌, OnOk, decimal};
-ghost use Rattle.tm_run.specs.Steps.{learn_text, make_text, fail_text, held_text, answer_reply_text, change_text, kind_text, edit_text, reply_text, file_text, step_text, step_line, with_steps};
+ghost use Rattle.tm_run.specs.Steps.{learn_text, make_text, fail_text, held_text, answer_reply_text, change_text, kind_text, edit_text, reply_text, file_text, step_text, step_line, steps_text};
 
 use std::alloc::Global;
 use tm_entry::print_entry;
@@ -235,7 +235,7 @@ pub(crate) fn push_steps(
     steps: &[(Step, Reply)],
     out: &mut Vec<u8>,
 ) -> Result<(), NoMemory>
-    ensures { OnOk result (out.new.items ≡ with_steps out.old.items 0 steps.now) }
+    ensures { OnOk result (out.new.items ≡ out.old.items ++ steps_text 0 steps.now) }
 {
     let mut count = 0;
     while count < steps.len() {

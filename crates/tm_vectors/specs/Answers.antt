@@ -56,13 +56,10 @@ control_of (ExceptRule.Acl group words) = None
 abbrev pub control_line : Text → Option Control
 control_line line = option_and_then (λ read. control_of read.rule) (said_by line)
 
--- the controls before, and behind them those of these lines in their order; none where one of the lines adds no control
-abbrev pub controls_after : List Control → List Text → Option (List Control)
-controls_after before [] = Some before
-controls_after before (line ∷ lines) = option_and_then (λ control. controls_after (before ++ control ∷ []) lines) (control_line line)
-
+-- the controls that these lines add, in their order; none where one of the lines adds no control
 abbrev pub controls_of : List Text → Option (List Control)
-controls_of lines = controls_after [] lines
+controls_of [] = Some []
+controls_of (line ∷ lines) = option_and_then (λ control. option_map (λ others. control ∷ others) (controls_of lines)) (control_line line)
 
 -- lines with `|` between them; an empty text has none
 abbrev pub bar_lines : Text → List Text

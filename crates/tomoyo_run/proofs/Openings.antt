@@ -6,7 +6,6 @@ use Rattle.std.specs.List.{AllByRecursion, list_all, position_from, find}
 use Rattle.tm_word.specs.Words.{Text, Word, Pattern}
 use Rattle.tm_types.specs.declared.policy.SlotName.{SlotName}
 use Rattle.tm_types.specs.declared.policy.Config.{Config}
-use Rattle.tm_types.specs.declared.policy.Mode.{Mode}
 use Rattle.tm_types.specs.declared.policy.Profile.{Profile}
 use Rattle.tm_types.specs.declared.policy.Namespace.{Namespace}
 use Rattle.tm_types.specs.declared.policy.Domain.{Domain}
@@ -16,8 +15,7 @@ use Rattle.tm_types.specs.declared.request.Tree.{Tree}
 use Rattle.tm_rules.specs.Words.{Trace}
 use Rattle.tm_rules.specs.Grammar.{Grammar}
 use Rattle.tm_rules.specs.Equality.{texts_equal}
-use Rattle.tm_rules.specs.Condition.{is_execute, is_manual}
-use Rattle.tm_rules.specs.Policy.{kernel, domain_at, profile_of, live_domain, namespace_named, namespace_word, empty_namespace, at_key}
+use Rattle.tm_rules.specs.Policy.{kernel, profile_of, live_domain, namespace_named, namespace_word, empty_namespace, at_key}
 use Rattle.tm_rules.specs.Requests.{begins_with_byte, item_is_request}
 use Rattle.tm_rules.proofs.EqualityLaws.{same_texts}
 use Rattle.tm_types.specs.declared.policy.Logs.{Logs}
@@ -28,10 +26,9 @@ use Rattle.tm_core.specs.Silent.{no_logs, IsSilentProfile, IsSilentEntry}
 use Rattle.tm_core.specs.Silent as silent
 use Rattle.tm_core.specs.Stands.{IsBuilt}
 use Rattle.tm_types.specs.declared.entry.Entry.{Entry}
-use Rattle.tm_forms.specs.TraceForms.{IsPlain, IsPlainItem, IsPlainTree, IsPlainTrace}
-use Rattle.tm_core.specs.Legal.{Scene}
+use Rattle.tm_forms.specs.TraceForms.{IsPlainItem, IsPlainTree, IsPlainTrace}
 use Rattle.tm_core.specs.Play.{IsGrammar, IsOpened, CanPlay, IsAlone}
-use Rattle.tm_core.specs.Still.{is_plain_request, is_plain_item, is_plain_trace}
+use Rattle.tm_core.specs.Still.{is_plain_item, is_plain_trace}
 use Rattle.tomoyo_run.specs.Play.{alone}
 
 -- the only element of a list

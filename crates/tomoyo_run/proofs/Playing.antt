@@ -12,7 +12,7 @@ use Rattle.tm_rules.specs.Grammar.{Grammar}
 use Rattle.tm_rules.specs.Load.{wants_profile}
 use Rattle.tm_rules.specs.Policy.{profile_of, namespace_named}
 use Rattle.tm_core.specs.Legal.{Scene, Legal, final_policy}
-use Rattle.tm_core.specs.Play.{IsGrammar, IsAlone, Player, start_of, run_of, turns}
+use Rattle.tm_core.specs.Play.{IsGrammar, IsAlone, Player, start_of, turns}
 use Rattle.tm_core.specs.Play as core
 use Rattle.tm_core.specs.Stands.{IsBuilt, IsReached}
 use Rattle.tm_core.proofs.Playable.{bare, bare-is}

@@ -1,5 +1,12 @@
--- The exit statuses of the program.
-use Rattle.std.specs.Prelude.{ℕ}
+-- The exit statuses of the program, and what it prints of each.
+use Rattle.std.specs.Prelude.{ℕ, List, ◌++◌, codes, decimal}
+use Rattle.tm_types.specs.declared.request.TraceKind.{TraceKind}
+use Rattle.tm_types.specs.declared.request.ScriptKind.{ScriptKind}
+use Rattle.tm_types.specs.declared.step.FileKind.{FileKind}
+use Rattle.tm_io.specs.Names.{file_text}
+use Rattle.tm_run.specs.Steps.{edit_text}
+use Rattle.tomoyo_run.specs.declared.status.What.{What}
+use Rattle.tomoyo_run.specs.declared.status.OutName.{OutName}
 use Rattle.tomoyo_run.specs.declared.status.Status.{Status}
 
 -- each status has its exit status
@@ -17,3 +24,66 @@ exit_code (Status.TooMany what) = 9
 exit_code (Status.WriteFault name) = 10
 exit_code Status.OutOfMemory = 11
 exit_code (Status.NotBuilt name line) = 12
+
+-- what there is too much of
+abbrev pub what_text : What → List ℕ
+what_text What.Records = codes "records"
+what_text What.Trees = codes "trees"
+what_text What.Edits = codes "edits"
+what_text What.Editors = codes "editors"
+what_text What.Turns = codes "turns"
+
+-- where a write failed
+abbrev pub out_text : OutName → List ℕ
+out_text (OutName.File name) = file_text name
+out_text OutName.StandardOutput = codes "standard output"
+
+-- the file of this policy
+abbrev pub policy_text : FileKind → List ℕ
+policy_text FileKind.Profile = codes "profile"
+policy_text FileKind.Exception = codes "exception_policy"
+policy_text FileKind.Domain = codes "domain_policy"
+policy_text FileKind.Manager = codes "manager"
+
+-- what is wrong with a line of the trace
+abbrev pub trace_text : TraceKind → List ℕ
+trace_text TraceKind.Keyword = codes "Keyword"
+trace_text TraceKind.NoTree = codes "NoTree"
+trace_text TraceKind.Number = codes "Number"
+trace_text TraceKind.KnownProcess = codes "KnownProcess"
+trace_text TraceKind.NoProcess = codes "NoProcess"
+trace_text TraceKind.NoDomain = codes "NoDomain"
+trace_text TraceKind.Request = codes "Request"
+trace_text TraceKind.Attribute = codes "Attribute"
+trace_text TraceKind.Arity = codes "Arity"
+
+-- what is wrong with a line of a script
+abbrev pub script_text : ScriptKind → List ℕ
+script_text ScriptKind.Keyword = codes "Keyword"
+script_text ScriptKind.Number = codes "Number"
+script_text ScriptKind.Word = codes "Word"
+script_text ScriptKind.Domain = codes "Domain"
+script_text ScriptKind.NoEditor = codes "NoEditor"
+script_text ScriptKind.Twice = codes "Twice"
+script_text ScriptKind.NoActivity = codes "NoActivity"
+script_text ScriptKind.Arity = codes "Arity"
+
+-- a line of a file, and what is said of it
+abbrev pub line_text : List ℕ → ℕ → List ℕ → List ℕ
+line_text file line said = file ++ codes " line " ++ decimal line ++ codes ": " ++ said
+
+-- what the program prints of a status
+abbrev pub status_text : Status → List ℕ
+status_text Status.Done = codes "done"
+status_text (Status.BadWords place) = codes "bad words at " ++ decimal place
+status_text (Status.ReadFault name) = codes "can't read " ++ file_text name
+status_text (Status.Absent name) = file_text name ++ codes " is missing"
+status_text (Status.TooLong name) = file_text name ++ codes " is too long"
+status_text (Status.BadPolicy file line reply) = line_text (policy_text file) line (edit_text reply)
+status_text (Status.UndefinedProfile domain) = codes "domain " ++ decimal domain ++ codes " has no profile"
+status_text (Status.BadTrace line kind) = line_text (codes "trace") line (trace_text kind)
+status_text (Status.BadScript name line kind) = line_text (file_text name) line (script_text kind)
+status_text (Status.TooMany what) = codes "too many " ++ what_text what
+status_text (Status.WriteFault name) = codes "can't write " ++ out_text name
+status_text Status.OutOfMemory = codes "out of memory"
+status_text (Status.NotBuilt name line) = line_text (file_text name) line (codes "not built")

@@ -1,5 +1,5 @@
 -- The words of the commands.
-use Rattle.std.specs.Prelude.{ℕ, List, [], ◌∷◌, Result, Ok, Err, codes, if◌then◌else◌}
+use Rattle.std.specs.Prelude.{ℕ, Bool, false, List, [], ◌∷◌, Result, Ok, Err, codes, if◌then◌else◌}
 use Rattle.std.specs.Str.{bytes_eq}
 use Rattle.tomoyo_run.specs.declared.words.Command.{Command}
 
@@ -17,3 +17,9 @@ abbrev pub read_words : List (List ℕ) → Result Command ℕ
 read_words [] = Err 0
 read_words (word ∷ []) = command_of word
 read_words (word ∷ next ∷ words) = alone (command_of word)
+
+-- the word is all of the command line
+abbrev pub is_only : List (List ℕ) → List ℕ → Bool
+is_only [] word = false
+is_only (only ∷ []) word = bytes_eq only word
+is_only (only ∷ next ∷ words) word = false

@@ -1,3 +1,6 @@
+ghost use Rattle.std.specs.Prelude.{◌≡◌, map, string_bytes};
+ghost use Rattle.tomoyo_run.specs.Words.{is_only};
+
 use std::alloc::{AllocError, Global};
 use std::env::{Env, FillError};
 
@@ -62,7 +65,9 @@ pub fn words_of<E: Env>(env: &E, alloc: Global) -> Result<Vec<String>, AllocErro
 }
 
 /// Whether this word is all of the command line.
-pub fn is_only(words: &[String], word: &str) -> bool {
+pub fn is_only(words: &[String], word: &str) -> bool
+    ensures { result ≡ is_only (map string_bytes words.now) word.now }
+{
     match words {
         [only] => only.as_str() == word,
         _ => false,

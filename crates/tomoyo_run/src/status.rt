@@ -1,5 +1,7 @@
+//! How a call ends, its exit status and what is printed of it.
 ghost use Rattle.std.specs.Prelude.{◌≡◌};
-ghost use Rattle.tomoyo_run.specs.Status.{exit_code};
+ghost use Rattle.tm_run.specs.Steps.{edit_text};
+ghost use Rattle.tomoyo_run.specs.Status.{exit_code, policy_text, trace_text, script_text};
 
 use std::fmt;
 use tm_io::FileName;
@@ -67,6 +69,11 @@ impl Status {
 }
 
 impl fmt::Display for What {
+    ghost use Rattle.std.specs.Prelude.{Some};
+    ghost use Rattle.tomoyo_run.specs.Status.{what_text};
+
+    ghost output = { λ what. Some (what_text what) };
+
     fn fmt<W: fmt::Write>(&self, f: &mut fmt::Formatter<W>) -> fmt::Result {
         f.write_str(match *self {
             What::Records => "records",
@@ -79,6 +86,11 @@ impl fmt::Display for What {
 }
 
 impl fmt::Display for OutName {
+    ghost use Rattle.std.specs.Prelude.{Some};
+    ghost use Rattle.tomoyo_run.specs.Status.{out_text};
+
+    ghost output = { λ name. Some (out_text name) };
+
     fn fmt<W: fmt::Write>(&self, f: &mut fmt::Formatter<W>) -> fmt::Result {
         match *self {
             OutName::File(name) => write!(f, "{name}"),
@@ -88,6 +100,11 @@ impl fmt::Display for OutName {
 }
 
 impl fmt::Display for Status {
+    ghost use Rattle.std.specs.Prelude.{Some};
+    ghost use Rattle.tomoyo_run.specs.Status.{status_text};
+
+    ghost output = { λ status. Some (status_text status) };
+
     fn fmt<W: fmt::Write>(&self, f: &mut fmt::Formatter<W>) -> fmt::Result {
         match *self {
             Status::Done => f.write_str("done"),
@@ -96,8 +113,12 @@ impl fmt::Display for Status {
             Status::Absent(name) => write!(f, "{name} is missing"),
             Status::TooLong(name) => write!(f, "{name} is too long"),
             Status::BadPolicy(file, line, reply) => {
-                write!(f, "{} line {line}: ", policy_file(file))?;
-                write_reply(f, reply)
+                write!(
+                    f,
+                    "{} line {line}: {}",
+                    policy_file(file),
+                    edit_reply(reply)
+                )
             }
             Status::UndefinedProfile(domain) => write!(f, "domain {domain} has no profile"),
             Status::BadTrace(line, kind) => write!(f, "trace line {line}: {}", trace_kind(kind)),
@@ -112,7 +133,10 @@ impl fmt::Display for Status {
     }
 }
 
-fn policy_file(file: FileKind) -> &'static str {
+/// The file of this policy.
+fn policy_file(file: FileKind) -> &'static str
+    ensures { result.now ≡ policy_text file }
+{
     match file {
         FileKind::Profile => "profile",
         FileKind::Exception => "exception_policy",
@@ -121,34 +145,33 @@ fn policy_file(file: FileKind) -> &'static str {
     }
 }
 
-// The reply to a line that is not done.
-fn write_reply<W: fmt::Write>(f: &mut fmt::Formatter<W>, reply: EditReply) -> fmt::Result {
+/// What became of a policy line; a bad one has its kind.
+fn edit_reply(reply: EditReply) -> &'static str
+    ensures { result.now ≡ edit_text reply }
+{
     match reply {
-        EditReply::Done => f.write_str("done"),
-        EditReply::NotManager => f.write_str("not_manager"),
-        EditReply::BadLine(kind) => write!(f, "bad:{}", line_kind(kind)),
-        EditReply::NoDomain => f.write_str("no_domain"),
-        EditReply::NoProfile => f.write_str("no_profile"),
-        EditReply::NoSuchLine => f.write_str("no_line"),
+        EditReply::Done => "done",
+        EditReply::NotManager => "not_manager",
+        EditReply::BadLine(LineKind::Keyword) => "bad:keyword",
+        EditReply::BadLine(LineKind::Arity) => "bad:arity",
+        EditReply::BadLine(LineKind::Name) => "bad:name",
+        EditReply::BadLine(LineKind::Number) => "bad:number",
+        EditReply::BadLine(LineKind::Address) => "bad:address",
+        EditReply::BadLine(LineKind::Domain) => "bad:domain",
+        EditReply::BadLine(LineKind::Condition) => "bad:condition",
+        EditReply::BadLine(LineKind::Profile) => "bad:profile",
+        EditReply::BadLine(LineKind::Version) => "bad:version",
+        EditReply::BadLine(LineKind::KernelDomain) => "bad:kernel_domain",
+        EditReply::NoDomain => "no_domain",
+        EditReply::NoProfile => "no_profile",
+        EditReply::NoSuchLine => "no_line",
     }
 }
 
-fn line_kind(kind: LineKind) -> &'static str {
-    match kind {
-        LineKind::Keyword => "keyword",
-        LineKind::Arity => "arity",
-        LineKind::Name => "name",
-        LineKind::Number => "number",
-        LineKind::Address => "address",
-        LineKind::Domain => "domain",
-        LineKind::Condition => "condition",
-        LineKind::Profile => "profile",
-        LineKind::Version => "version",
-        LineKind::KernelDomain => "kernel_domain",
-    }
-}
-
-fn trace_kind(kind: TraceKind) -> &'static str {
+/// What is wrong with a line of the trace.
+fn trace_kind(kind: TraceKind) -> &'static str
+    ensures { result.now ≡ trace_text kind }
+{
     match kind {
         TraceKind::Keyword => "Keyword",
         TraceKind::NoTree => "NoTree",
@@ -162,7 +185,10 @@ fn trace_kind(kind: TraceKind) -> &'static str {
     }
 }
 
-fn script_kind(kind: ScriptKind) -> &'static str {
+/// What is wrong with a line of a script.
+fn script_kind(kind: ScriptKind) -> &'static str
+    ensures { result.now ≡ script_text kind }
+{
     match kind {
         ScriptKind::Keyword => "Keyword",
         ScriptKind::Number => "Number",

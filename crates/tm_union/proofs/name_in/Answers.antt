@@ -1,4 +1,4 @@
-use Rattle.std.proofs.Common.{◌≡◌, refl, ap, ◌∙◌, sym}
+use Rattle.std.proofs.Common.{ap, ◌∙◌}
 use Rattle.std.specs.Prelude.{option_map}
 use Rattle.tm_types.specs.declared.unions.NamePlace.{NamePlace}
 use Rattle.tm_rules.specs.Group.{name_in}

@@ -1,9 +1,10 @@
-use Rattle.std.proofs.Common.{◌≡◌, ◌-◌, drop, length}
-use Rattle.tm_run.specs.Steps.{with_steps}
+use Rattle.std.proofs.Common.{◌≡◌, ◌-◌, ◌++◌, drop, length}
+use Rattle.tm_run.specs.Steps.{steps_text}
 use Rattle.tm_run.proofs.steps.push_steps.Given as goal
 
+-- what is written, and behind it the lines of those that are left
 abbrev pub invariant-loop-count : goal.invariant-loop-count
-invariant-loop-count l = with_steps l.out.items l.count (drop l.count l.steps) ≡ with_steps l.initial.out.items 0 l.steps
+invariant-loop-count l = l.out.items ++ steps_text l.count (drop l.count l.steps) ≡ l.initial.out.items ++ steps_text 0 l.steps
 
 abbrev pub decreases-loop-count : goal.decreases-loop-count
 decreases-loop-count l = length l.steps - l.count
