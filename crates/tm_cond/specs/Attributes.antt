@@ -12,6 +12,7 @@ use Rattle.tm_types.specs.declared.entry.FileKindWord.{FileKindWord}
 use Rattle.tm_types.specs.declared.entry.Attr.{Attr}
 use Rattle.tm_rules.specs.Equality.{texts_equal}
 use Rattle.tm_pattern.specs.Reading.{word_of}
+use Rattle.tm_line.specs.Lines.{◌>>=◌}
 use Rattle.tm_line.specs.Arguments.{kinded, plain_word}
 
 -- Pieces of a word
