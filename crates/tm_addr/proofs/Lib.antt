@@ -1,5 +1,5 @@
 pub mod Bounds
-pub mod Cuts
+pub mod Gaps
 pub mod Groups
 pub mod Runs
 pub mod Free

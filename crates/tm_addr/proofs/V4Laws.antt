@@ -4,10 +4,8 @@ use Rattle.std.specs.List.{slice_split}
 use Rattle.std.specs.Fmt.{decimal}
 use Rattle.std.specs.Char.{digit_value}
 use Rattle.std.proofs.lemmas.Fmt.{decimal_is_IsNumeral}
-use Rattle.std.proofs.lemmas.Bool.{lt-ltb}
-use Rattle.tm_number.specs.declared.Base.{Base}
-use Rattle.tm_number.proofs.NumberLaws.{number_again}
-use Rattle.tm_addr.specs.Reading.{octet_in, octet_of, quad_of, v4_at, v4_of}
+use Rattle.tm_number.proofs.NumberLaws.{plain_again}
+use Rattle.tm_addr.specs.Reading.{octet_of, quad_of, v4_at, v4_of}
 use Rattle.tm_addr.specs.Printing.{v4_spelling}
 use Rattle.tm_addr.proofs.Free.{Free, free_append, free_digits, split_free, split_at}
 
@@ -15,10 +13,7 @@ pub decimal_free : (c n : ℕ) → 10 ≤ digit_value c → n < 256 → Free c (
 decimal_free c n h small = free_digits c 10 (decimal n) h (decimal_is_IsNumeral n (omega (arith, small))).0.1
 
 octet_again : (n : ℕ) → n < 256 → octet_of (decimal n) ≡ Some n
-unfolding octet_of
-octet_again n small =
-    let below : nat_lt n 256 ≡ true = lt-ltb _ _ small in
-    ap octet_in (number_again Base.Decimal n (omega (arith, small))) ∙ rw below refl
+octet_again n small = plain_again 256 n small (omega (arith, small))
 
 four_pieces : (w x y z : List ℕ) → Free 46 w → Free 46 x → Free 46 y → Free 46 z → slice_split (λ b. b == 46) (w ++ 46 ∷ (x ++ 46 ∷ (y ++ 46 ∷ z))) ≡ w ∷ x ∷ y ∷ z ∷ []
 four_pieces w x y z a b c d =

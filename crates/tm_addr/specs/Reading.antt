@@ -1,13 +1,10 @@
 -- texts of addresses and of ranges of addresses: what reading gives
-use Rattle.std.specs.Prelude.{ℕ, ◌+◌, ◌-◌, ◌*◌, ◌/◌, ◌%◌, ◌^◌, ◌==◌, nat_lt, nat_le, Bool, true, false, ◌&&◌, if◌then◌else◌, List, [], ◌∷◌, length, take, drop, Option, Some, None, option_and_then, option_map, Result, Ok, Err}
+use Rattle.std.specs.Prelude.{ℕ, ◌+◌, ◌-◌, ◌*◌, ◌/◌, ◌%◌, ◌^◌, ◌==◌, nat_le, Bool, true, false, ◌&&◌, if◌then◌else◌, List, [], ◌∷◌, length, take, drop, Option, Some, None, option_and_then, option_map, Result, Ok, Err}
 use Rattle.std.specs.List.{list_any, position, slice_split}
 use Rattle.std.specs.Str.Parse.{digits_value}
-use Rattle.tm_number.specs.declared.Base.{Base}
-use Rattle.tm_number.specs.declared.Number.{Number}
 use Rattle.tm_number.specs.declared.Addr.{Addr}
 use Rattle.tm_number.specs.declared.AddrRange.{AddrRange}
-use Rattle.tm_number.specs.declared.text.NumberFault.{NumberFault}
-use Rattle.tm_number.specs.Numbers.{is_numeral, number_of}
+use Rattle.tm_number.specs.Numbers.{is_numeral, plain_of}
 use Rattle.tm_number.specs.Addresses.{addr_le}
 use Rattle.tm_addr.specs.declared.reading.Groups.{Groups}
 use Rattle.tm_addr.specs.declared.reading.AddrFault.{AddrFault}
@@ -20,17 +17,8 @@ o >>= f = option_and_then f o
 -- IPv4
 
 -- a plain number, 0 to 255
-abbrev pub octet_by : Base → ℕ → Option ℕ
-octet_by Base.Decimal n = if nat_lt n 256 then Some n else None
-octet_by Base.Octal n = None
-octet_by Base.Hex n = None
-
-abbrev pub octet_in : Result Number NumberFault → Option ℕ
-octet_in (Ok n) = octet_by n.base n.value
-octet_in (Err fault) = None
-
-unfoldable pub octet_of : List ℕ → Option ℕ
-octet_of piece = octet_in (number_of piece)
+abbrev pub octet_of : List ℕ → Option ℕ
+octet_of piece = plain_of 256 piece
 
 unfoldable pub quad_of : List ℕ → List ℕ → List ℕ → List ℕ → Option ℕ
 quad_of first second third fourth = do

@@ -1,51 +1,44 @@
 //! Reading addresses.
-ghost use Rattle.std.specs.Prelude.{◌≡◌, ◌+◌, ◌-◌, ◌*◌, ◌<◌, ◌≤◌, ◌^◌, ◌==◌, ℕ, List, [], ◌∷◌, length, take, drop, Bool, true, Some, None, Ok, MatchOption, IfSome, IsTrue};
-ghost use Rattle.std.specs.List.{list_any, position, slice_split};
-ghost use Rattle.tm_addr.specs.Reading.{octet_by, octet_of, quad_of, v4_of, group_of, no_groups, with_group, with_quad, last_of, groups_after, few, side_of, is_gap, gap_at, whole, around, v6_of, addr_of, single, same_family, ends_of, range_of};
+ghost use Rattle.std.specs.Prelude.{◌≡◌, ◌+◌, ◌-◌, ◌*◌, ◌<◌, ◌≤◌, ◌^◌, ◌==◌, ℕ, List, [], ◌∷◌, length, take, drop, Bool, true, Some, None, Ok, IfSome, IsTrue};
+ghost use Rattle.std.specs.List.{slice_split};
+ghost use Rattle.tm_addr.specs.Reading.{octet_of, quad_of, v4_of, group_of, no_groups, with_group, with_quad, last_of, groups_after, few, side_of, is_gap, gap_at, whole, around, v6_of, addr_of, single, same_family, ends_of, range_of};
 ghost use Rattle.tm_number.specs.Addresses.{addr_le};
 ghost use Rattle.tm_addr.specs.Printing.{IsAddr, addr_spelling, addr_range_spelling, zeros, run, longest};
 ghost use Rattle.tm_number.specs.declared.Addr.{Addr};
 ghost use Rattle.tm_number.specs.declared.AddrRange.{AddrRange};
 
-use tm_number::{Addr, AddrRange, Base, is_numeral, read_number, value_of_digits};
+use thiserror::Error;
+use tm_number::{Addr, AddrRange, is_numeral, plain_number, value_of_digits};
+use tm_word::{cut_at, has_byte, place_of};
 
 /// Why a text is no address or no range of addresses. A single address meets the first alone.
-#[derive(Clone, Copy, PartialEq, Eq, Debug)]
+#[derive(Clone, Copy, PartialEq, Eq, Debug, Error)]
 pub enum AddrFault {
     /// The text, or one end of it, is outside the grammar.
+    #[error("not an address")]
     NotAnAddress,
     /// The ends are of two families.
+    #[error("a range of addresses of two families")]
     Mixed,
     /// The low end of a range is above its high end.
+    #[error("a range of addresses that ends before it begins")]
     Backwards,
 }
 
 /// Groups of an IPv6 address in a row: their value, and how many they are.
-#[derive(Clone, Copy, PartialEq, Eq, Debug)]
+#[derive(Clone, Copy)]
 struct Groups {
     value: u128,
     count: u32,
 }
 
 /// A plain number from 0 to 255.
-#[tactic(auto, unfolding(crate::specs::Reading::octet_of))]
 fn octet(piece: &[u8]) -> Option<u8>
     ensures { result ≡ octet_of piece.now }
 {
-    match read_number(piece) {
-        Ok(number) => octet_by(number.base, number.value),
-        Err(_) => None,
-    }
-}
-
-/// The octet of a number, if it is a plain one below 256.
-fn octet_by(base: Base, value: u64) -> Option<u8>
-    ensures { result ≡ octet_by base value }
-{
-    match base {
-        Base::Decimal => { if value < 256 { Some(value as u8) } else { None } }
-        Base::Octal => None,
-        Base::Hex => None,
+    match plain_number(256, piece) {
+        Some(value) => Some(value as u8),
+        None => None,
     }
 }
 
@@ -59,23 +52,6 @@ fn quad(first: &[u8], second: &[u8], third: &[u8], fourth: &[u8]) -> Option<u32>
     let third = octet(third)?;
     let fourth = octet(fourth)?;
     Some(((first as u32 * 256 + second as u32) * 256 + third as u32) * 256 + fourth as u32)
-}
-
-/// Where a byte stands first.
-fn place_of(byte: u8, text: &[u8]) -> Option<usize>
-    ensures { result ≡ position (λ b. b == byte) text.now }
-{
-    text.iter().position(|found| *found == byte)
-}
-
-/// The text before and after the first such byte.
-fn cut_at(byte: u8, text: &[u8]) -> Option<(&[u8], &[u8])>
-    ensures { MatchOption result (slice_split (λ b. b == byte) text.now ≡ text.now ∷ []) (λ cut. (slice_split (λ b. b == byte) text.now ≡ cut.0.now ∷ slice_split (λ b. b == byte) cut.1.now) × (length cut.1.now < length text.now)) }
-{
-    match place_of(byte, text) {
-        Some(place) => Some((&text[..place], &text[place + 1..])),
-        None => None,
-    }
 }
 
 /// An IPv4 address.
@@ -254,24 +230,12 @@ fn v6(text: &[u8]) -> Option<u128>
     }
 }
 
-/// Whether a colon tells an IPv6 address.
-fn has_colon(text: &[u8]) -> bool
-    ensures { result ≡ list_any (λ b. b == 58) text.now }
-{
-    for byte in text {
-        if *byte == b':' {
-            return true;
-        }
-    }
-    false
-}
-
 /// The address that a text spells.
 #[tactic(auto, unfolding(crate::specs::Reading::addr_of))]
 fn addr(text: &[u8]) -> Result<Addr, AddrFault>
     ensures { result ≡ addr_of text.now }
 {
-    if has_colon(text) {
+    if has_byte(b':', text) {
         match v6(text) {
             Some(a) => Ok(Addr::V6(a)),
             None => Err(AddrFault::NotAnAddress),

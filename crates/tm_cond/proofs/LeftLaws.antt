@@ -5,26 +5,21 @@ use Rattle.std.specs.List.{list_all}
 use Rattle.std.specs.Fmt.{decimal}
 use Rattle.std.specs.Char.{digit_value}
 use Rattle.std.specs.Str.Parse.{AllDigits}
-use Rattle.std.proofs.lemmas.Bool.{eqb-true, ne_eqb, ltb-true}
+use Rattle.std.proofs.lemmas.Bool.{eqb-true, ne_eqb, ltb-true, lt-ltb}
 use Rattle.std.proofs.lemmas.Fmt.{decimal_is_IsNumeral}
 use Rattle.std.proofs.lemmas.List.Folds.{list_all-append}
 use Rattle.tm_word.specs.Words.{Text}
-use Rattle.tm_word.specs.Spelling.{spelling_of, spell}
-use Rattle.tm_number.specs.declared.Base.{Base}
-use Rattle.tm_number.specs.declared.Number.{Number}
-use Rattle.tm_number.specs.declared.text.NumberFault.{NumberFault}
-use Rattle.tm_number.specs.Numbers.{same_base, number_of}
-use Rattle.tm_number.proofs.NumberLaws.{number_again}
-use Rattle.tm_pattern.specs.Reading.{word_of}
-use Rattle.tm_pattern.proofs.LexLaws.{word_found}
+use Rattle.tm_word.specs.Spelling.{spelling_of, spell, spelled_word}
+use Rattle.tm_number.specs.Numbers.{plain_of}
+use Rattle.tm_number.proofs.NumberLaws.{plain_again, plain_small}
+use Rattle.tm_word.proofs.Spelled.{word_found, word_again, word_small}
 use Rattle.tm_types.specs.declared.entry.LineKind.{LineKind}
 use Rattle.tm_types.specs.declared.entry.StatPlace.{StatPlace}
 use Rattle.tm_types.specs.declared.entry.Attr.{Attr}
-use Rattle.tm_line.specs.Lines.{◌>>=◌}
-use Rattle.tm_line.specs.Arguments.{kinded, plain, plain_word}
-use Rattle.tm_line.proofs.Steps.{bind_ok, ok_is, kinded_ok, chosen, both, all}
-use Rattle.tm_line.proofs.SpellLaws.{word_again, word_small}
-use Rattle.tm_cond.specs.Attributes.{or_wrong, after, without_last, quoted, attr_text, numeric_word, other_table, other_word, argv_word, envp_word, or_read, or_rest, field_word, attr_word}
+use Rattle.tm_word.specs.Gives.{◌>>=◌}
+use Rattle.tm_line.proofs.Steps.{bind_ok, ok_is, both, all}
+use Rattle.tm_cond.specs.Attributes.{or_wrong, without_last, quoted, attr_text, numeric_word, other_table, other_word, argv_word, envp_word, or_read, or_rest, field_word, attr_word}
+use Rattle.tm_word.specs.Texts.{after}
 use Rattle.tm_cond.specs.Written.{is_name_byte, is_attr}
 use Rattle.tm_cond.proofs.PieceLaws.{or_wrong_ok, after_found, without_last_again, without_last_other, without_last_found, quoted_again, quoted_found, named_fits}
 use Rattle.tm_cond.proofs.NumericLaws.{IsLeft, numeric_again, numeric_read}
@@ -43,19 +38,11 @@ digits_uncut (d ∷ ds) h =
 decimal_uncut : (n : ℕ) → n < 2 ^ 32 → list_all not_equals (decimal n) ≡ true
 decimal_uncut n low = digits_uncut (decimal n) (decimal_is_IsNumeral n (omega (arith, low))).0.1
 
-decimal_read : (n : ℕ) → nat_lt n (2 ^ 32) ≡ true → plain_word (2 ^ 32) (decimal n) ≡ Ok n
-unfolding plain_word
-decimal_read n h = rw (number_again Base.Decimal n (omega (arith, ltb-true n (2 ^ 32) h)), h) refl
+decimal_read : (n : ℕ) → nat_lt n (2 ^ 32) ≡ true → plain_of (2 ^ 32) (decimal n) ≡ Some n
+decimal_read n h = let low : n < 2 ^ 32 = ltb-true n (2 ^ 32) h in plain_again (2 ^ 32) n low (omega (arith, low))
 
-plain_low : (limit : ℕ) (r : Result Number NumberFault) (n : ℕ) → plain limit r ≡ Ok n → nat_lt n limit ≡ true
-plain_low limit (Err fault) n e = absurd cc
-plain_low limit (Ok k) n e =
-    let is = chosen (same_base k.base Base.Decimal && nat_lt k.value limit) k.value n LineKind.Number e in
-    subst (λ v. nat_lt v limit ≡ true) is.1 (both (same_base k.base Base.Decimal) (nat_lt k.value limit) is.0).1
-
-plain_read : (limit : ℕ) (text : Text) (n : ℕ) → plain_word limit text ≡ Ok n → nat_lt n limit ≡ true
-unfolding plain_word
-plain_read limit text n e = plain_low limit (number_of text) n e
+plain_low : (text : Text) (n : ℕ) → plain_of (2 ^ 32) text ≡ Some n → nat_lt n (2 ^ 32) ≡ true
+plain_low text n e = lt-ltb n (2 ^ 32) (plain_small (2 ^ 32) n text e)
 
 -- ---- names
 
@@ -173,19 +160,19 @@ other_read text attr e = named_fits (λ t a. HasWord a) other_table text attr (r
 argv_read : (rest : Text) (attr : Attr) → argv_word rest ≡ Ok attr → HasWord attr
 unfolding is_attr argv_word
 argv_read rest attr e =
-    let digits = bind_ok (or_wrong (without_last 93 rest)) (λ t. kinded LineKind.Condition (plain_word (2 ^ 32) t) >>= λ n. Ok (Attr.Argv n)) attr e in
-    let n = bind_ok (kinded LineKind.Condition (plain_word (2 ^ 32) digits.0)) (λ n. Ok (Attr.Argv n)) attr digits.2 in
-    subst HasWord (ok_is (Attr.Argv n.0) attr n.2) (plain_read (2 ^ 32) digits.0 n.0 (kinded_ok LineKind.Condition (plain_word (2 ^ 32) digits.0) n.0 n.1))
+    let digits = bind_ok (or_wrong (without_last 93 rest)) (λ t. or_wrong (plain_of (2 ^ 32) t) >>= λ n. Ok (Attr.Argv n)) attr e in
+    let n = bind_ok (or_wrong (plain_of (2 ^ 32) digits.0)) (λ n. Ok (Attr.Argv n)) attr digits.2 in
+    subst HasWord (ok_is (Attr.Argv n.0) attr n.2) (plain_low digits.0 n.0 (or_wrong_ok (plain_of (2 ^ 32) digits.0) n.0 n.1))
 
 envp_read : (rest : Text) (attr : Attr) → list_all not_equals rest ≡ true → envp_word rest ≡ Ok attr → HasWord attr
 unfolding is_attr envp_word
 envp_read rest attr h e =
-    let text = bind_ok (or_wrong (without_last 93 rest)) (λ t. quoted t >>= λ i. or_wrong (word_of i) >>= λ name. Ok (Attr.Envp name)) attr e in
-    let inner = bind_ok (quoted text.0) (λ i. or_wrong (word_of i) >>= λ name. Ok (Attr.Envp name)) attr text.2 in
-    let name = bind_ok (or_wrong (word_of inner.0)) (λ name. Ok (Attr.Envp name)) attr inner.2 in
+    let text = bind_ok (or_wrong (without_last 93 rest)) (λ t. quoted t >>= λ i. or_wrong (spelled_word i) >>= λ name. Ok (Attr.Envp name)) attr e in
+    let inner = bind_ok (quoted text.0) (λ i. or_wrong (spelled_word i) >>= λ name. Ok (Attr.Envp name)) attr text.2 in
+    let name = bind_ok (or_wrong (spelled_word inner.0)) (λ name. Ok (Attr.Envp name)) attr inner.2 in
     let whole : rest ≡ text.0 ++ 93 ∷ [] = without_last_found 93 rest text.0 (or_wrong_ok (without_last 93 rest) text.0 text.1) in
     let within : text.0 ≡ 34 ∷ (inner.0 ++ 34 ∷ []) = quoted_found text.0 inner.0 inner.1 in
-    let read : word_of inner.0 ≡ Some name.0 = or_wrong_ok (word_of inner.0) name.0 name.1 in
+    let read : spelled_word inner.0 ≡ Some name.0 = or_wrong_ok (spelled_word inner.0) name.0 name.1 in
     let spelled : inner.0 ≡ spell name.0 = word_found inner.0 name.0 read in
     let text_uncut = (front_uncut text.0 (93 ∷ []) (subst (λ t. list_all not_equals t ≡ true) whole h)).0 in
     let inner_uncut = (front_uncut inner.0 (34 ∷ []) (subst (λ t. list_all not_equals t ≡ true) within text_uncut)).0 in

@@ -11,7 +11,8 @@ use Rattle.tm_types.specs.declared.entry.StatField.{StatField}
 use Rattle.tm_types.specs.declared.entry.Attr.{Attr}
 use Rattle.tm_types.specs.declared.entry.Right.{Right}
 use Rattle.tm_line.specs.Arguments.{range_word, number_word}
-use Rattle.tm_cond.specs.Attributes.{after, without_last, named, id_word, field_word, parent_word, parent_table, place_text, attr_text, task_at, field_at, stat_at, count_table, numeric_word, attr_word}
+use Rattle.tm_cond.specs.Attributes.{without_last, named, id_word, field_word, parent_word, parent_table, place_text, attr_text, task_at, field_at, stat_at, count_table, numeric_word, attr_word}
+use Rattle.tm_word.specs.Texts.{after}
 use Rattle.tm_cond.specs.Reading.{or_numeric}
 use Rattle.tm_cond.specs.Written.{has_field, is_attr, is_numeric}
 use Rattle.tm_cond.proofs.PieceLaws.{then_some, map_some, either_some, named_fits}

@@ -7,9 +7,9 @@ use Rattle.std.proofs.Math.Seq.{take-append_seam, get_or-append_seam, take-lengt
 use Rattle.std.proofs.lemmas.List.{length-append, take_more}
 use Rattle.tm_word.specs.Words.{Text}
 use Rattle.tm_types.specs.declared.entry.LineKind.{LineKind}
-use Rattle.tm_rules.specs.Equality.{texts_equal}
+use Rattle.tm_word.specs.Texts.{texts_equal, after}
 use Rattle.tm_rules.proofs.EqualityLaws.{same_texts}
-use Rattle.tm_cond.specs.Attributes.{or_wrong, after, ends_in, without_last, quoted, named}
+use Rattle.tm_cond.specs.Attributes.{or_wrong, ends_in, without_last, quoted, named}
 
 -- ---- options
 

@@ -10,8 +10,8 @@ use Rattle.tm_types.specs.declared.entry.Attr.{Attr}
 use Rattle.tm_types.specs.declared.entry.Right.{Right}
 use Rattle.tm_types.specs.declared.unions.NameUnion.{NameUnion}
 use Rattle.tm_types.specs.declared.unions.NumberUnion.{NumberUnion}
-use Rattle.tm_rules.specs.Equality.{texts_equal}
-use Rattle.tm_line.specs.Lines.{◌>>=◌}
+use Rattle.tm_word.specs.Texts.{texts_equal}
+use Rattle.tm_word.specs.Gives.{◌>>=◌}
 use Rattle.tm_line.specs.Arguments.{kinded, group_word, pattern_word, number_word}
 use Rattle.tm_line.proofs.Steps.{bind_ok, done, ok_is, kinded_ok, both, all}
 use Rattle.tm_line.proofs.GroupLaws.{group_found, group_again}

@@ -22,7 +22,7 @@ use Rattle.tm_types.specs.declared.unions.NameUnion.{NameUnion}
 use Rattle.tm_types.specs.declared.unions.NumberUnion.{NumberUnion}
 use Rattle.tm_line.specs.Printing.{number_spelling}
 use Rattle.tm_line.specs.Written.{is_number}
-use Rattle.tm_line.specs.WholeWords.{is_solid, is_word}
+use Rattle.tm_word.specs.Texts.{is_solid, is_word}
 use Rattle.tm_line.proofs.Steps.{both, all}
 use Rattle.tm_line.proofs.WholeLaws.{solid_append, word_from, spell_solid, spelled_solid, pattern_solid, number_is}
 use Rattle.tm_cond.specs.Attributes.{id_text, field_text, kind_text, place_text, attr_text}

@@ -3,30 +3,23 @@ use Rattle.std.specs.Prelude.{ℕ, ◌-◌, ◌^◌, ◌==◌, nat_lt, ◌&&◌,
 use Rattle.std.specs.Option.{option_or}
 use Rattle.std.specs.Fmt.{decimal}
 use Rattle.tm_word.specs.Words.{Text}
-use Rattle.tm_word.specs.Spelling.{spell}
+use Rattle.tm_word.specs.Spelling.{spell, spelled_word}
+use Rattle.tm_number.specs.Numbers.{plain_of}
 use Rattle.tm_types.specs.declared.entry.LineKind.{LineKind}
 use Rattle.tm_types.specs.declared.entry.IdField.{IdField}
 use Rattle.tm_types.specs.declared.entry.StatPlace.{StatPlace}
 use Rattle.tm_types.specs.declared.entry.StatField.{StatField}
 use Rattle.tm_types.specs.declared.entry.FileKindWord.{FileKindWord}
 use Rattle.tm_types.specs.declared.entry.Attr.{Attr}
-use Rattle.tm_rules.specs.Equality.{texts_equal}
-use Rattle.tm_pattern.specs.Reading.{word_of}
-use Rattle.tm_line.specs.Lines.{◌>>=◌}
-use Rattle.tm_line.specs.Arguments.{kinded, plain_word}
+use Rattle.tm_word.specs.Texts.{texts_equal, after}
+use Rattle.tm_word.specs.Gives.{◌>>=◌}
+use Rattle.tm_line.specs.Lines.{or_kind}
 
 -- Pieces of a word
 
 -- what is there, or else the condition is wrong
 abbrev pub or_wrong : {A : Type 0} → Option A → Result A LineKind
-or_wrong (Some x) = Ok x
-or_wrong None = Err LineKind.Condition
-
--- the text after this front
-abbrev pub after : Text → Text → Option Text
-after [] text = Some text
-after (a ∷ front) [] = None
-after (a ∷ front) (b ∷ text) = if a == b then after front text else None
+or_wrong found = or_kind LineKind.Condition found
 
 -- the text without its last byte, where that is this one
 abbrev pub ends_in : ℕ → Text → Bool
@@ -169,7 +162,7 @@ other_word text = named other_table text
 unfoldable pub argv_word : Text → Result Attr LineKind
 argv_word rest = do
   digits ← or_wrong (without_last 93 rest)
-  n ← kinded LineKind.Condition (plain_word (2 ^ 32) digits)
+  n ← or_wrong (plain_of (2 ^ 32) digits)
   Ok (Attr.Argv n)
 
 -- an environment name, a spelled word in double quotes before the closing bracket
@@ -177,7 +170,7 @@ unfoldable pub envp_word : Text → Result Attr LineKind
 envp_word rest = do
   text ← or_wrong (without_last 93 rest)
   inner ← quoted text
-  name ← or_wrong (word_of inner)
+  name ← or_wrong (spelled_word inner)
   Ok (Attr.Envp name)
 
 -- what is there, or what the other gives

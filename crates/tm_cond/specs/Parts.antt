@@ -1,7 +1,10 @@
 -- The parts of a condition, by its right side.
-use Rattle.std.specs.Prelude.{Bool, false, not, ◌&&◌, ◌==◌, is_some}
+use Rattle.std.specs.Prelude.{Bool, false, not, ◌&&◌, ◌==◌, List, Option, is_some, option_map}
 use Rattle.std.specs.Bool.{beq}
 use Rattle.std.specs.Option.{option_map_or}
+use Rattle.std.specs.List.{find}
+use Rattle.tm_word.specs.Words.{Word}
+use Rattle.tm_word.specs.Texts.{texts_equal}
 use Rattle.tm_types.specs.declared.entry.Attr.{Attr}
 use Rattle.tm_types.specs.declared.entry.FileKindWord.{FileKindWord}
 use Rattle.tm_types.specs.declared.unions.Groups.{Groups}
@@ -12,6 +15,10 @@ use Rattle.tm_types.specs.declared.request.Request.{Request}
 use Rattle.tm_rules.specs.Equality.{kind_place}
 use Rattle.tm_rules.specs.Group.{name_in, number_in}
 use Rattle.tm_rules.specs.Condition.{is_execute, judged, number_of, word_of, stat_kind, first_of_all}
+
+-- the value of the first name of an environment that is this one
+abbrev pub value_in : List (Word × Word) → Word → Option Word
+value_in environment name = option_map (λ pair. pair.1) (find (λ pair. texts_equal pair.0 name) environment)
 
 -- the attribute is a number of the argument
 abbrev pub number_holds : Groups → Proc → Request → Attr → Bool → NumberUnion → Bool

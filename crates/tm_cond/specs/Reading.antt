@@ -11,8 +11,8 @@ use Rattle.tm_types.specs.declared.entry.Clause.{Clause}
 use Rattle.tm_types.specs.declared.entry.Cond.{Cond}
 use Rattle.tm_types.specs.declared.unions.NameUnion.{NameUnion}
 use Rattle.tm_types.specs.declared.unions.NumberUnion.{NumberUnion}
-use Rattle.tm_rules.specs.Equality.{texts_equal}
-use Rattle.tm_line.specs.Lines.{◌>>=◌}
+use Rattle.tm_word.specs.Texts.{texts_equal}
+use Rattle.tm_word.specs.Gives.{◌>>=◌}
 use Rattle.tm_line.specs.Arguments.{kinded, group_word, pattern_word, number_word}
 use Rattle.tm_line.specs.Printing.{number_spelling}
 use Rattle.tm_cond.specs.Attributes.{or_wrong, quoted, without_last, named, numeric_word, attr_word, attr_text, kind_word, kind_text}

@@ -1,14 +1,14 @@
 //! The attributes of a process and its request.
-ghost use Rattle.std.specs.Prelude.{◌≡◌, ℕ, List, option_map};
-ghost use Rattle.std.specs.List.{find};
+ghost use Rattle.std.specs.Prelude.{◌≡◌};
 ghost use Rattle.std.specs.Option.{option_copied};
-ghost use Rattle.tm_rules.specs.Equality.{texts_equal, stat_place, field_place, kind_place};
+ghost use Rattle.tm_rules.specs.Equality.{stat_place, field_place, kind_place};
 ghost use Rattle.tm_rules.specs.Condition.{id_of, stat_value, stat_kind, first_of_all, number_of, word_of};
+ghost use Rattle.tm_cond.specs.Parts.{value_in};
 
-use tm_rules::{is_execute, texts_equal};
+use tm_rules::is_execute;
 use tm_types::entry::{Attr, FileKindWord, IdField, StatField, StatPlace};
 use tm_types::request::{Proc, Request, Stat};
-use tm_word::Word;
+use tm_word::{Word, texts_equal};
 
 // The id of a process that a condition names.
 fn id_of(field: IdField, process: &Proc) -> u32
@@ -107,7 +107,7 @@ pub fn first_kind(stats: &[Stat], place: StatPlace) -> Option<FileKindWord>
 
 // The value of the first environment name that is this one.
 fn value_of<'a>(environment: &'a [(Word, Word)], name: &Word) -> Option<&'a Word>
-    ensures { option_copied result ≡ option_map (λ (pair : List ℕ × List ℕ). pair.1) (find (λ (pair : List ℕ × List ℕ). texts_equal pair.0 name.now) environment.now) }
+    ensures { option_copied result ≡ value_in environment.now name.now }
 {
     for (own, value) in environment {
         if texts_equal(own, name) {
@@ -148,16 +148,35 @@ pub fn number_of(attr: &Attr, process: &Proc, request: &Request) -> Option<u64>
     }
 }
 
-/// The word of a named attribute, where the request has it.
+/// The word of a named attribute, where the request has it: real path, arguments and environment for an execute alone.
 #[tactic(auto, unfolding(tm_rules::specs::Condition::word_of))]
 pub fn word_of<'a>(attr: &Attr, request: &'a Request) -> Option<&'a Word>
     ensures { option_copied result ≡ word_of attr.now request.now }
 {
     let attributes = request.attributes();
+    let executes = is_execute(request);
     match attr {
-        Attr::Argv(place) => attributes.argv.get(*place as usize),
-        Attr::Envp(name) => value_of(attributes.envp.as_slice(), name),
-        Attr::RealPath => attributes.real_path.as_ref(),
+        Attr::Argv(place) => {
+            if executes {
+                attributes.argv.get(*place as usize)
+            } else {
+                None
+            }
+        }
+        Attr::Envp(name) => {
+            if executes {
+                value_of(attributes.envp.as_slice(), name)
+            } else {
+                None
+            }
+        }
+        Attr::RealPath => {
+            if executes {
+                attributes.real_path.as_ref()
+            } else {
+                None
+            }
+        }
         Attr::Target => attributes.target.as_ref(),
         Attr::Task(_) | Attr::Argc | Attr::Envc | Attr::Stat(_, _) | Attr::Kind(_) => None,
     }

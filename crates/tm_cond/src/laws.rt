@@ -3,7 +3,7 @@ ghost use Rattle.std.specs.Prelude.{◌≡◌, List, true, Ok};
 ghost use Rattle.tm_word.specs.Words.{Text};
 ghost use Rattle.tm_types.specs.declared.entry.Cond.{Cond};
 ghost use Rattle.std.specs.List.{list_all};
-ghost use Rattle.tm_line.specs.WholeWords.{is_word};
+ghost use Rattle.tm_word.specs.Texts.{is_word};
 ghost use Rattle.tm_cond.specs.Reading.{cond_of, cond_words};
 ghost use Rattle.tm_cond.specs.Written.{is_cond};
 
@@ -12,5 +12,6 @@ ghost use Rattle.tm_cond.specs.Written.{is_cond};
 pub fn round_trip()
     ensures again { (cond : Cond) → is_cond cond ≡ true → cond_of (cond_words cond) ≡ Ok cond }
     ensures words { (cond : Cond) → is_cond cond ≡ true → list_all is_word (cond_words cond) ≡ true }
-    ensures normal { (words : List Text) (cond : Cond) → cond_of words ≡ Ok cond → (is_cond cond ≡ true) × (cond_of (cond_words cond) ≡ Ok cond) }
+    ensures normal { (words : List Text) (cond : Cond) → cond_of words ≡ Ok cond →
+        (is_cond cond ≡ true) × (cond_of (cond_words cond) ≡ Ok cond) }
 {}

@@ -1,15 +1,15 @@
 //! Reading attributes, the left words of conditions.
 ghost use Rattle.std.specs.Prelude.{◌≡◌};
-ghost use Rattle.tm_line.specs.Lines.{Gives};
+ghost use Rattle.tm_word.specs.Gives.{Gives, GivesNow};
+ghost use Rattle.tm_line.specs.Lines.{line_cause};
 ghost use Rattle.tm_cond.specs.Attributes.{named, place_text, task_at, field_at, stat_at, count_table, numeric_word, other_word, argv_word, envp_word, attr_word};
 
-use crate::words::{after, closed, field_word, id_word, parent_word, quoted};
+use crate::words::{closed, field_word, id_word, parent_word, quoted};
 use std::alloc::Global;
-use tm_line::plain_number;
-use tm_pattern::spelled_word;
-use tm_rules::bytes_equal;
+use tm_number::plain_number;
 use tm_types::entry::{Attr, LineKind, StatField, StatPlace};
 use tm_types::step::LineFault;
+use tm_word::{after, bytes_equal, spelled_word};
 
 /// What stands in front of a file's attributes.
 pub fn place_text(place: StatPlace) -> &'static [u8]
@@ -26,13 +26,9 @@ pub fn place_text(place: StatPlace) -> &'static [u8]
 fn task_at(text: &[u8]) -> Option<Attr>
     ensures { result ≡ task_at text.now }
 {
-    match after(b"task.", text) {
-        Some(rest) => match id_word(rest) {
-            Some(field) => Some(Attr::Task(field)),
-            None => None,
-        },
-        None => None,
-    }
+    let rest = after(b"task.", text)?;
+    let field = id_word(rest)?;
+    Some(Attr::Task(field))
 }
 
 fn field_at(place: StatPlace, text: &[u8]) -> Option<StatField>
@@ -49,13 +45,9 @@ fn field_at(place: StatPlace, text: &[u8]) -> Option<StatField>
 fn stat_at(place: StatPlace, text: &[u8]) -> Option<Attr>
     ensures { result ≡ stat_at place text.now }
 {
-    match after(place_text(place), text) {
-        Some(rest) => match field_at(place, rest) {
-            Some(field) => Some(Attr::Stat(place, field)),
-            None => None,
-        },
-        None => None,
-    }
+    let rest = after(place_text(place), text)?;
+    let field = field_at(place, rest)?;
+    Some(Attr::Stat(place, field))
 }
 
 fn count_word(text: &[u8]) -> Option<Attr>
@@ -115,20 +107,19 @@ fn other_word(text: &[u8]) -> Option<Attr>
 // The place of an argument, a plain number below 2^32, and the closing bracket.
 #[tactic(auto, unfolding(crate::specs::Attributes::argv_word))]
 fn argv_word(rest: &[u8]) -> Result<Attr, LineFault>
-    ensures { Gives (λ attr. attr) result (argv_word rest.now) }
+    ensures { GivesNow line_cause (λ attr. attr) result (argv_word rest.now) }
 {
     let digits = closed(b']', rest)?;
-    match plain_number(digits) {
-        Ok(place) => Ok(Attr::Argv(place)),
-        Err(LineFault::NoMemory) => Err(LineFault::NoMemory),
-        Err(LineFault::Kind(_)) => Err(LineFault::Kind(LineKind::Condition)),
+    match plain_number(4_294_967_296, digits) {
+        Some(place) => Ok(Attr::Argv(place as u32)),
+        None => Err(LineFault::Kind(LineKind::Condition)),
     }
 }
 
 // An environment name, a spelled word in double quotes, and the closing bracket.
 #[tactic(auto, unfolding(crate::specs::Attributes::envp_word))]
 fn envp_word(alloc: Global, rest: &[u8]) -> Result<Attr, LineFault>
-    ensures { Gives (λ attr. attr) result (envp_word rest.now) }
+    ensures { Gives line_cause (λ attr. attr) result (envp_word rest.now) }
 {
     let text = closed(b']', rest)?;
     let inner = quoted(text)?;
@@ -141,7 +132,7 @@ fn envp_word(alloc: Global, rest: &[u8]) -> Result<Attr, LineFault>
 /// Reads a left word. Errors: `Condition`.
 #[tactic(auto, unfolding(crate::specs::Attributes::attr_word))]
 pub fn attr_word(alloc: Global, text: &[u8]) -> Result<Attr, LineFault>
-    ensures { Gives (λ attr. attr) result (attr_word text.now) }
+    ensures { Gives line_cause (λ attr. attr) result (attr_word text.now) }
 {
     if let Some(attr) = numeric_word(text) {
         return Ok(attr);

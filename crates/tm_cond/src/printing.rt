@@ -1,6 +1,5 @@
 //! Printing conditions.
 ghost use Rattle.std.specs.Prelude.{◌≡◌, ◌++◌, [], ◌∷◌, map, IfOk, OnOk, OnErr};
-ghost use Rattle.std.specs.Fmt.{decimal};
 ghost use Rattle.tm_word.specs.Spelling.{spell};
 ghost use Rattle.tm_word.specs.Printing.{spelled_pattern};
 ghost use Rattle.tm_line.specs.Lines.{spaced};
@@ -49,7 +48,8 @@ fn field_text(field: StatField) -> &'static [u8]
     }
 }
 
-fn kind_text(kind: FileKindWord) -> &'static [u8]
+/// The name of a type of file.
+pub fn kind_text(kind: FileKindWord) -> &'static [u8]
     ensures { result.now ≡ kind_text kind }
 {
     match kind {
@@ -114,6 +114,24 @@ fn push_attr(alloc: Global, attr: &Attr, out: &mut Vec<u8>) -> Result<(), NoMemo
         Attr::RealPath => out.extend_from_slice(b"exec.realpath"),
         Attr::Target => out.extend_from_slice(b"symlink.target"),
     }
+}
+
+// How an attribute is written.
+fn attr_text(alloc: Global, attr: &Attr) -> Result<Vec<u8>, NoMemory>
+    ensures { IfOk result (λ text. text.items ≡ attr_text attr.now) }
+{
+    let mut text = Vec::new(alloc);
+    push_attr(alloc, attr, &mut text)?;
+    Ok(text)
+}
+
+/// Appends an attribute as it is written. After want of memory `out` is as before.
+pub fn print_attr(alloc: Global, attr: &Attr, out: &mut Vec<u8>) -> Result<(), NoMemory>
+    ensures ok { OnOk result (out.new.items ≡ out.old.items ++ attr_text attr.now) }
+    ensures err { OnErr result (out.new.items ≡ out.old.items) }
+{
+    let text = attr_text(alloc, attr)?;
+    out.extend_from_slice(&text)
 }
 
 // Appends a right side.
@@ -196,85 +214,4 @@ pub fn print_cond(alloc: Global, cond: &Cond, out: &mut Vec<u8>) -> Result<(), N
 {
     let text = cond_text(alloc, cond)?;
     out.extend_from_slice(&text)
-}
-
-#[cfg(test)]
-mod tests {
-    use super::*;
-    use crate::read_cond;
-    use std::alloc::AllocError;
-    use tm_types::entry::LineKind;
-    use tm_types::step::LineFault;
-    use tm_word::normal_words;
-
-    // The printed conditions of a line; none where a word is no condition.
-    fn printed(alloc: Global, line: &[u8]) -> Result<Option<Vec<u8>>, NoMemory> {
-        let words = normal_words(alloc, line)?;
-        match read_cond(alloc, &words) {
-            Ok(cond) => {
-                let mut out = Vec::new(alloc);
-                print_cond(alloc, &cond, &mut out)?;
-                Ok(Some(out))
-            }
-            Err(LineFault::NoMemory) => Err(AllocError),
-            Err(LineFault::Kind(kind)) => match kind {
-                LineKind::Condition => Ok(None),
-                _ => Err(AllocError),
-            },
-        }
-    }
-
-    #[test]
-    fn conditions_of_accepted_lines(rt: HostRuntime) -> Result<(), NoMemory> {
-        for line in [
-            " path1.type!=directory task.uid=0",
-            " path1.ino=1 path1.dev_minor=0x10",
-            " path2.parent.uid=0 exec.envp[\"X\"]!=NULL path2.parent.uid=0",
-            " exec.realpath!=\"/a\" exec.argv[1]!=\"\\*\" path1.parent.perm=01777",
-            " symlink.target=\"a\\-b\" task.uid=0x0 path2.dev_major=8",
-            " exec.envp[\"A\\040B\"]!=\"c\\\\d\" exec.argv[0]=\"\" grant_log=no",
-        ] {
-            match printed(rt.alloc(), line.as_bytes())? {
-                Some(out) => assert_eq!(rt; out.as_slice(), line.as_bytes(), "at {line}"),
-                None => assert!(rt; false, "no condition: {line}"),
-            }
-        }
-        Ok(())
-    }
-
-    #[test]
-    fn conditions_in_normal_form(rt: HostRuntime) -> Result<(), NoMemory> {
-        for (line, text) in [
-            (
-                "grant_log=yes path1.parent.perm=01777  exec.realpath=@GRP",
-                " path1.parent.perm=01777 exec.realpath=@GRP grant_log=yes",
-            ),
-            (
-                "task.gid=0X1f task.uid!=00017 path1.major=5-5",
-                " task.gid=0x1F task.uid!=017 path1.major=5",
-            ),
-        ] {
-            match printed(rt.alloc(), line.as_bytes())? {
-                Some(out) => assert_eq!(rt; out.as_slice(), text.as_bytes(), "at {line}"),
-                None => assert!(rt; false, "no condition: {line}"),
-            }
-        }
-        Ok(())
-    }
-
-    #[test]
-    fn conditions_of_refused_lines(rt: HostRuntime) -> Result<(), NoMemory> {
-        for line in [
-            "task.uid=0 exec.argv[01]=\"x\"",
-            "exec.argv[4294967296]=\"a\"",
-            "exec.envp[X]=\"a\"",
-            "path1.parent.type=file",
-            "task.uid==0",
-            "grant_log=yes task.uid=0 grant_log=no",
-        ] {
-            let found = printed(rt.alloc(), line.as_bytes())?;
-            assert!(rt; found.is_none(), "at {line}");
-        }
-        Ok(())
-    }
 }

@@ -1,8 +1,8 @@
 //! Reading conditions.
-ghost use Rattle.std.specs.Prelude.{◌≡◌, ◌==◌, Some, None, []};
-ghost use Rattle.std.specs.List.{position};
-ghost use Rattle.tm_line.specs.Lines.{Gives};
-ghost use Rattle.tm_cond.specs.Reading.{quoted_name, name_or_group, or_numeric, right_word, left_side, sides, clause_word, log_word, logged, with_word, cond_with, cond_of};
+ghost use Rattle.std.specs.Prelude.{◌≡◌, ◌⊎◌, option_map, IfErr};
+ghost use Rattle.tm_word.specs.Gives.{Gives};
+ghost use Rattle.tm_line.specs.Lines.{line_cause};
+ghost use Rattle.tm_cond.specs.Reading.{quoted_name, name_or_group, or_numeric, right_word, left_side, sides, clause_word, log_word, with_word, cond_of};
 ghost use Rattle.tm_line.specs.Arguments.{number_word};
 
 use crate::left::{attr_word, numeric_word};
@@ -10,44 +10,49 @@ use crate::words::{kind_word, quoted, without_last};
 use std::alloc::Global;
 use tm_line::{group_word, number_word, pattern_word};
 use tm_list::Seq;
-use tm_rules::bytes_equal;
 use tm_types::entry::{Attr, Clause, Cond, LineKind, Right};
 use tm_types::step::LineFault;
 use tm_types::unions::NameUnion;
-use tm_word::Text;
+use tm_word::{Text, bytes_equal, place_of};
+
+// Whatever was wrong, the condition is; want of memory stays.
+fn as_condition(fault: LineFault) -> LineFault
+    ensures { line_cause result ≡ option_map (λ kind. LineKind.Condition) (line_cause fault) }
+{
+    match fault {
+        LineFault::NoMemory => LineFault::NoMemory,
+        LineFault::Kind(_) => LineFault::Kind(LineKind::Condition),
+    }
+}
 
 // A pattern in double quotes, possibly empty.
 #[tactic(auto, unfolding(crate::specs::Reading::quoted_name))]
 fn quoted_name(alloc: Global, text: &[u8]) -> Result<NameUnion, LineFault>
-    ensures { Gives (λ name. name) result (quoted_name text.now) }
+    ensures { Gives line_cause (λ name. name) result (quoted_name text.now) }
 {
     let inner = quoted(text)?;
-    match pattern_word(alloc, inner) {
-        Ok(pattern) => Ok(NameUnion::One(pattern)),
-        Err(LineFault::NoMemory) => Err(LineFault::NoMemory),
-        Err(LineFault::Kind(_)) => Err(LineFault::Kind(LineKind::Condition)),
-    }
+    let pattern = pattern_word(alloc, inner).map_err(as_condition)?;
+    Ok(NameUnion::One(pattern))
 }
 
 // A pattern in double quotes, or `@GROUP`.
 #[tactic(auto, unfolding(crate::specs::Reading::name_or_group))]
 fn name_or_group(alloc: Global, text: &[u8]) -> Result<NameUnion, LineFault>
-    ensures { Gives (λ name. name) result (name_or_group text.now) }
+    ensures { Gives line_cause (λ name. name) result (name_or_group text.now) }
 {
     match text {
         [] => Err(LineFault::Kind(LineKind::Condition)),
-        [b'@', group @ ..] => match group_word(alloc, group) {
-            Ok(word) => Ok(NameUnion::Group(word)),
-            Err(LineFault::NoMemory) => Err(LineFault::NoMemory),
-            Err(LineFault::Kind(_)) => Err(LineFault::Kind(LineKind::Condition)),
-        },
+        [b'@', group @ ..] => {
+            let word = group_word(alloc, group).map_err(as_condition)?;
+            Ok(NameUnion::Group(word))
+        }
         _ => quoted_name(alloc, text),
     }
 }
 
 // A number argument, or a numeric attribute.
 fn number_or_attr(alloc: Global, text: &[u8]) -> Result<Right, LineFault>
-    ensures { Gives (λ right. right) result (or_numeric (number_word text.now) text.now) }
+    ensures { Gives line_cause (λ right. right) result (or_numeric (number_word text.now) text.now) }
 {
     match number_word(alloc, text) {
         Ok(number) => Ok(Right::Numbers(number)),
@@ -62,7 +67,7 @@ fn number_or_attr(alloc: Global, text: &[u8]) -> Result<Right, LineFault>
 // A right side, by the attribute on the left.
 #[tactic(auto, unfolding(crate::specs::Reading::right_word))]
 fn right_word(alloc: Global, left: &Attr, text: &[u8]) -> Result<Right, LineFault>
-    ensures { Gives (λ right. right) result (right_word left.now text.now) }
+    ensures { Gives line_cause (λ right. right) result (right_word left.now text.now) }
 {
     match left {
         Attr::Kind(_) => match kind_word(text) {
@@ -99,7 +104,7 @@ fn left_side(text: &[u8]) -> (&[u8], bool)
 // The clause of the text before the first `=` and the text after it.
 #[tactic(auto, unfolding(crate::specs::Reading::sides))]
 fn sides(alloc: Global, left: &[u8], text: &[u8]) -> Result<Clause, LineFault>
-    ensures { Gives (λ clause. clause) result (sides (left_side left.now) text.now) }
+    ensures { Gives line_cause (λ clause. clause) result (sides (left_side left.now) text.now) }
 {
     let (word, equal) = left_side(left);
     let left = attr_word(alloc, word)?;
@@ -107,19 +112,12 @@ fn sides(alloc: Global, left: &[u8], text: &[u8]) -> Result<Clause, LineFault>
     Ok(Clause { left, equal, right })
 }
 
-// Where the first `=` stands.
-fn first_equals(word: &[u8]) -> Option<usize>
-    ensures { result ≡ position (λ b. b == 61) word.now }
-{
-    word.iter().position(|byte| *byte == b'=')
-}
-
-// A clause.
+// A clause, cut at the first `=`.
 #[tactic(auto, unfolding(crate::specs::Reading::clause_word))]
 fn clause_word(alloc: Global, word: &[u8]) -> Result<Clause, LineFault>
-    ensures { Gives (λ clause. clause) result (clause_word word.now) }
+    ensures { Gives line_cause (λ clause. clause) result (clause_word word.now) }
 {
-    match first_equals(word) {
+    match place_of(b'=', word) {
         Some(place) => sides(alloc, &word[..place], &word[place + 1..]),
         None => Err(LineFault::Kind(LineKind::Condition)),
     }
@@ -141,7 +139,7 @@ fn log_word(word: &[u8]) -> Option<bool>
 
 // One more word.
 fn with_word(alloc: Global, cond: Cond, word: &[u8]) -> Result<Cond, LineFault>
-    ensures { Gives (λ next. next) result (with_word (log_word word.now) cond word.now) }
+    ensures { Gives line_cause (λ next. next) result (with_word (log_word word.now) cond word.now) }
 {
     let Cond {
         mut clauses,
@@ -168,7 +166,8 @@ fn with_word(alloc: Global, cond: Cond, word: &[u8]) -> Result<Cond, LineFault>
 /// Errors: `Condition` exactly where a word isn't in the grammar or `grant_log` stands twice; or want of memory.
 #[tactic(auto, unfolding(crate::specs::Reading::cond_of, crate::specs::Reading::cond_from))]
 pub fn read_cond(alloc: Global, words: &[Text]) -> Result<Cond, LineFault>
-    ensures { Gives (λ cond. cond) result (cond_of words.now) }
+    ensures exact { Gives line_cause (λ cond. cond) result (cond_of words.now) }
+    ensures kind { IfErr result (λ fault. (fault ≡ LineFault.Kind LineKind.Condition) ⊎ (fault ≡ LineFault.NoMemory)) }
 {
     let mut cond = Cond {
         clauses: Seq::new(alloc),

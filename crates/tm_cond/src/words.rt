@@ -1,29 +1,18 @@
 //! Pieces of a condition's word, and the words of one table.
 ghost use Rattle.std.specs.Prelude.{◌≡◌, Some, None, MatchOption};
-ghost use Rattle.tm_line.specs.Lines.{Gives};
-ghost use Rattle.tm_cond.specs.Attributes.{or_wrong, after, without_last, quoted, id_word, field_word, parent_word, kind_word};
+ghost use Rattle.tm_word.specs.Gives.{GivesNow};
+ghost use Rattle.tm_line.specs.Lines.{line_cause};
+ghost use Rattle.tm_cond.specs.Attributes.{or_wrong, without_last, quoted, id_word, field_word, parent_word, kind_word};
 
-use tm_rules::bytes_equal;
 use tm_types::entry::{FileKindWord, IdField, LineKind, StatField};
 use tm_types::step::LineFault;
-
-/// The text after this front.
-pub fn after<'a>(front: &[u8], text: &'a [u8]) -> Option<&'a [u8]>
-    ensures { MatchOption result (after front.now text.now ≡ None) (λ rest. after front.now text.now ≡ Some rest.now) }
-{
-    match front {
-        [] => Some(text),
-        [a, front @ ..] => match text {
-            [] => None,
-            [b, text @ ..] => { if *a == *b { after(front, text) } else { None } }
-        },
-    }
-}
+use tm_word::bytes_equal;
 
 /// The text without its last byte, where that is this one.
 #[tactic(auto, unfolding(crate::specs::Attributes::without_last))]
 pub fn without_last(byte: u8, text: &[u8]) -> Option<&[u8]>
-    ensures { MatchOption result (without_last byte text.now ≡ None) (λ front. without_last byte text.now ≡ Some front.now) }
+    ensures { MatchOption result (without_last byte text.now ≡ None)
+        (λ front. without_last byte text.now ≡ Some front.now) }
 {
     let length = text.len();
     if length > 0 && text[length - 1] == byte {
@@ -35,7 +24,7 @@ pub fn without_last(byte: u8, text: &[u8]) -> Option<&[u8]>
 
 /// The text without its last byte, which has to be this one. Errors: `Condition`.
 pub fn closed(byte: u8, text: &[u8]) -> Result<&[u8], LineFault>
-    ensures { Gives (λ front. front.now) result (or_wrong (without_last byte text.now)) }
+    ensures { GivesNow line_cause (λ front. front.now) result (or_wrong (without_last byte text.now)) }
 {
     match without_last(byte, text) {
         Some(front) => Ok(front),
@@ -45,7 +34,7 @@ pub fn closed(byte: u8, text: &[u8]) -> Result<&[u8], LineFault>
 
 /// What stands between two double quotes, the first byte and the last one. Errors: `Condition`.
 pub fn quoted(text: &[u8]) -> Result<&[u8], LineFault>
-    ensures { Gives (λ inner. inner.now) result (quoted text.now) }
+    ensures { GivesNow line_cause (λ inner. inner.now) result (quoted text.now) }
 {
     match text {
         [b'"', rest @ ..] => closed(b'"', rest),

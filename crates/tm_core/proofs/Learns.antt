@@ -22,21 +22,21 @@ use Rattle.tm_types.specs.declared.policy.Profile.{Profile}
 use Rattle.tm_rules.specs.Policy.{profile_of, namespace_named, changed_at, with_domain, same_line, adding}
 use Rattle.tm_rules.specs.Changes.{learn, learned_domain}
 use Rattle.tm_policy.proofs.LearnLaws.{IsLearned, learned}
-use Rattle.tm_core.specs.Verdict.{verdict}
-use Rattle.tm_core.specs.Queries.{no_queries}
-use Rattle.tm_core.specs.Run.{Situation, Situations, at_start}
-use Rattle.tm_core.specs.Steps.{Applied, fits_entry, on_policy, unfit, apply}
-use Rattle.tm_core.specs.Legal.{Scene}
+use Rattle.tm_legal.specs.Verdict.{verdict}
+use Rattle.tm_rules.specs.Queries.{no_queries}
+use Rattle.tm_legal.specs.Run.{Situation, Situations, at_start}
+use Rattle.tm_legal.specs.Steps.{Applied, fits_entry, on_policy, unfit, apply}
+use Rattle.tm_legal.specs.Legal.{Scene}
 use Rattle.tm_core.specs.Judging.{IsOther}
 use Rattle.tm_core.specs.Silent.{IsSilentProfile, IsSilentEntry, IsSilent}
-use Rattle.tm_core.specs.Still.{is_plain_request, is_plain_item, is_plain_trace}
+use Rattle.tm_core.specs.Plain.{is_plain_request, is_plain_item, is_plain_trace}
 use Rattle.tm_core.specs.Owing.{OwesLearn}
 use Rattle.tm_core.specs.Stands.{asked_of}
-use Rattle.tm_core.specs.Play.{Player, Way, Begun, Stage, Settled, settle, going_on, on_way, look_at, passed, first_look, after_step, stage_event, take_event, tree_event, editor_event, player_event, end_tree, event, turn, turns, start_of, IsAlone}
+use Rattle.tm_legal.specs.Play.{Player, Way, InProgress, Stage, Settled, settle, going_on, on_way, look_at, passed, first_look, after_step, stage_event, take_event, tree_event, editor_event, player_event, end_tree, event, turn, turns, start_of, IsAlone}
 use Rattle.tm_core.proofs.SilentLaws.{all_get}
 use Rattle.tm_core.proofs.VerdictLaws.{AreLearns, asks_learn}
 use Rattle.tm_core.proofs.Walking.{going_more}
-use Rattle.tm_core.proofs.Still.{map-holds, then-holds, so-holds, get-holds, set-holds, unwrap-holds, not-true}
+use Rattle.tm_core.proofs.Holds.{map-holds, then-holds, so-holds, get-holds, set-holds, unwrap-holds, not-true}
 
 -- A Learn keeps a policy silent
 
@@ -123,22 +123,22 @@ module _ (g : Grammar) (p : Player) (d : ℕ) (line : Entry) where
 pub other-plain : (request : Request) → is_plain_request request ≡ true → IsOther request
 other-plain request plain = let parts = and_parts (not (is_execute request)) (not (is_manual request)) plain in record { no_execute = not-true (is_execute request) parts.0; no_manual = not-true (is_manual request) parts.1 }
 
-abbrev pub OwesAtMost : Begun → Type 0
+abbrev pub OwesAtMost : InProgress → Type 0
 OwesAtMost b = (b.stage ≡ Stage.Owing []) ⊎ OwesLearn b
 
 then-is : {A B Q : Type 0} (f : A → Option B) (b : B) (o : Option A) → ((x : A) → f x ≡ Some b → Q) → option_and_then f o ≡ Some b → Q
 then-is f b None h is = absurd cc
 then-is f b (Some x) h is = h x is
 
-staged : {A : Type 0} (f : A → Begun) (steps : A → List Step) (b : Begun) → ((x : A) → (f x).stage ≡ Stage.Owing (steps x)) → (o : Option A) → ((x : A) → o ≡ Some x → AreLearns (steps x)) → option_map f o ≡ Some b → OwesAtMost b
+staged : {A : Type 0} (f : A → InProgress) (steps : A → List Step) (b : InProgress) → ((x : A) → (f x).stage ≡ Stage.Owing (steps x)) → (o : Option A) → ((x : A) → o ≡ Some x → AreLearns (steps x)) → option_map f o ≡ Some b → OwesAtMost b
 staged f steps b stages None asks is = absurd cc
-staged f steps b stages (Some x) asks is = subst OwesAtMost (ap (λ (o : Option Begun). unwrap_or o b) is) (go (asks x refl))
+staged f steps b stages (Some x) asks is = subst OwesAtMost (ap (λ (o : Option InProgress). unwrap_or o b) is) (go (asks x refl))
   where
     go : AreLearns (steps x) → OwesAtMost (f x)
     go (inl none) = inl (stages x ∙ ap Stage.Owing none)
     go (inr one) = inr (record { domain = one.0; line = one.1; stage = stages x ∙ ap Stage.Owing one.2; silent = one.3 })
 
-pub look_at-learns : (g : Grammar) (p : Player) (now : Situation) (request : Request) (b : Begun) → p.state.queries ≡ no_queries → IsOther request → look_at g p now request 0 [] ≡ Some b → OwesAtMost b
+pub look_at-learns : (g : Grammar) (p : Player) (now : Situation) (request : Request) (b : InProgress) → p.state.queries ≡ no_queries → IsOther request → look_at g p now request 0 [] ≡ Some b → OwesAtMost b
 unfolding look_at
 look_at-learns g p now request b nobody other is =
     let alone : false ≡ p.state.queries.attached = ap (λ q. q.attached) (sym nobody) in
@@ -181,7 +181,7 @@ module _ (scene : Scene) (alone : IsAlone scene) where
   on_way-learns : (p : Player) (t : ℕ) (way : Way) → Learning scene p → LearnWay way → Learning scene (on_way g p t way)
   on_way-learns p t way h new = record { queries = h.queries; silent = h.silent; ways = set-holds LearnWay p.ways t way h.ways new; long = set-long p.ways t way ∙ h.long; scripts = h.scripts }
 
-  going_on-learns : (way : Way) (b : Begun) → list_all is_plain_item way.items ≡ true → OwesAtMost b → LearnWay (going_on g way b)
+  going_on-learns : (way : Way) (b : InProgress) → list_all is_plain_item way.items ≡ true → OwesAtMost b → LearnWay (going_on g way b)
   going_on-learns way b plain (inl none) = rw none (tt, plain)
   going_on-learns way b plain (inr owes) =
       let waits : Way = record way { begun = Some b } in
@@ -209,14 +209,14 @@ module _ (scene : Scene) (alone : IsAlone scene) where
       (if-some _ (look_at g p (now pid) request 0 [])
       (λ b is. on_way-learns p t _ h (going_on-learns (record way { at = now; items = items }) b both.1 (look_at-learns g p (now pid) request b h.queries (other-plain request both.0) is))))
 
-  after-learn : (p : Player) (t : ℕ) (way : Way) (b : Begun) (d : ℕ) (line : Entry) (s : Settled) → Learning scene p → list_all is_plain_item way.items ≡ true → IsSilentEntry line → IsLearnt g p d line s → Learning scene (on_way g s.player t (going_on g way (after_step g b [] s.number s.reply)))
+  after-learn : (p : Player) (t : ℕ) (way : Way) (b : InProgress) (d : ℕ) (line : Entry) (s : Settled) → Learning scene p → list_all is_plain_item way.items ≡ true → IsSilentEntry line → IsLearnt g p d line s → Learning scene (on_way g s.player t (going_on g way (after_step g b [] s.number s.reply)))
   after-learn p t way b d line s h plain silent made =
       let next : Settled = record { player = record p { state = record p.state { policy = made.policy }; steps = p.steps ++ (Step.Learn d line, Reply.Learn made.reply) ∷ [] }; number = suc (length p.steps); reply = Reply.Learn made.reply } in
       let kept : Learning scene next.player = record { queries = h.queries; silent = learn-silent p.state.policy made.policy d line made.reply h.silent silent made.learns; ways = h.ways; long = h.long; scripts = h.scripts } in
       subst (λ (s : Settled). Learning scene (on_way g s.player t (going_on g way (after_step g b [] s.number s.reply)))) (sym made.is)
       (on_way-learns next.player t (going_on g way (after_step g b [] next.number next.reply)) kept (going_on-learns way (after_step g b [] next.number next.reply) plain (inl refl)))
 
-  take_event-learns : (p : Player) (t : ℕ) (way : Way) (b : Begun) → Learning scene p → list_all is_plain_item way.items ≡ true → OwesLearn b → IfSome (take_event g p t way b) (Learning scene)
+  take_event-learns : (p : Player) (t : ℕ) (way : Way) (b : InProgress) → Learning scene p → list_all is_plain_item way.items ≡ true → OwesLearn b → IfSome (take_event g p t way b) (Learning scene)
   unfolding stage_event
   take_event-learns p t way b h plain owes =
       rw owes.stage
@@ -228,7 +228,7 @@ module _ (scene : Scene) (alone : IsAlone scene) where
   tree_event-learns p desk zero e h = tt
   tree_event-learns p desk (suc t) e h = then-holds (Learning scene) _ (slice_get p.ways t) (so-holds LearnWay _ (λ way s. by_begun way s.1 way.begun s.0) (slice_get p.ways t) (get-holds LearnWay p.ways t h.ways))
     where
-      by_begun : (way : Way) → list_all is_plain_item way.items ≡ true → (o : Option Begun) → IfSome o OwesLearn → IfSome (option_map_or (take_event g p t way) o (first_look g p desk t way (passed g way.at way.items))) (Learning scene)
+      by_begun : (way : Way) → list_all is_plain_item way.items ≡ true → (o : Option InProgress) → IfSome o OwesLearn → IfSome (option_map_or (take_event g p t way) o (first_look g p desk t way (passed g way.at way.items))) (Learning scene)
       by_begun way plain None is = first_look-learns p desk t way (passed g way.at way.items).0 (passed g way.at way.items).1 e h (passes-plain way.items way.at plain)
       by_begun way plain (Some b) owes = take_event-learns p t way b h plain owes
 

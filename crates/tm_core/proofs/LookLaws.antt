@@ -7,11 +7,11 @@ use Rattle.tm_types.specs.declared.request.Request.{Request}
 use Rattle.tm_types.specs.declared.step.Step.{Step}
 use Rattle.tm_types.specs.declared.verdict.Verdict.{Verdict}
 use Rattle.tm_rules.specs.Grammar.{Grammar}
-use Rattle.tm_core.specs.Run.{Situation, Situations, with_situation, with_ids, forked}
-use Rattle.tm_core.specs.Verdict.{verdict}
+use Rattle.tm_legal.specs.Run.{Situation, Situations, with_situation, with_ids, forked}
+use Rattle.tm_legal.specs.Verdict.{verdict}
 use Rattle.tm_core.specs.Judging.{IsOther}
 use Rattle.tm_core.specs.Machine.{Course}
-use Rattle.tm_core.specs.Play.{passed}
+use Rattle.tm_legal.specs.Play.{passed}
 use Rattle.tm_core.specs.Stands.{begun_with, asked_of, looked, ItemIsOther, CanLook}
 
 module _ (g : Grammar) (course : Course) (now : Situation) (request : Request) where

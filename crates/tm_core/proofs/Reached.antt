@@ -16,27 +16,27 @@ use Rattle.tm_types.specs.declared.verdict.Verdict.{Verdict}
 use Rattle.tm_rules.specs.Grammar.{Grammar}
 use Rattle.tm_core.specs.declared.walk.Attempt.{Attempt}
 use Rattle.tm_core.specs.declared.walk.Walk.{Walk}
-use Rattle.tm_core.specs.Verdict.{verdict}
-use Rattle.tm_core.specs.Run.{Situation, Situations, do_pids}
-use Rattle.tm_core.specs.Legal.{Scene}
-use Rattle.tm_core.specs.Queries.{first_query}
-use Rattle.tm_core.specs.Play.{Player, Way, Begun, passed, going_on, look_at, end_tree, first_look, stage_event, tree_event, player_event, event, turn, turns, on_way, start_of, entered, Stage, Settled, settle, after_step, work_left}
-use Rattle.tm_core.specs.Audit.{audit_text}
+use Rattle.tm_legal.specs.Verdict.{verdict}
+use Rattle.tm_legal.specs.Run.{Situation, Situations, do_pids}
+use Rattle.tm_legal.specs.Legal.{Scene}
+use Rattle.tm_rules.specs.Queries.{first_query}
+use Rattle.tm_legal.specs.Play.{Player, Way, InProgress, passed, going_on, look_at, end_tree, first_look, stage_event, tree_event, player_event, event, turn, turns, on_way, start_of, entered, Stage, Settled, settle, after_step, work_left}
+use Rattle.tm_rules.specs.Audit.{audit_text}
 use Rattle.tm_core.specs.Judging.{IsOther}
 use Rattle.tm_core.specs.Machine.{Course, history_of}
 use Rattle.tm_core.specs.Owing.{OwesLearn, OwesStep, MakesStep}
-use Rattle.tm_core.specs.Steps.{fits_entry}
+use Rattle.tm_legal.specs.Steps.{fits_entry}
 use Rattle.tm_rules.specs.Changes.{learn}
 use Rattle.tm_types.specs.declared.entry.Entry.{Entry}
 use Rattle.tm_core.specs.Silent.{IsSilent}
-use Rattle.tm_core.specs.Still.{is_plain_request, is_plain_item}
+use Rattle.tm_core.specs.Plain.{is_plain_request, is_plain_item}
 use Rattle.tm_core.specs.Stands.{begun_of, begun_with, asked_of, way_of, looked, ItemIsOther, CanLook, FirstLooks, LooksFirst, player_of, IsReached, Answers}
 use Rattle.tm_core.proofs.SilentLaws.{all_get, audit_silent}
 use Rattle.tm_core.proofs.Learns.{Learning, LearnWay, learnt, learn_settles, turns-learn, start-learns}
-use Rattle.tm_core.proofs.Players.{PlayHolds, passed-next, passed-pids, Next}
-use Rattle.tm_core.proofs.Trees.{TreeMoves}
-use Rattle.tm_core.proofs.TakeEvents.{tree-moves}
-use Rattle.tm_core.proofs.PlayLaws.{reached_holds, turns-append, every_lone_event_is_work}
+use Rattle.tm_legal.proofs.Players.{PlayHolds, passed-next, passed-pids, Next}
+use Rattle.tm_legal.proofs.Trees.{TreeMoves}
+use Rattle.tm_legal.proofs.TakeEvents.{tree-moves}
+use Rattle.tm_legal.proofs.PlayLaws.{reached_holds, turns-append, every_lone_event_is_work}
 
 -- Lists
 
@@ -97,10 +97,10 @@ others (Item.Do pid request ∷ items) plain = let parts = and_parts (is_plain_r
 pub idle-way : (walk : Walk) → walk.begun ≡ [] → (way_of walk).begun ≡ None
 idle-way walk e = ap (λ (begun : List Attempt). option_map begun_of (slice_get begun 0)) e
 
-pub busy-way : (walk : Walk) → ¬ (walk.begun ≡ []) → (b : Begun) × ((way_of walk).begun ≡ Some b)
+pub busy-way : (walk : Walk) → ¬ (walk.begun ≡ []) → (b : InProgress) × ((way_of walk).begun ≡ Some b)
 busy-way walk busy = go walk.begun refl
   where
-    go : (begun : List Attempt) → walk.begun ≡ begun → (b : Begun) × ((way_of walk).begun ≡ Some b)
+    go : (begun : List Attempt) → walk.begun ≡ begun → (b : InProgress) × ((way_of walk).begun ≡ Some b)
     go [] e = absurd (busy e)
     go (attempt ∷ begun) e = (begun_of attempt, ap (λ (begun : List Attempt). option_map begun_of (slice_get begun 0)) e)
 
@@ -110,13 +110,13 @@ looks-as : (g : Grammar) (course : Course) (walks : List Walk) (now : Situation)
 unfolding look_at
 looks-as g course walks now request silent = by_domain now.domain
   where
-    by_verdict : (d : ℕ) (o : Option Verdict) → option_map (λ (v : Verdict). let b : Begun = record { now = now; before = d; request = request; retry = 0; looked = []; look = record { version = length (history_of course); mode = v.mode; reason = v.reason; step = v.step; own = []; heard = None }; verdict = v; audit = audit_text g course.policy d now.process request v; after = entered g v.step; stage = Stage.Owing (asked_of g d v) } in b) o ≡ option_map (λ v. begun_with g (length course.made) now d request v (asked_of g d v)) o
+    by_verdict : (d : ℕ) (o : Option Verdict) → option_map (λ (v : Verdict). let b : InProgress = record { now = now; before = d; request = request; retry = 0; looked = []; look = record { version = length (history_of course); mode = v.mode; reason = v.reason; step = v.step; own = []; heard = None }; verdict = v; audit = audit_text g course.policy d now.process request v; after = entered g v.step; stage = Stage.Owing (asked_of g d v) } in b) o ≡ option_map (λ v. begun_with g (length course.made) now d request v (asked_of g d v)) o
     by_verdict d None = refl
     by_verdict d (Some v) =
         let as_long : length (history_of course) ≡ length course.made = len-map {B = Step × Reply} (λ (pair : Made × Reply). (pair.0.step, pair.1)) course.made in
         rw (audit_silent g course.policy d now.process request v silent, as_long) refl
 
-    by_domain : (o : Option ℕ) → option_and_then (λ d. option_map (λ (v : Verdict). let b : Begun = record { now = now; before = d; request = request; retry = 0; looked = []; look = record { version = length (history_of course); mode = v.mode; reason = v.reason; step = v.step; own = []; heard = None }; verdict = v; audit = audit_text g course.policy d now.process request v; after = entered g v.step; stage = Stage.Owing (asked_of g d v) } in b) (verdict g.is_path course.policy false d now.process request)) o ≡ option_and_then (λ d. option_map (λ v. begun_with g (length course.made) now d request v (asked_of g d v)) (verdict g.is_path course.policy false d now.process request)) o
+    by_domain : (o : Option ℕ) → option_and_then (λ d. option_map (λ (v : Verdict). let b : InProgress = record { now = now; before = d; request = request; retry = 0; looked = []; look = record { version = length (history_of course); mode = v.mode; reason = v.reason; step = v.step; own = []; heard = None }; verdict = v; audit = audit_text g course.policy d now.process request v; after = entered g v.step; stage = Stage.Owing (asked_of g d v) } in b) (verdict g.is_path course.policy false d now.process request)) o ≡ option_and_then (λ d. option_map (λ v. begun_with g (length course.made) now d request v (asked_of g d v)) (verdict g.is_path course.policy false d now.process request)) o
     by_domain None = refl
     by_domain (Some d) = by_verdict d (verdict g.is_path course.policy false d now.process request)
 
@@ -151,7 +151,7 @@ module _ (g : Grammar) (course : Course) (walks : List Walk) (t : ℕ) (walk : W
   looking-event new h =
       let seen : look_at g p (h.at h.pid) h.request 0 [] ≡ Some h.looks.begun = looks-as g course walks (h.at h.pid) h.request silent ∙ h.looks.looks in
       let goes : going_on g (record way { at = h.at; items = h.items }) h.looks.begun ≡ way_of new = h.looks.goes in
-      let event_of : Begun → Player = λ b. on_way g p t (going_on g (record way { at = h.at; items = h.items }) b) in
+      let event_of : InProgress → Player = λ b. on_way g p t (going_on g (record way { at = h.at; items = h.items }) b) in
       turn-is ∙ ap (first_look g p false t way) h.passes ∙ ap (option_map event_of) seen ∙ ap (λ (q : Player). Some q) (ap (on_way g p t) goes ∙ sym (same-player new (way_of new) refl))
 
   -- what the event leaves open
@@ -159,7 +159,7 @@ module _ (g : Grammar) (course : Course) (walks : List Walk) (t : ℕ) (walk : W
   unfolding first_look
   can-look next is = by_items (passed g way.at way.items).0 (passed g way.at way.items).1 (sym turn-is ∙ is)
     where
-      some-looked : (now : Situation) (request : Request) (f : Begun → Player) (o : Option Begun) → o ≡ looked g course now request → option_map f o ≡ Some next → IsSome (looked g course now request)
+      some-looked : (now : Situation) (request : Request) (f : InProgress → Player) (o : Option InProgress) → o ≡ looked g course now request → option_map f o ≡ Some next → IsSome (looked g course now request)
       some-looked now request f None e is = absurd cc
       some-looked now request f (Some b) e is = subst IsSome e refl
 
@@ -179,7 +179,7 @@ module _ (g : Grammar) (course : Course) (walks : List Walk) (t : ℕ) (walk : W
   abbrev o : Player
   o = player_of course walks
 
-  own-turn : (b : Begun) (d : ℕ) (line : Entry) (rest : List Step) → (way_of walk).begun ≡ Some b → b.stage ≡ Stage.Owing (Step.Learn d line ∷ rest)
+  own-turn : (b : InProgress) (d : ℕ) (line : Entry) (rest : List Step) → (way_of walk).begun ≡ Some b → b.stage ≡ Stage.Owing (Step.Learn d line ∷ rest)
       → tree_event g o false (suc t) ≡ option_map (λ (s : Settled). on_way g s.player t (going_on g (way_of walk) (after_step g b rest s.number s.reply))) (settle g o (Step.Learn d line))
   unfolding tree_event stage_event
   own-turn b d line rest is owes = rw (map-get way_of walks t walk at, is, owes) refl
@@ -196,7 +196,7 @@ module _ (g : Grammar) (course : Course) (walks : List Walk) (t : ℕ) (walk : W
       let same : player_of later (slice_set walks t new) ≡ on_way g made t (way_of new) = rw (map-set way_of walks t new, len-set walks t new, h.makes.made) refl in
       own-turn h.begun h.domain h.line h.steps h.is h.owes ∙ ap (option_map next) settled ∙ ap (λ (q : Player). Some q) (ap (on_way g made t) goes ∙ sym same)
 
-  own-can : (b : Begun) (d : ℕ) (line : Entry) (rest : List Step) (next : Player) → (way_of walk).begun ≡ Some b → b.stage ≡ Stage.Owing (Step.Learn d line ∷ rest) → tree_event g o false (suc t) ≡ Some next → (fits_entry g line ≡ true) × IsSome (learn course.policy d line)
+  own-can : (b : InProgress) (d : ℕ) (line : Entry) (rest : List Step) (next : Player) → (way_of walk).begun ≡ Some b → b.stage ≡ Stage.Owing (Step.Learn d line ∷ rest) → tree_event g o false (suc t) ≡ Some next → (fits_entry g line ≡ true) × IsSome (learn course.policy d line)
   own-can b d line rest next is owes moves =
       let some = some-of (λ (s : Settled). on_way g s.player t (going_on g (way_of walk) (after_step g b rest s.number s.reply))) (settle g o (Step.Learn d line)) next (sym (own-turn b d line rest is owes) ∙ moves) in
       let made = learnt g o d line some.0 some.1 in
@@ -252,7 +252,7 @@ module _ (scene : Scene) (course : Course) (walks : List Walk) (h : IsReached sc
       go (inr (none, inl idle)) = empty (passed g (way_of walk).at (way_of walk).items).0 (passed g (way_of walk).at (way_of walk).items).1 (passed-pids g (way_of walk).at (way_of walk).items ∙ idle.empty)
       go (inr (none, inr asked)) = absurd cc
 
-  own-moves : (t : ℕ) (walk : Walk) → slice_get walks t ≡ Some walk → (b : Begun) → (way_of walk).begun ≡ Some b → (next : Player) × (tree_event scene.grammar q false (suc t) ≡ Some next)
+  own-moves : (t : ℕ) (walk : Walk) → slice_get walks t ≡ Some walk → (b : InProgress) → (way_of walk).begun ≡ Some b → (next : Player) × (tree_event scene.grammar q false (suc t) ≡ Some next)
   unfolding first_query
   own-moves t walk at b is = go (subst (λ (o : Option Book). TreeMoves scene q t (way_of walk) (tree_event scene.grammar q (is_some o) (suc t))) h.built.alone.book (tree-moves scene h.built.can.grammar q t (way_of walk) holds (map-get way_of walks t walk at) (is_some scene.book) refl))
     where
@@ -265,7 +265,7 @@ module _ (scene : Scene) (course : Course) (walks : List Walk) (h : IsReached sc
   pub owes-step : (t : ℕ) (walk : Walk) → slice_get walks t ≡ Some walk → ¬ (walk.begun ≡ []) → OwesStep course (way_of walk)
   owes-step t walk at busy =
       let begun = busy-way walk busy in
-      let owes : OwesLearn begun.0 = subst (λ (o : Option Begun). IfSome o OwesLearn) begun.1 (learn-way t walk at).0 in
+      let owes : OwesLearn begun.0 = subst (λ (o : Option InProgress). IfSome o OwesLearn) begun.1 (learn-way t walk at).0 in
       let moves = own-moves t walk at begun.0 begun.1 in
       record { begun = begun.0; is = begun.1; owes = owes; can = (own-can scene.grammar course walks t walk at begun.0 owes.domain owes.line [] moves.0 begun.1 owes.stage moves.1).1 }
 

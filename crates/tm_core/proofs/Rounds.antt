@@ -6,14 +6,14 @@ use Rattle.std.proofs.Math.Seq.{drop-cons}
 use Rattle.std.proofs.lemmas.List.{map-append}
 use Rattle.tm_types.specs.declared.step.Turn.{Turn}
 use Rattle.tm_core.specs.declared.walk.Walk.{Walk}
-use Rattle.tm_core.specs.Legal.{Scene, Legal, final_policy}
-use Rattle.tm_core.specs.Play.{Player, event, turn, turns, numbers_to, everybody, rounds, start_of, run_of, NobodyCanMove, Plays}
+use Rattle.tm_legal.specs.Legal.{Scene, Legal, final_policy}
+use Rattle.tm_legal.specs.Play.{Player, event, turn, turns, numbers_to, everybody, rounds, start_of, run_of, NobodyCanMove, Plays}
 use Rattle.tm_core.specs.Machine.{Course}
 use Rattle.tm_core.specs.Stands.{player_of, Answers, IsBuilt, IsReached, IsInRound, IsOver}
 use Rattle.tm_core.proofs.Reached.{trees-are, no-desk}
-use Rattle.tm_core.proofs.Players.{PlayHolds}
-use Rattle.tm_core.proofs.AllPlays.{rounds-hold}
-use Rattle.tm_core.proofs.PlayLaws.{turns-append, rounds-suc, every_play_is_legal, reached_holds}
+use Rattle.tm_legal.proofs.Players.{PlayHolds}
+use Rattle.tm_legal.proofs.AllPlays.{rounds-hold}
+use Rattle.tm_legal.proofs.PlayLaws.{turns-append, rounds-suc, every_play_is_legal, reached_holds}
 
 -- One turn
 

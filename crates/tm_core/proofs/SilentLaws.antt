@@ -19,13 +19,13 @@ use Rattle.tm_types.specs.declared.request.Request.{Request}
 use Rattle.tm_types.specs.declared.verdict.Reason.{Reason}
 use Rattle.tm_types.specs.declared.verdict.EntryPlace.{EntryPlace}
 use Rattle.tm_types.specs.declared.verdict.Verdict.{Verdict}
-use Rattle.tm_rules.specs.Equality.{texts_equal}
+use Rattle.tm_word.specs.Texts.{texts_equal}
 use Rattle.std.specs.Option.{option_and_then}
 use Rattle.tm_rules.specs.Edit.{acl_group}
 use Rattle.tm_rules.specs.Grammar.{Grammar}
 use Rattle.tm_rules.specs.Mode.{config_of, logs_of, slot}
 use Rattle.tm_rules.specs.Policy.{domain_at, namespace_of, namespace_named, namespace_word, profile_of, at_key, empty_namespace}
-use Rattle.tm_core.specs.Audit.{audit_text, audit_in, is_logged, grant_logged}
+use Rattle.tm_rules.specs.Audit.{audit_text, audit_in, is_logged, grant_logged}
 use Rattle.tm_core.specs.Silent.{no_logs, IsSilentProfile, IsSilentEntry, IsSilent}
 
 -- What all have, the one has that is found

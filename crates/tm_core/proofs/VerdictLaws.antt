@@ -36,7 +36,7 @@ use Rattle.tm_types.specs.declared.step.Step.{Step}
 use Rattle.tm_rules.specs.Grammar.{Grammar}
 use Rattle.tm_core.specs.Silent.{IsSilentEntry}
 use Rattle.tm_core.specs.Stands.{AsksNobody, asked_of}
-use Rattle.tm_core.specs.Verdict.{moving, with_line, by_mode, verdict, verdict_in}
+use Rattle.tm_legal.specs.Verdict.{moving, with_line, by_mode, verdict, verdict_in}
 use Rattle.tm_core.specs.Judging.{by_found, IsOther}
 
 by_mode-found : (mode : Mode) (attached : Bool) (domain : Domain) (granting : Option Granting) (line : Entry) (move : Move) (target : Option DomainName) → by_found mode attached domain (option_map found_of granting) line move target ≡ by_mode mode attached domain granting line move target

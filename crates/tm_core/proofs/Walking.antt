@@ -3,11 +3,11 @@ use Rattle.std.proofs.Common.{◌≡◌, ℕ, List, [], ◌∷◌, refl, sym, ap
 use Rattle.tm_types.specs.declared.request.Item.{Item}
 use Rattle.tm_types.specs.declared.request.Request.{Request}
 use Rattle.tm_rules.specs.Grammar.{Grammar}
-use Rattle.tm_core.specs.Run.{Situations, do_pids}
+use Rattle.tm_legal.specs.Run.{Situations, do_pids}
 use Rattle.std.specs.Prelude.{Some, Bool, true, Result, Ok, Err, OnOk, IfOk}
 use Rattle.tm_word.specs.Matching.{is_empty}
 use Rattle.tm_types.specs.declared.step.Step.{Step}
-use Rattle.tm_core.specs.Play.{Stage, Begun, Way, passed, ended_way, going_on}
+use Rattle.tm_legal.specs.Play.{Stage, InProgress, Way, passed, ended_way, going_on}
 
 -- one line more is passed
 pub pass_more : (g : Grammar) (at later start : Situations) (items lines first : List Item) (item : Item) → lines ≡ item ∷ items → passed g later items ≡ passed g at (item ∷ items) → passed g at lines ≡ passed g start first → passed g later items ≡ passed g start first
@@ -22,10 +22,10 @@ pass_met g at later start items lines first item pid request is met same all =
     sym all ∙ ap (passed g at) (is ∙ ap (λ i. i ∷ items) met) ∙ ap (λ l. (l, Item.Do pid request ∷ items)) (sym same)
 
 -- A take that owes nothing ends, and else goes on
-pub going_end : (g : Grammar) (way : Way) (b : Begun) → b.stage ≡ Stage.Owing [] → going_on g way b ≡ ended_way g way b
+pub going_end : (g : Grammar) (way : Way) (b : InProgress) → b.stage ≡ Stage.Owing [] → going_on g way b ≡ ended_way g way b
 going_end g way b stage = rw stage refl
 
-pub going_more : (g : Grammar) (way : Way) (b : Begun) (step : Step) (rest : List Step) → b.stage ≡ Stage.Owing (step ∷ rest) → going_on g way b ≡ record way { begun = Some b }
+pub going_more : (g : Grammar) (way : Way) (b : InProgress) (step : Step) (rest : List Step) → b.stage ≡ Stage.Owing (step ∷ rest) → going_on g way b ≡ record way { begun = Some b }
 going_more g way b step rest stage = rw stage refl
 
 pub empty_is : {A : Type 0} (xs : List A) → is_empty xs ≡ true → xs ≡ []

@@ -10,7 +10,7 @@ use Rattle.tm_types.specs.declared.verdict.Reason.{Reason}
 use Rattle.tm_types.specs.declared.verdict.Move.{Move}
 use Rattle.tm_types.specs.declared.verdict.Verdict.{Verdict}
 use Rattle.tm_rules.specs.Condition.{is_execute, is_manual}
-use Rattle.tm_core.specs.Verdict.{moving, made, by_mode}
+use Rattle.tm_legal.specs.Verdict.{moving, made, by_mode}
 
 -- granted by the entry that was found
 abbrev pub by_place : Option Mode → Found → Move → Option DomainName → Verdict

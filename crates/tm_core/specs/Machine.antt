@@ -4,8 +4,8 @@ use Rattle.tm_types.specs.declared.policy.Policy.{Policy}
 use Rattle.tm_types.specs.declared.step.Made.{Made}
 use Rattle.tm_types.specs.declared.step.Reply.{Reply}
 use Rattle.tm_types.specs.declared.step.Start.{Start}
-use Rattle.tm_core.specs.Queries.{numbered}
-use Rattle.tm_core.specs.Run.{History}
+use Rattle.tm_rules.specs.Queries.{numbered}
+use Rattle.tm_legal.specs.Run.{History}
 
 -- its opening, its policy at the newest version, and its steps with their makers and replies
 pub record Course : Type 0 where

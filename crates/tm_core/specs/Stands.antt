@@ -17,14 +17,14 @@ use Rattle.tm_types.specs.declared.verdict.Verdict.{Verdict}
 use Rattle.tm_rules.specs.Grammar.{Grammar}
 use Rattle.tm_types.specs.declared.policy.Policy.{Policy}
 use Rattle.tm_types.specs.declared.request.Tree.{Tree}
-use Rattle.tm_core.specs.Run.{Situation, Situations, at_start, no_ids, do_pids}
-use Rattle.tm_core.specs.Verdict.{is_granting, verdict}
-use Rattle.tm_core.specs.Legal.{Scene, steps_of_line, steps_of_move}
-use Rattle.tm_core.specs.Play.{Stage, Begun, Way, Player, passed, going_on, entered, event, start_of, turns, numbers_to, rounds, NobodyCanMove, IsAlone, CanPlay}
-use Rattle.tm_core.specs.Queries.{no_queries}
+use Rattle.tm_legal.specs.Run.{Situation, Situations, at_start, no_ids, do_pids}
+use Rattle.tm_legal.specs.Verdict.{is_granting, verdict}
+use Rattle.tm_legal.specs.Legal.{Scene, steps_of_line, steps_of_move}
+use Rattle.tm_legal.specs.Play.{Stage, InProgress, Way, Player, passed, going_on, entered, event, start_of, turns, numbers_to, rounds, NobodyCanMove, IsAlone, CanPlay}
+use Rattle.tm_rules.specs.Queries.{no_queries}
 use Rattle.tm_core.specs.Judging.{IsOther}
 use Rattle.tm_core.specs.Silent.{IsSilent}
-use Rattle.tm_core.specs.Still.{is_plain_trace}
+use Rattle.tm_core.specs.Plain.{is_plain_trace}
 use Rattle.tm_core.specs.Machine.{Course, history_of}
 use Rattle.tm_types.specs.declared.step.Turn.{Turn}
 
@@ -45,7 +45,7 @@ abbrev pub owed_steps : Owed → List Step
 owed_steps owed = option_to_list owed.line ++ option_to_list owed.lead
 
 -- a take on its way has had no look before, and no audit text
-abbrev pub begun_of : Attempt → Begun
+abbrev pub begun_of : Attempt → InProgress
 begun_of attempt =
     record {
       now = situation_of attempt.now;
@@ -79,7 +79,7 @@ abbrev pub asked_of : Grammar → ℕ → Verdict → List Step
 asked_of g before v = steps_of_line g before 0 v ++ (if is_granting v.reason then steps_of_move before v else [])
 
 -- the take that a look without an audit text begins, where it owes these steps
-abbrev pub begun_with : Grammar → ℕ → Situation → ℕ → Request → Verdict → List Step → Begun
+abbrev pub begun_with : Grammar → ℕ → Situation → ℕ → Request → Verdict → List Step → InProgress
 begun_with g version now before request v steps =
     record {
       now = now;
@@ -102,7 +102,7 @@ AsksNobody _ = ⊤
 -- Looks without an audit text
 
 -- a look of a process at a machine's newest version, where nobody is attached
-abbrev pub looked : Grammar → Course → Situation → Request → Option Begun
+abbrev pub looked : Grammar → Course → Situation → Request → Option InProgress
 looked g course now request =
     option_and_then (λ d. option_map (λ v. begun_with g (length course.made) now d request v (asked_of g d v)) (verdict g.is_path course.policy false d now.process request)) now.domain
 
@@ -118,7 +118,7 @@ CanLook g course at _ = ⊤
 
 -- a look of a process, and the take goes on or ends
 pub record Looks (g : Grammar) (course : Course) (now : Situation) (request : Request) (old new : Way) : Type 0 where
-  pub begun : Begun
+  pub begun : InProgress
   pub looks : looked g course now request ≡ Some begun
   pub goes : going_on g old begun ≡ new
 

@@ -1,7 +1,7 @@
 //! The lines that a tree has left.
 ghost use Rattle.std.specs.Prelude.{◌≡◌, [], ◌∷◌, length, not, MatchOption};
 ghost use Rattle.tm_word.specs.Matching.{is_empty};
-ghost use Rattle.tm_core.specs.Run.{do_pids};
+ghost use Rattle.tm_legal.specs.Run.{do_pids};
 
 use std::collections::VecDeque;
 use std::marker::Model;
@@ -18,7 +18,7 @@ pub(crate) struct Lines {
 impl Model for Lines {
     ghost use Rattle.std.specs.Prelude.{◌≡◌, List, length};
     ghost use Rattle.tm_types.specs.declared.request.Item.{Item};
-    ghost use Rattle.tm_core.specs.Run.{do_pids};
+    ghost use Rattle.tm_legal.specs.Run.{do_pids};
 
     ghost Value = { List Item };
 

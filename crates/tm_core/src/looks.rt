@@ -3,9 +3,9 @@ ghost use Rattle.std.specs.Prelude.{◌≡◌, [], Bool, true, false, IfOk, OnOk
 ghost use Rattle.std.specs.List.{AllByRecursion};
 ghost use Rattle.tm_word.specs.Words.{Text};
 ghost use Rattle.tm_rules.specs.Grammar.{Grammar};
-ghost use Rattle.tm_core.specs.Verdict.{verdict};
+ghost use Rattle.tm_legal.specs.Verdict.{verdict};
 ghost use Rattle.tm_core.specs.Judging.{IsOther};
-ghost use Rattle.tm_core.specs.Play.{passed, going_on};
+ghost use Rattle.tm_legal.specs.Play.{passed, going_on};
 ghost use Rattle.tm_core.specs.declared.looks.Told.{Told};
 ghost use Rattle.tm_core.specs.Stands.{situation_of, situations, owed_steps, begun_of, begun_with, looked, Looks, way_of, ItemIsOther, CanLook, LooksFirst};
 

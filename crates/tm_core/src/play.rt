@@ -1,8 +1,8 @@
 //! A play from its first turn to its end, and what it leaves.
 ghost use Rattle.std.specs.Prelude.{◌≡◌, ◌++◌, ◌≤◌, ◌+◌, [], length, if◌then◌else◌, IfOk, OnOk, flat_map, map};
 ghost use Rattle.tm_types.specs.declared.step.Take.{Take};
-ghost use Rattle.tm_core.specs.Legal.{Scene, Legal, final_policy};
-ghost use Rattle.tm_core.specs.Play.{Way, start_of, run_of, turns, work_left, Plays};
+ghost use Rattle.tm_legal.specs.Legal.{Scene, Legal, final_policy};
+ghost use Rattle.tm_legal.specs.Play.{Way, start_of, run_of, turns, work_left, Plays};
 ghost use Rattle.tm_core.specs.Stands.{IsBuilt, IsReached, IsInRound, IsOver, player_of, way_of};
 
 use crate::machine::Machine;

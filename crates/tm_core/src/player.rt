@@ -1,8 +1,8 @@
 //! A machine and a trace at play: one event at a time, by turns.
 ghost use Rattle.std.specs.Prelude.{◌≡◌, ◌<◌, ◌≤◌, ◌+◌, [], suc, length, if◌then◌else◌, IfOk, OnOk, map};
 ghost use Rattle.tm_rules.specs.Few.{IsShort};
-ghost use Rattle.tm_core.specs.Legal.{Scene};
-ghost use Rattle.tm_core.specs.Play.{start_of, event, work_left, IsAlone};
+ghost use Rattle.tm_legal.specs.Legal.{Scene};
+ghost use Rattle.tm_legal.specs.Play.{start_of, event, work_left, IsAlone};
 ghost use Rattle.tm_core.specs.Stands.{Answers, IsReached, player_of, way_of, way_at_start};
 
 use crate::lines::Lines;

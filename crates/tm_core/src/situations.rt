@@ -1,6 +1,6 @@
 //! The processes of a tree by pid: who each is, and the domain that it is in.
 ghost use Rattle.std.specs.Prelude.{◌≡◌, OnOk, Some};
-ghost use Rattle.tm_core.specs.Run.{with_situation, with_ids, forked};
+ghost use Rattle.tm_legal.specs.Run.{with_situation, with_ids, forked};
 ghost use Rattle.tm_core.specs.Stands.{first_situation, situation_of, situations};
 
 use std::alloc::Global;
@@ -9,7 +9,7 @@ use tm_list::NoMemory;
 use tm_types::request::{Ids, Proc};
 
 /// A process, and the number of the domain that it is in.
-#[derive(Clone, Copy, PartialEq, Eq, Debug)]
+#[derive(Clone, Copy)]
 pub(crate) struct Spot {
     pub process: Proc,
     pub domain: Option<u32>,

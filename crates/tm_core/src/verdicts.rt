@@ -5,7 +5,7 @@ ghost use Rattle.tm_types.specs.declared.request.Proc.{Proc};
 ghost use Rattle.tm_types.specs.declared.verdict.Move.{Move};
 ghost use Rattle.tm_rules.specs.Learned.{learned_line};
 ghost use Rattle.tm_rules.specs.Search.{found};
-ghost use Rattle.tm_core.specs.Verdict.{moving, denied, with_line, made, by_mode, verdict};
+ghost use Rattle.tm_legal.specs.Verdict.{moving, denied, with_line, made, by_mode, verdict};
 ghost use Rattle.tm_core.specs.Judging.{by_place, by_found, IsOther};
 
 use std::alloc::Global;
@@ -87,7 +87,7 @@ fn with_line(verdict: Verdict, line: Entry) -> Verdict
 }
 
 /// What the mode says where no entry grants; `name` stands for the path of an execute in the line to be learned or asked for.
-#[tactic(auto, unfolding(crate::specs::Verdict::by_mode))]
+#[tactic(auto, unfolding(tm_legal::specs::Verdict::by_mode))]
 fn by_mode(
     alloc: Global,
     mode: Mode,

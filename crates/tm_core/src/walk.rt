@@ -4,10 +4,10 @@ ghost use Rattle.tm_word.specs.Matching.{is_empty};
 ghost use Rattle.std.specs.Option.{option_to_list};
 ghost use Rattle.tm_types.specs.declared.request.Item.{Item};
 ghost use Rattle.tm_rules.specs.Grammar.{Grammar};
-ghost use Rattle.tm_core.specs.Verdict.{is_granting};
-ghost use Rattle.tm_core.specs.Legal.{look_grants, steps_of_line, steps_of_move};
+ghost use Rattle.tm_legal.specs.Verdict.{is_granting};
+ghost use Rattle.tm_legal.specs.Legal.{look_grants, steps_of_line, steps_of_move};
 ghost use Rattle.tm_types.specs.declared.step.Step.{Step};
-ghost use Rattle.tm_core.specs.Play.{Stage, Begun, taken, ended_way, going_on, entered};
+ghost use Rattle.tm_legal.specs.Play.{Stage, InProgress, taken, ended_way, going_on, entered};
 ghost use Rattle.tm_core.specs.Stands.{situation_of, situations, owed_steps, begun_of, begun_with, asked_of, PassesLine, Passes, AsksNobody};
 
 use crate::grants;
@@ -229,7 +229,7 @@ fn end(
     takes: &mut Seq<Take>,
     attempt: Attempt,
 ) -> Result<(), NoMemory>
-    ensures { OnOk result ((g : Grammar) (items : List Item) (was : Option Begun) → ended_way g (record { at = situations spots.old; items = items; begun = was; takes = takes.old }) (begun_of attempt) ≡ record { at = situations spots.new; items = items; begun = None; takes = takes.new }) }
+    ensures { OnOk result ((g : Grammar) (items : List Item) (was : Option InProgress) → ended_way g (record { at = situations spots.old; items = items; begun = was; takes = takes.old }) (begun_of attempt) ≡ record { at = situations spots.new; items = items; begun = None; takes = takes.new }) }
 {
     let Attempt {
         now,
@@ -299,7 +299,7 @@ fn first_of(begun: Vec<Attempt>) -> Option<Attempt>
 /// where it owes nothing.
 pub(crate) fn take_owed(begun: &mut Seq<Attempt>) -> Option<(Step, Attempt)>
     ensures first { IfSome result (λ next. option_map begun_of (slice_get begun.old 0) ≡ Some (record (begun_of next.1) { stage = Stage.Owing (next.0 ∷ owed_steps next.1.owed) })) }
-    ensures some { (b : Begun) (step : Step) (rest : List Step) → option_map begun_of (slice_get begun.old 0) ≡ Some b → b.stage ≡ Stage.Owing (step ∷ rest) → IsSome result }
+    ensures some { (b : InProgress) (step : Step) (rest : List Step) → option_map begun_of (slice_get begun.old 0) ≡ Some b → b.stage ≡ Stage.Owing (step ∷ rest) → IsSome result }
     ensures left { begun.new ≡ [] }
 {
     let list = begun.take();
@@ -343,7 +343,7 @@ pub(crate) fn go_on(
     attempt: Attempt,
 ) -> Result<(), NoMemory>
     requires { begun.old ≡ [] }
-    ensures { OnOk result ((g : Grammar) (items : List Item) (was : Option Begun) → going_on g (record { at = situations spots.old; items = items; begun = was; takes = takes.old }) (begun_of attempt) ≡ record { at = situations spots.new; items = items; begun = option_map begun_of (slice_get begun.new 0); takes = takes.new }) }
+    ensures { OnOk result ((g : Grammar) (items : List Item) (was : Option InProgress) → going_on g (record { at = situations spots.old; items = items; begun = was; takes = takes.old }) (begun_of attempt) ≡ record { at = situations spots.new; items = items; begun = option_map begun_of (slice_get begun.new 0); takes = takes.new }) }
 {
     if owes_nothing(&attempt.owed) {
         end(alloc, spots, takes, attempt)

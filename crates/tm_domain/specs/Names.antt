@@ -6,40 +6,30 @@ use Rattle.tm_pattern.specs.declared.reading.PatternFault.{PatternFault}
 use Rattle.tm_pattern.specs.Reading.{pattern_of}
 use Rattle.tm_types.specs.declared.entry.Prefer.{Prefer}
 use Rattle.tm_word.specs.Words.{Text}
+use Rattle.tm_word.specs.Texts.{begins_with_byte}
 use Rattle.tm_rules.specs.Words.{DomainName}
 use Rattle.tm_rules.specs.Transition.{By_preference, target_name, has_parent, parent_name, is_namespace_word}
 use Rattle.tm_domain.specs.declared.DomainFault.{DomainFault}
 use Rattle.tm_domain.specs.declared.DomainFault.TheVariants.{NoNamespace, BadPath, TooLong, NoMemory}
 
--- what a call returned is what reading gives, unless memory ran out
-abbrev pub Fails : {Y : Type 0} → DomainFault → Result Y DomainFault → Type 0
-Fails NoMemory read = Unit {0}
-Fails fault read = read ≡ Err fault
+-- a fault's cause in the text; want of memory has none
+abbrev pub domain_cause : DomainFault → Option DomainFault
+domain_cause NoMemory = None
+domain_cause fault = Some fault
 
-abbrev pub Gives : {Y : Type 0} → Result Y DomainFault → Result Y DomainFault → Type 0
-Gives (Ok x) read = read ≡ Ok x
-Gives (Err fault) read = Fails fault read
-
--- the same of a call that only judges the text
-abbrev pub Judges : Text → Result (Unit {0}) DomainFault → Result Text DomainFault → Type 0
-Judges text (Ok nothing) read = read ≡ Ok text
-Judges text (Err fault) read = Fails fault read
-
+-- the text is a domain name
 abbrev pub is_read : Result Text DomainFault → Bool
 is_read (Ok name) = true
 is_read (Err fault) = false
 
--- a path is a pattern that begins with `/`
-abbrev pub begins_with_slash : Text → Bool
-begins_with_slash [] = false
-begins_with_slash (b ∷ text) = b == 47
-
+-- a pattern was read
 abbrev pub is_pattern : Result (List Component) PatternFault → Bool
 is_pattern (Ok pattern_) = true
 is_pattern (Err fault) = false
 
+-- a path is a pattern that begins with `/`
 unfoldable pub is_path : Text → Bool
-is_path text = begins_with_slash text && is_pattern (pattern_of text)
+is_path text = begins_with_byte 47 text && is_pattern (pattern_of text)
 
 -- the place of the first word that is no path, counted from this number
 abbrev pub bad_path : ℕ → List Text → Option ℕ

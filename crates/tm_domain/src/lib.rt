@@ -6,28 +6,35 @@
 ghost use Rattle.std.specs.Prelude.{◌≡◌, ◌+◌, ◌-◌, ◌<◌, ◌≤◌, ◌==◌, ℕ, List, [], ◌∷◌, ◌++◌, length, Bool, true, not, ◌&&◌, ◌||◌, ◌↔◌, codes, false, Some, None, Ok, Err, MatchOption, IfOk, IsTrue};
 ghost use Rattle.std.specs.List.{position, slice_split, suffix_len, list_any};
 ghost use Rattle.tm_word.specs.Words.{Text};
-ghost use Rattle.tm_rules.specs.Equality.{texts_equal};
+ghost use Rattle.tm_word.specs.Texts.{texts_equal, begins_with_byte};
 ghost use Rattle.tm_rules.specs.Policy.{namespace_word, last_word};
 ghost use Rattle.tm_rules.specs.Transition.{child_name, initial_name, root_name, is_namespace_word, is_domain_name};
-ghost use Rattle.tm_domain.specs.Names.{Gives, Judges, is_read, short_name, begins_with_slash, is_path, bad_path, domain_of, parent_of, preferred_name};
+ghost use Rattle.tm_word.specs.Gives.{Gives};
+ghost use Rattle.tm_domain.specs.Names.{domain_cause, is_read, short_name, is_path, bad_path, domain_of, parent_of, preferred_name};
 ghost use Rattle.tm_domain.specs.declared.DomainFault.TheVariants.{NoMemory};
 
 use std::alloc::{AllocError, AllocFailed, Global};
+use thiserror::Error;
 use tm_list::{Copied, NoMemory, Seq};
 use tm_pattern::{PatternFault, read_pattern};
 use tm_types::entry::Prefer;
 use tm_types::unions::DomainName;
+use tm_word::{begins_with, bytes_equal, cut_at, place_of};
 
 /// Why a text is no domain name. The faults of the words come in their order, and the length last.
-#[derive(Clone, Copy, PartialEq, Eq, Debug)]
+#[derive(Clone, Copy, PartialEq, Eq, Debug, Error)]
 pub enum DomainFault {
     /// The first word is neither `<kernel>` nor a path in angle brackets.
+    #[error("a domain name begins with <kernel> or a path in angle brackets")]
     NoNamespace,
     /// The word with this number, counted from 1 after the namespace word, is the first that is no path.
+    #[error("word {0} after the namespace word is no path")]
     BadPath(usize),
     /// The name is over 4,085 bytes long.
+    #[error("a domain name of over 4,085 bytes")]
     TooLong,
     /// Memory ran out.
+    #[error("out of memory")]
     NoMemory,
 }
 
@@ -47,22 +54,12 @@ impl<T: Drop> From<AllocFailed<T>> for DomainFault {
     }
 }
 
-/// Whether a text begins with `/`.
-fn begins_with_slash(text: &[u8]) -> bool
-    ensures { result ≡ begins_with_slash text.now }
-{
-    match text {
-        [] => false,
-        [first, ..] => *first == b'/',
-    }
-}
-
 /// Whether a word is a path: a pattern that begins with `/`.
 #[tactic(auto, unfolding(crate::specs::Names::is_path))]
 fn is_path(alloc: Global, word: &[u8]) -> Result<bool, NoMemory>
     ensures { IfOk result (λ path. path ≡ is_path word.now) }
 {
-    if !begins_with_slash(word) {
+    if !begins_with(b'/', word) {
         return Ok(false);
     }
     match read_pattern(alloc, word) {
@@ -95,42 +92,9 @@ fn is_namespace_word(alloc: Global, word: &[u8]) -> Result<bool, NoMemory>
             if is_path(alloc, inner)? {
                 Ok(true)
             } else {
-                Ok(is_text(inner, b"kernel"))
+                Ok(bytes_equal(inner, b"kernel"))
             }
         }
-    }
-}
-
-/// Whether two texts are equal.
-fn is_text(word: &[u8], text: &[u8]) -> bool
-    ensures { result ≡ texts_equal word.now text.now }
-{
-    match word {
-        [] => match text {
-            [] => true,
-            [_, ..] => false,
-        },
-        [a, word @ ..] => match text {
-            [] => false,
-            [b, text @ ..] => *a == *b && is_text(word, text),
-        },
-    }
-}
-
-/// Where the first space stands.
-fn first_space(text: &[u8]) -> Option<usize>
-    ensures { result ≡ position (λ b. b == 32) text.now }
-{
-    text.iter().position(|byte| *byte == b' ')
-}
-
-/// The text before and after the first space.
-fn cut_at_space(text: &[u8]) -> Option<(&[u8], &[u8])>
-    ensures { MatchOption result (slice_split (λ b. b == 32) text.now ≡ text.now ∷ []) (λ cut. (slice_split (λ b. b == 32) text.now ≡ cut.0.now ∷ slice_split (λ b. b == 32) cut.1.now) × (length cut.1.now < length text.now)) }
-{
-    match first_space(text) {
-        Some(place) => Some((&text[..place], &text[place + 1..])),
-        None => None,
     }
 }
 
@@ -140,7 +104,7 @@ fn bad_path(alloc: Global, text: &[u8]) -> Result<Option<usize>, NoMemory>
 {
     let mut rest = text;
     let mut number = 1;
-    while let Some((word, after)) = cut_at_space(rest) {
+    while let Some((word, after)) = cut_at(b' ', rest) {
         if !is_path(alloc, word)? {
             return Ok(Some(number));
         }
@@ -156,7 +120,7 @@ fn bad_path(alloc: Global, text: &[u8]) -> Result<Option<usize>, NoMemory>
 
 /// Refuses a name that is too long.
 fn judge_length(text: &[u8]) -> Result<(), DomainFault>
-    ensures { Judges text.now result (short_name text.now) }
+    ensures { Gives domain_cause (λ nothing. text.now) result (short_name text.now) }
 {
     if text.len() <= 4085 {
         Ok(())
@@ -168,9 +132,9 @@ fn judge_length(text: &[u8]) -> Result<(), DomainFault>
 /// Refuses a text that is no domain name.
 #[tactic(auto, unfolding(crate::specs::Names::domain_of))]
 fn judge(alloc: Global, text: &[u8]) -> Result<(), DomainFault>
-    ensures { Judges text.now result (domain_of text.now) }
+    ensures { Gives domain_cause (λ nothing. text.now) result (domain_of text.now) }
 {
-    match cut_at_space(text) {
+    match cut_at(b' ', text) {
         None => {
             if is_namespace_word(alloc, text)? {
                 judge_length(text)
@@ -192,7 +156,7 @@ fn judge(alloc: Global, text: &[u8]) -> Result<(), DomainFault>
 
 /// The text as a domain name, unless it is none.
 fn judged(alloc: Global, text: Seq<u8>) -> Result<DomainName, DomainFault>
-    ensures exact { Gives result (domain_of text) }
+    ensures exact { Gives domain_cause (λ x. x) result (domain_of text) }
     ensures made { IfOk result (λ name. name ≡ text) }
 {
     judge(alloc, text.bytes())?;
@@ -204,7 +168,7 @@ fn judged(alloc: Global, text: Seq<u8>) -> Result<DomainName, DomainFault>
 /// Errors: `NoNamespace` where the first word is no namespace word, else `BadPath(n)` where word n after it is the first that is no
 /// path, else `TooLong` over 4,085 bytes.
 pub fn read_domain(alloc: Global, text: &[u8]) -> Result<DomainName, DomainFault>
-    ensures exact { Gives result (domain_of text.now) }
+    ensures exact { Gives domain_cause (λ x. x) result (domain_of text.now) }
     ensures made { IfOk result (λ name. name ≡ text.now) }
 {
     judge(alloc, text)?;
@@ -237,7 +201,7 @@ pub fn namespace(name: &DomainName) -> &[u8]
     ensures { result.now ≡ namespace_word name.now }
 {
     let text = name.bytes();
-    match first_space(text) {
+    match place_of(b' ', text) {
         Some(place) => &text[..place],
         None => text,
     }
@@ -266,7 +230,7 @@ fn bracketed(alloc: Global, path: &[u8]) -> Result<Seq<u8>, NoMemory>
 
 /// The name below a domain: where an execute of the path leads by itself. Refused as by `read_domain`.
 pub fn child(alloc: Global, name: &DomainName, path: &[u8]) -> Result<DomainName, DomainFault>
-    ensures exact { Gives result (domain_of (child_name name.now path.now)) }
+    ensures exact { Gives domain_cause (λ x. x) result (domain_of (child_name name.now path.now)) }
     ensures made { IfOk result (λ made. made ≡ child_name name.now path.now) }
 {
     let made = joined(alloc, name.bytes(), path)?;
@@ -275,7 +239,7 @@ pub fn child(alloc: Global, name: &DomainName, path: &[u8]) -> Result<DomainName
 
 /// The name directly below the namespace word of a domain: where initialize leads. Refused as by `read_domain`.
 pub fn initial(alloc: Global, name: &DomainName, path: &[u8]) -> Result<DomainName, DomainFault>
-    ensures exact { Gives result (domain_of (initial_name name.now path.now)) }
+    ensures exact { Gives domain_cause (λ x. x) result (domain_of (initial_name name.now path.now)) }
     ensures made { IfOk result (λ made. made ≡ initial_name name.now path.now) }
 {
     let made = joined(alloc, namespace(name), path)?;
@@ -284,7 +248,7 @@ pub fn initial(alloc: Global, name: &DomainName, path: &[u8]) -> Result<DomainNa
 
 /// The namespace word of a path: where reset leads. Refused as by `read_domain`.
 pub fn root(alloc: Global, path: &[u8]) -> Result<DomainName, DomainFault>
-    ensures exact { Gives result (domain_of (root_name path.now)) }
+    ensures exact { Gives domain_cause (λ x. x) result (domain_of (root_name path.now)) }
     ensures made { IfOk result (λ made. made ≡ root_name path.now) }
 {
     let made = bracketed(alloc, path)?;
@@ -313,7 +277,7 @@ pub fn preferred(
     candidate: &[u8],
     prefer: &Prefer,
 ) -> Result<DomainName, DomainFault>
-    ensures exact { Gives result (domain_of (preferred_name name.now candidate.now prefer.now)) }
+    ensures exact { Gives domain_cause (λ x. x) result (domain_of (preferred_name name.now candidate.now prefer.now)) }
     ensures made { IfOk result (λ made. made ≡ preferred_name name.now candidate.now prefer.now) }
 {
     match prefer {
@@ -335,137 +299,3 @@ pub fn grammar()
     ensures same { (text name : List ℕ) → domain_of text ≡ Ok name → name ≡ text }
     ensures right { (text : List ℕ) → is_domain_name is_path text ≡ is_read (domain_of text) }
 {}
-
-#[cfg(test)]
-mod tests {
-    use super::*;
-    use tm_list::Same;
-
-    /// A namespace word and one path, so many bytes long in all.
-    fn long_name(alloc: Global, length: usize) -> Result<DomainName, NoMemory> {
-        let mut text = Vec::from_slice(alloc, b"<kernel> /")?;
-        for _ in 10..length {
-            text.push(b'a')?;
-        }
-        Ok(Seq::from_vec(text))
-    }
-
-    fn name(alloc: Global, text: &str) -> Result<DomainName, NoMemory> {
-        Seq::from_bytes(alloc, text.as_bytes())
-    }
-
-    #[test]
-    fn names_read(rt: HostRuntime) -> Result<(), DomainFault> {
-        let alloc = rt.alloc();
-        for text in [
-            "<kernel>",
-            "<kernel> /sbin/init",
-            "</usr/sbin/sshd>",
-            "</\\*> /\\{b\\}/",
-            "</a>b> /x",
-            "</>",
-            "<kernel> / /",
-        ] {
-            let read = read_domain(alloc, text.as_bytes())?;
-            assert_eq!(rt; read.bytes(), text.as_bytes(), "at {text}");
-        }
-        for (text, fault) in [
-            ("", DomainFault::NoNamespace),
-            ("kernel", DomainFault::NoNamespace),
-            ("<>", DomainFault::NoNamespace),
-            ("<a>", DomainFault::NoNamespace),
-            ("<", DomainFault::NoNamespace),
-            ("/a", DomainFault::NoNamespace),
-            ("</\\q> x", DomainFault::NoNamespace),
-            ("<kernel> x", DomainFault::BadPath(1)),
-            ("<kernel>  /a", DomainFault::BadPath(1)),
-            ("<kernel> /a /\\q b", DomainFault::BadPath(2)),
-            ("<kernel> /a ", DomainFault::BadPath(2)),
-            ("<kernel> /a <kernel>", DomainFault::BadPath(2)),
-        ] {
-            match read_domain(alloc, text.as_bytes()) {
-                Ok(_) => assert!(rt; false, "read: {text}"),
-                Err(found) => assert_eq!(rt; found, fault, "at {text}"),
-            }
-        }
-        Ok(())
-    }
-
-    #[test]
-    fn longest_names(rt: HostRuntime) -> Result<(), DomainFault> {
-        let alloc = rt.alloc();
-        let parent = long_name(alloc, 4082)?;
-        let made = child(alloc, &parent, b"/b")?;
-        assert_eq!(rt; made.len(), 4085);
-        let read = read_domain(alloc, made.bytes())?;
-        assert!(rt; read.same(&made));
-        match child(alloc, &parent, b"/bc") {
-            Ok(_) => assert!(rt; false, "a name of 4,086 bytes is made"),
-            Err(fault) => assert_eq!(rt; fault, DomainFault::TooLong),
-        }
-        match child(alloc, &parent, b"bc") {
-            Ok(_) => assert!(rt; false, "a name with a word that is no path is made"),
-            Err(fault) => assert_eq!(rt; fault, DomainFault::BadPath(2)),
-        }
-        Ok(())
-    }
-
-    #[test]
-    fn words_of_names(rt: HostRuntime) -> Result<(), DomainFault> {
-        let alloc = rt.alloc();
-        for (text, first, last, above) in [
-            ("<kernel>", "<kernel>", "<kernel>", ""),
-            ("<kernel> /a", "<kernel>", "/a", "<kernel>"),
-            ("</s> /a /b/c", "</s>", "/b/c", "</s> /a"),
-        ] {
-            let domain = name(alloc, text)?;
-            assert_eq!(rt; namespace(&domain), first.as_bytes(), "at {text}");
-            assert_eq!(rt; last_word(&domain), last.as_bytes(), "at {text}");
-            match parent(alloc, &domain)? {
-                Some(found) => assert_eq!(rt; found.bytes(), above.as_bytes(), "at {text}"),
-                None => assert_eq!(rt; above, "", "at {text}"),
-            }
-        }
-        Ok(())
-    }
-
-    #[test]
-    fn names_made_from_names(rt: HostRuntime) -> Result<(), DomainFault> {
-        let alloc = rt.alloc();
-        let domain = name(alloc, "</s> /a")?;
-        assert_eq!(rt;
-            child(alloc, &domain, b"/b")?.bytes(),
-            b"</s> /a /b".as_slice()
-        );
-        assert_eq!(rt;
-            initial(alloc, &domain, b"/b")?.bytes(),
-            b"</s> /b".as_slice()
-        );
-        assert_eq!(rt; root(alloc, b"/b")?.bytes(), b"</b>".as_slice());
-        for (prefer, target) in [
-            (Prefer::Keep, "</s> /a"),
-            (Prefer::Child, "</s> /a /b"),
-            (Prefer::Initialize, "</s> /b"),
-            (Prefer::Reset, "</b>"),
-            (Prefer::Parent, "</s>"),
-            (Prefer::Path(name(alloc, "/p")?), "</s> /a /p"),
-            (Prefer::Domain(name(alloc, "<kernel> /k")?), "<kernel> /k"),
-        ] {
-            assert_eq!(rt;
-                preferred(alloc, &domain, b"/b", &prefer)?.bytes(),
-                target.as_bytes(),
-                "at {target}"
-            );
-        }
-        let alone = name(alloc, "<kernel>")?;
-        assert_eq!(rt;
-            preferred(alloc, &alone, b"/b", &Prefer::Parent)?.bytes(),
-            b"<kernel>".as_slice()
-        );
-        match preferred(alloc, &alone, b"*", &Prefer::Reset) {
-            Ok(_) => assert!(rt; false, "a namespace word of no path is made"),
-            Err(fault) => assert_eq!(rt; fault, DomainFault::NoNamespace),
-        }
-        Ok(())
-    }
-}

@@ -10,8 +10,9 @@ use Rattle.tm_types.specs.declared.entry.Attr.{Attr}
 use Rattle.tm_types.specs.declared.entry.Clause.{Clause}
 use Rattle.tm_types.specs.declared.entry.Cond.{Cond}
 use Rattle.tm_types.specs.declared.entry.Entry.{Entry}
-use Rattle.tm_rules.specs.Equality.{texts_equal}
-use Rattle.tm_line.specs.Lines.{◌>>=◌, begins, is_last}
+use Rattle.tm_word.specs.Texts.{texts_equal, begins}
+use Rattle.tm_line.specs.Lines.{is_last}
+use Rattle.tm_word.specs.Gives.{◌>>=◌}
 use Rattle.tm_line.proofs.Steps.{bind_ok, ok_is, both, all}
 use Rattle.tm_file.specs.FileLines.{file_line, file_words, is_file}
 use Rattle.tm_file.specs.Preferences.{no_prefer}

@@ -6,7 +6,7 @@ use Rattle.tm_word.specs.Spelling.{words_of, joined}
 use Rattle.tm_types.specs.declared.entry.Args.{Args}
 use Rattle.tm_types.specs.declared.entry.Perms.{Perms}
 use Rattle.tm_types.specs.declared.entry.Entry.{Entry}
-use Rattle.tm_line.specs.WholeWords.{is_word}
+use Rattle.tm_word.specs.Texts.{is_word}
 use Rattle.tm_line.proofs.Steps.{both, all}
 use Rattle.tm_line.proofs.WholeLaws.{words_again}
 use Rattle.tm_file.specs.FileLines.{file_words, is_file}

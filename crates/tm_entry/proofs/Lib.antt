@@ -1,4 +1,7 @@
 pub mod TextLaws
 pub mod EntryLaws
 pub mod EntryText
+pub mod LiteralLaws
+pub mod LearnedLaws
+pub mod QuietLaws
 mod Examples

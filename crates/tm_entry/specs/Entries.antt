@@ -6,8 +6,9 @@ use Rattle.tm_types.specs.declared.entry.Cond.{Cond}
 use Rattle.tm_types.specs.declared.entry.Entry.{Entry}
 use Rattle.tm_types.specs.declared.entry.LineKind.{LineKind}
 use Rattle.tm_types.specs.declared.entry.Perms.{Perms}
-use Rattle.tm_rules.specs.Equality.{texts_equal}
-use Rattle.tm_line.specs.Lines.{◌>>=◌, begins, is_last}
+use Rattle.tm_word.specs.Texts.{texts_equal, begins}
+use Rattle.tm_line.specs.Lines.{is_last}
+use Rattle.tm_word.specs.Gives.{◌>>=◌}
 use Rattle.tm_file.specs.FileLines.{file_line, file_words, is_file}
 use Rattle.tm_net.specs.NetLines.{net_line, net_words, is_net}
 use Rattle.tm_cond.specs.Reading.{cond_of, cond_words}

@@ -1,32 +1,39 @@
 //! The lines of access control entries: an ACL line of any row and its conditions, read and printed.
 //! Stands on tm_line, tm_file, tm_net and tm_cond, whose grammars and printed forms it joins.
-//! Promises that reading is the grammar with the kind of the first wrong word, that printing appends the one text, and that what is printed is read again as the equal entry.
+//! Promises that reading is the grammar with the kind of the first wrong word, that printing appends the one text, that what is
+//! printed is read again as the equal entry, that each line that is learned can be written, and that a quiet line lets nothing be
+//! executed.
 #![tactic(auto)]
 
-ghost use Rattle.std.specs.Prelude.{◌≡◌, ◌++◌, true, List, Ok, IfOk, OnOk, OnErr};
-ghost use Rattle.tm_word.specs.Words.{Text};
+ghost use Rattle.std.specs.Prelude.{◌≡◌, ◌++◌, true, false, List, Ok, IfOk, OnOk, OnErr};
+ghost use Rattle.tm_word.specs.Words.{Text, Word};
 ghost use Rattle.std.specs.List.{list_all};
 ghost use Rattle.tm_word.specs.Spelling.{words_of, joined};
 ghost use Rattle.tm_types.specs.declared.entry.Entry.{Entry};
-ghost use Rattle.tm_line.specs.Lines.{Gives};
-ghost use Rattle.tm_line.specs.WholeWords.{is_word};
+ghost use Rattle.tm_types.specs.declared.request.Request.{Request};
+ghost use Rattle.tm_rules.specs.Clean.{lets_execute, is_quiet_acl};
+ghost use Rattle.tm_rules.specs.Condition.{is_execute};
+ghost use Rattle.tm_rules.specs.Learned.{learned_line};
+ghost use Rattle.tm_rules.specs.Requests.{is_path_word, is_request};
+ghost use Rattle.tm_domain.specs.Names.{is_path};
+ghost use Rattle.tm_word.specs.Gives.{Gives};
+ghost use Rattle.tm_line.specs.Lines.{line_cause};
+ghost use Rattle.tm_word.specs.Texts.{is_word};
 ghost use Rattle.tm_entry.specs.Entries.{acl_line, entry_of, is_of_file, acl_words, entry_words, is_entry};
 
 use std::alloc::Global;
 use tm_cond::{print_cond, read_cond};
 use tm_file::{file_acl_at, print_file_acl};
-use tm_line::begins;
 use tm_list::NoMemory;
 use tm_net::{net_acl_at, print_net_acl};
-use tm_rules::bytes_equal;
 use tm_types::entry::{Args, Entry, LineKind, Perms};
 use tm_types::step::LineFault;
-use tm_word::Text;
+use tm_word::{Text, begins, bytes_equal};
 
 // A line of any row, and the words after it.
 #[tactic(auto, unfolding(crate::specs::Entries::acl_line))]
 fn acl_at(alloc: Global, words: &[Text]) -> Result<(Args, Perms, &[Text]), LineFault>
-    ensures { Gives (λ x. (x.0, x.1, x.2.now)) result (acl_line words.now) }
+    ensures { Gives line_cause (λ x. (x.0, x.1, x.2.now)) result (acl_line words.now) }
 {
     match words {
         [] => Err(LineFault::Kind(LineKind::Arity)),
@@ -48,7 +55,7 @@ fn acl_at(alloc: Global, words: &[Text]) -> Result<(Args, Perms, &[Text]), LineF
 /// `Arity` where a word is missing or the last one is an unfinished keyword; or want of memory.
 #[tactic(auto, unfolding(crate::specs::Entries::entry_of))]
 pub fn read_entry(alloc: Global, words: &[Text]) -> Result<Entry, LineFault>
-    ensures { Gives (λ entry. entry) result (entry_of words.now) }
+    ensures { Gives line_cause (λ entry. entry) result (entry_of words.now) }
 {
     let (args, perms, rest) = acl_at(alloc, words)?;
     let cond = read_cond(alloc, rest)?;
@@ -72,10 +79,17 @@ fn is_of_file(args: &Args) -> bool
     }
 }
 
-// Appends the words of a line.
+/// Appends the words of an ACL line, its arguments and these permissions, joined by single spaces. After want of memory `out` is as
+/// before.
 #[tactic(auto, unfolding(crate::specs::Entries::acl_words))]
-fn print_acl(alloc: Global, args: &Args, perms: Perms, out: &mut Vec<u8>) -> Result<(), NoMemory>
-    ensures { OnOk result (out.new.items ≡ out.old.items ++ joined (acl_words args.now perms)) }
+pub fn print_acl(
+    alloc: Global,
+    args: &Args,
+    perms: Perms,
+    out: &mut Vec<u8>,
+) -> Result<(), NoMemory>
+    ensures ok { OnOk result (out.new.items ≡ out.old.items ++ joined (acl_words args.now perms)) }
+    ensures err { OnErr result (out.new.items ≡ out.old.items) }
 {
     if is_of_file(args) {
         print_file_acl(alloc, args, perms, out)
@@ -113,100 +127,20 @@ pub fn round_trip()
     ensures words { (entry : Entry) → is_entry entry ≡ true → list_all is_word (entry_words entry) ≡ true }
     ensures text { (entry : Entry) → is_entry entry ≡ true → words_of (joined (entry_words entry)) ≡ entry_words entry }
     ensures read { (words : List Text) (entry : Entry) → entry_of words ≡ Ok entry → is_entry entry ≡ true }
-    ensures normal { (words : List Text) (entry : Entry) → entry_of words ≡ Ok entry → entry_of (entry_words entry) ≡ Ok entry }
+    ensures normal { (words : List Text) (entry : Entry) → entry_of words ≡ Ok entry →
+        entry_of (entry_words entry) ≡ Ok entry }
 {}
 
-#[cfg(test)]
-mod tests {
-    use super::*;
-    use std::alloc::AllocError;
-    use tm_word::normal_words;
+/// What is learned can be written, as a law over every request: the line that is learned for a request that a trace can hold is one
+/// that a line of a policy can write, where the name that stands for the path of an execute is a path of bytes.
+pub fn learned_lines()
+    ensures { (request : Request) (name : Word) → is_request is_path request ≡ true →
+        (is_execute request ≡ true → is_path_word name ≡ true) → is_entry (learned_line request name) ≡ true }
+{}
 
-    // The printed line of the entry that a line is, or why it is none.
-    fn printed(alloc: Global, line: &[u8]) -> Result<Result<Vec<u8>, LineKind>, NoMemory> {
-        let words = normal_words(alloc, line)?;
-        match read_entry(alloc, &words) {
-            Ok(entry) => {
-                let mut out = Vec::new(alloc);
-                print_entry(alloc, &entry, &mut out)?;
-                Ok(Ok(out))
-            }
-            Err(LineFault::NoMemory) => Err(AllocError),
-            Err(LineFault::Kind(kind)) => Ok(Err(kind)),
-        }
-    }
-
-    #[test]
-    fn lines_printed_as_they_are(rt: HostRuntime) -> Result<(), NoMemory> {
-        for line in [
-            "file read /a\\040b task.euid=task.uid exec.envp[\"PATH\"]=\"/bin\"",
-            "network unix seqpacket bind // task.pid=@NG",
-            "misc env A\\040B task.gid!=100-200",
-            "task manual_domain_transition </a> /a path1.ino=1",
-        ] {
-            match printed(rt.alloc(), line.as_bytes())? {
-                Ok(out) => assert_eq!(rt; out.as_slice(), line.as_bytes(), "at {line}"),
-                Err(_) => assert!(rt; false, "no entry: {line}"),
-            }
-        }
-        Ok(())
-    }
-
-    #[test]
-    fn lines_in_normal_form(rt: HostRuntime) -> Result<(), NoMemory> {
-        for (line, text) in [
-            (
-                "file link/link/pivot_root /a 0 grant_log=yes path1.parent.perm=01777 exec.realpath=@GRP",
-                "file link/pivot_root /a 0 path1.parent.perm=01777 exec.realpath=@GRP grant_log=yes",
-            ),
-            (
-                "network inet stream bind 1:2:3:4:5:6:1.2.3.4 0-65535 task.uid=0x0",
-                "network inet stream bind 1:2:3:4:5:6:102:304 0-65535 task.uid=0x0",
-            ),
-            (
-                "file mount /a\\040b /n7 <NULL> 0Xabc path2.dev_major=8",
-                "file mount /a\\040b /n7 <NULL> 0xABC path2.dev_major=8",
-            ),
-        ] {
-            match printed(rt.alloc(), line.as_bytes())? {
-                Ok(out) => assert_eq!(rt; out.as_slice(), text.as_bytes(), "at {line}"),
-                Err(_) => assert!(rt; false, "no entry: {line}"),
-            }
-        }
-        Ok(())
-    }
-
-    #[test]
-    fn kinds_of_refused_lines(rt: HostRuntime) -> Result<(), NoMemory> {
-        for (line, kind) in [
-            ("file getattr // task.uid=abc", LineKind::Condition),
-            (
-                "network unix seqpacket bind x /n35 exec.realpath=\"\"",
-                LineKind::Condition,
-            ),
-            ("misc env a=b path1.ino=1", LineKind::Name),
-            (
-                "file mkblock @G\\040x 1- 0Xabc 1 exec.realpath=\"/bin/\\*\"",
-                LineKind::Number,
-            ),
-            (
-                "network inet stream bind 12345::1 0x50 grant_log=maybe",
-                LineKind::Address,
-            ),
-            (
-                "task manual_domain_transition kernel /a exec.envp[\"\"]=\"a\"",
-                LineKind::Domain,
-            ),
-            (
-                "file mkchar/readx /a @NG 22 1 grant_log=maybe",
-                LineKind::Keyword,
-            ),
-        ] {
-            match printed(rt.alloc(), line.as_bytes())? {
-                Ok(_) => assert!(rt; false, "an entry: {line}"),
-                Err(found) => assert_eq!(rt; found, kind, "at {line}"),
-            }
-        }
-        Ok(())
-    }
-}
+/// Quiet lines, as a law over all words: what is read from the words of an ACL line that doesn't name `execute` among its permissions
+/// lets nothing be executed.
+pub fn quiet_lines()
+    ensures { (words : List Text) (entry : Entry) → is_quiet_acl words ≡ true → entry_of words ≡ Ok entry →
+        lets_execute entry ≡ false }
+{}

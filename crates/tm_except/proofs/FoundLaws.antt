@@ -4,36 +4,35 @@ use Rattle.std.specs.Prelude.{Option, codes, if◌then◌else◌}
 use Rattle.std.specs.List.{list_all}
 use Rattle.std.proofs.lemmas.Bool.{lt-ltb}
 use Rattle.tm_word.specs.Words.{Text, Word, Pattern}
-use Rattle.tm_word.specs.Spelling.{spell}
+use Rattle.tm_word.specs.Spelling.{spell, spelled_word}
+use Rattle.tm_word.specs.Matching.{is_empty}
 use Rattle.tm_word.specs.Printing.{spelled_pattern}
 use Rattle.tm_pattern.specs.Grammar.{is_right}
-use Rattle.tm_pattern.specs.Reading.{word_of}
-use Rattle.tm_pattern.proofs.LexLaws.{word_found}
+use Rattle.tm_word.proofs.Spelled.{word_found, word_small}
 use Rattle.tm_types.specs.declared.entry.LineKind.{LineKind}
 use Rattle.tm_types.specs.declared.policy.ControlKind.{ControlKind}
 use Rattle.tm_types.specs.declared.policy.Control.{Control}
 use Rattle.tm_types.specs.declared.policy.ExceptRule.{ExceptRule}
 use Rattle.tm_types.specs.declared.policy.ExceptLine.{ExceptLine}
-use Rattle.tm_rules.specs.Equality.{texts_equal}
+use Rattle.tm_word.specs.Texts.{texts_equal, begins_with_byte}
 use Rattle.tm_rules.specs.Transition.{is_domain_name}
 use Rattle.tm_domain.specs.Names.{is_path}
-use Rattle.tm_line.specs.Lines.{is_last, word_at}
+use Rattle.tm_line.specs.Lines.{or_kind, is_last, ended, word_at}
 use Rattle.tm_line.specs.Arguments.{group_word, pattern_word, path_word, range_word, addr_range_word, plain_word}
 use Rattle.tm_line.specs.Domains.{domain_to_end}
-use Rattle.tm_line.specs.Written.{is_front, is_group, is_range, is_addr_range}
-use Rattle.tm_line.proofs.Steps.{all, to_not}
+use Rattle.tm_line.specs.Written.{is_group, begins_name, is_range, is_addr_range}
+use Rattle.tm_line.proofs.Steps.{all}
 use Rattle.tm_line.proofs.GroupLaws.{group_found}
 use Rattle.tm_line.proofs.NameArgLaws.{pattern_read}
 use Rattle.tm_line.proofs.NumberArgLaws.{range_read, plain_read}
 use Rattle.tm_line.proofs.AddrArgLaws.{range_read as addr_range_read}
-use Rattle.tm_line.proofs.SpellLaws.{word_small}
 use Rattle.tm_line.proofs.DomainLaws.{to_end_right}
-use Rattle.tm_namespace.specs.Namespaces.{opens, namespace_at, IsNamespace}
-use Rattle.tm_namespace.proofs.NamespaceLaws.{found_is}
-use Rattle.tm_namespace.proofs.Steps.{OkIs, then_ok, if_ok, each_ok, word_ok, ok_of}
+use Rattle.tm_line.specs.Namespaces.{opens, namespace_at, IsNamespace}
+use Rattle.tm_line.proofs.NamespaceLaws.{found_is}
+use Rattle.tm_line.proofs.OkSteps.{OkIs, then_ok, if_ok, each_ok, word_ok, ok_of}
 use Rattle.tm_except.specs.declared.reading.Head.{Head}
-use Rattle.tm_except.specs.Reading.{ended, member_word, word_or_name, literal_word, path_group, number_group, address_group, aggregator, group_line, acl_group, program_by, program_word, any_domain, path_side, name_side, domain_side, control, from_side, program_line, alone, keep_side, keep_line, is_keep, control_sides, control_line, control_word, control_head, head_of, rule_by, rule_at, line, named_line, line_of}
-use Rattle.tm_except.specs.Written.{is_kind, is_program, is_side, is_control, is_literal_path, is_rule}
+use Rattle.tm_except.specs.Reading.{member_word, first_word, literal_word, path_group, number_group, address_group, aggregator, group_line, acl_group, program_by, program_word, any_domain, path_side, name_side, domain_side, control, from_side, program_line, alone, keep_side, keep_line, is_keep, control_sides, control_line, control_word, control_head, head_of, rule_by, rule_at, named_line, line_of}
+use Rattle.tm_except.specs.Written.{is_member, is_first, is_kind, is_program, is_side, is_control, is_literal_path, is_rule}
 
 end_ok : {A : Type 0} (P : A → Type 0) (x : A) (words : List Text) → P x → OkIs P (ended x words)
 end_ok P x [] h = h
@@ -43,9 +42,6 @@ end_ok P x (word ∷ words) h = tt
 
 group_ok : (text : Text) → OkIs (λ g. is_group g ≡ true) (group_word text)
 group_ok text = each_ok (λ g. is_group g ≡ true) (group_word text) (λ g e. (group_found text g e).1)
-
-pattern_ok : (text : Text) → OkIs (λ p. is_right p ≡ true) (pattern_word text)
-pattern_ok text = each_ok (λ p. is_right p ≡ true) (pattern_word text) (λ p e. (pattern_read text p e).1)
 
 range_ok : (text : Text) → OkIs (λ r. is_range r ≡ true) (range_word text)
 range_ok text = each_ok (λ r. is_range r ≡ true) (range_word text) (λ r e. range_read text r e)
@@ -57,48 +53,61 @@ number_ok : (text : Text) → OkIs (λ n. n < 256) (plain_word 256 text)
 number_ok text = each_ok (λ n. n < 256) (plain_word 256 text) (λ n e. plain_read 256 text n e)
 
 abbrev IsMember : Pattern → Type 0
-IsMember member = (is_right member && not (is_front 64 (spelled_pattern member))) ≡ true
+IsMember member = is_member member ≡ true
 
-member_found : (text : Text) (member : Pattern) → is_front 64 text ≡ false → pattern_word text ≡ Ok member → IsMember member
+member_found : (text : Text) (member : Pattern) → begins_name text ≡ true → pattern_word text ≡ Ok member → IsMember member
 member_found text member h e =
     let found = pattern_read text member e in
-    all (is_right member) (not (is_front 64 (spelled_pattern member))) found.1 (to_not (is_front 64 (spelled_pattern member)) (subst (λ (t : Text). is_front 64 t ≡ false) found.0 h))
+    all (is_right member) (begins_name (spelled_pattern member)) found.1 (subst (λ (t : Text). begins_name t ≡ true) found.0 h)
 
 member_ok : (text : Text) → OkIs IsMember (member_word text)
 unfolding member_word
-member_ok text = by_front (is_front 64 text) refl
+member_ok text = by_front (begins_name text) refl
   where
-    by_front : (b : Bool) → is_front 64 text ≡ b → OkIs IsMember (if b then Err LineKind.Name else pattern_word text)
-    by_front true h = tt
-    by_front false h = each_ok IsMember (pattern_word text) (λ member e. member_found text member h e)
+    by_front : (b : Bool) → begins_name text ≡ b → OkIs IsMember (if b then pattern_word text else Err LineKind.Name)
+    by_front true h = each_ok IsMember (pattern_word text) (λ member e. member_found text member h e)
+    by_front false h = tt
+
+abbrev IsFirst : Pattern → Type 0
+IsFirst one = is_first one ≡ true
+
+first_found : (b : ℕ) (text : Text) (one : Pattern) → pattern_word (b ∷ text) ≡ Ok one → IsFirst one
+first_found b text one e =
+    let found = pattern_read (b ∷ text) one e in
+    all (is_right one) (not (is_empty (spelled_pattern one))) found.1 (subst (λ (t : Text). not (is_empty t) ≡ true) found.0 refl)
+
+first_ok : (text : Text) → OkIs IsFirst (first_word text)
+unfolding first_word
+first_ok [] = tt
+first_ok (b ∷ text) = each_ok IsFirst (pattern_word (b ∷ text)) (λ one e. first_found b text one e)
 
 -- the first byte of a name is `/` where its spelling begins so
-front_47 : (word : Word) → is_front 47 (spell word) ≡ true → is_front 47 word ≡ true
+front_47 : (word : Word) → begins_with_byte 47 (spell word) ≡ true → begins_with_byte 47 word ≡ true
 front_47 [] h = absurd cc
 front_47 (b ∷ word) h = by_byte (b == 92) refl (nat_lt 32 b && nat_lt b 127) refl h
   where
-    by_byte : (s : Bool) → (b == 92) ≡ s → (t : Bool) → (nat_lt 32 b && nat_lt b 127) ≡ t → is_front 47 (spell (b ∷ word)) ≡ true → is_front 47 (b ∷ word) ≡ true
-    by_byte true e t f k = absurd (let no : is_front 47 (spell (b ∷ word)) ≡ false = rw e refl in cc)
-    by_byte false e true f k = (let is : is_front 47 (spell (b ∷ word)) ≡ (b == 47) = rw (e, f) refl in sym is ∙ k)
-    by_byte false e false f k = absurd (let no : is_front 47 (spell (b ∷ word)) ≡ false = rw (e, f) refl in cc)
+    by_byte : (s : Bool) → (b == 92) ≡ s → (t : Bool) → (nat_lt 32 b && nat_lt b 127) ≡ t → begins_with_byte 47 (spell (b ∷ word)) ≡ true → begins_with_byte 47 (b ∷ word) ≡ true
+    by_byte true e t f k = absurd (let no : begins_with_byte 47 (spell (b ∷ word)) ≡ false = rw e refl in cc)
+    by_byte false e true f k = (let is : begins_with_byte 47 (spell (b ∷ word)) ≡ (b == 47) = rw (e, f) refl in sym is ∙ k)
+    by_byte false e false f k = absurd (let no : begins_with_byte 47 (spell (b ∷ word)) ≡ false = rw (e, f) refl in cc)
 
-literal_found : (text : Text) (word : Word) → is_front 47 text ≡ true → word_of text ≡ Some word → is_literal_path word ≡ true
+literal_found : (text : Text) (word : Word) → begins_with_byte 47 text ≡ true → spelled_word text ≡ Some word → is_literal_path word ≡ true
 literal_found text word h e =
-    all (is_front 47 word) (list_all (λ b. nat_lt b 256) word) (front_47 word (subst (λ (t : Text). is_front 47 t ≡ true) (word_found text word e) h)) (word_small text word e)
+    all (begins_with_byte 47 word) (list_all (λ b. nat_lt b 256) word) (front_47 word (subst (λ (t : Text). begins_with_byte 47 t ≡ true) (word_found text word e) h)) (word_small text word e)
 
 abbrev IsLiteral : Word → Type 0
 IsLiteral word = is_literal_path word ≡ true
 
 literal_ok : (text : Text) → OkIs IsLiteral (literal_word text)
 unfolding literal_word
-literal_ok text = by_front (is_front 47 text) refl
+literal_ok text = by_front (begins_with_byte 47 text) refl
   where
-    by_word : is_front 47 text ≡ true → (o : Option Word) → word_of text ≡ o → OkIs IsLiteral (word_or_name o)
+    by_word : begins_with_byte 47 text ≡ true → (o : Option Word) → spelled_word text ≡ o → OkIs IsLiteral (or_kind LineKind.Name o)
     by_word h None e = tt
     by_word h (Some word) e = literal_found text word h e
 
-    by_front : (b : Bool) → is_front 47 text ≡ b → OkIs IsLiteral (if b then word_or_name (word_of text) else Err LineKind.Name)
-    by_front true h = by_word h (word_of text) refl
+    by_front : (b : Bool) → begins_with_byte 47 text ≡ b → OkIs IsLiteral (if b then or_kind LineKind.Name (spelled_word text) else Err LineKind.Name)
+    by_front true h = by_word h (spelled_word text) refl
     by_front false h = tt
 
 -- Groups and aggregators
@@ -130,9 +139,9 @@ address_group_ok words =
 aggregator_ok : (words : List Text) → OkIs IsRule (aggregator words)
 unfolding aggregator is_rule
 aggregator_ok words =
-    then_ok _ IsRule (word_at pattern_word words) _ (word_ok (λ p. is_right p ≡ true) pattern_word words pattern_ok)
+    then_ok _ IsRule (word_at first_word words) _ (word_ok IsFirst first_word words first_ok)
     (λ one h. then_ok _ IsRule (word_at literal_word one.1) _ (word_ok IsLiteral literal_word one.1 literal_ok)
-    (λ other k. end_ok IsRule (ExceptRule.Aggregator one.0 other.0) other.1 (all (is_right one.0) (is_literal_path other.0) h k)))
+    (λ other k. end_ok IsRule (ExceptRule.Aggregator one.0 other.0) other.1 (all (is_first one.0) (is_literal_path other.0) h k)))
 
 group_line_ok : (n : ℕ) (words : List Text) → n < 256 → OkIs IsRule (group_line n words)
 unfolding is_rule

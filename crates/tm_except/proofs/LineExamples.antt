@@ -1,14 +1,15 @@
 -- Worked examples: what each form of an exception line gives, and the kind of each wrong one.
 use Rattle.std.proofs.Common.{◌≡◌, true, false, [], ◌∷◌, Some, None, Ok, Err, refl}
 use Rattle.std.specs.Prelude.{codes}
-use Rattle.tm_word.specs.Spelling.{words_of}
+use Rattle.tm_word.specs.Spelling.{words_of, spelled_word, word_of}
+use Rattle.tm_word.specs.Spelling.{head_of as byte_head}
 use Rattle.tm_number.specs.declared.Base.{Base}
 use Rattle.tm_number.specs.declared.Addr.{Addr}
-use Rattle.tm_number.specs.Numbers.{number_of, value_of}
+use Rattle.tm_number.specs.Numbers.{number_of, value_of, plain_of}
 use Rattle.tm_number.specs.Numbers.{range_of as number_range_of}
-use Rattle.tm_addr.specs.Reading.{octet_of, quad_of, v4_of, group_of, last_of, groups_after, side_of, v6_of, addr_of, range_of}
+use Rattle.tm_addr.specs.Reading.{quad_of, v4_of, group_of, last_of, groups_after, side_of, v6_of, addr_of, range_of}
 use Rattle.tm_pattern.specs.Tokens.{token_at}
-use Rattle.tm_pattern.specs.Reading.{step, ended, parsed, pattern_of, word_of}
+use Rattle.tm_pattern.specs.Reading.{step, ended, parsed, pattern_of}
 use Rattle.tm_domain.specs.Names.{is_path, domain_of}
 use Rattle.tm_types.specs.declared.entry.LineKind.{LineKind}
 use Rattle.tm_types.specs.declared.policy.ControlKind.{ControlKind}
@@ -16,12 +17,12 @@ use Rattle.tm_types.specs.declared.policy.ExceptRule.{ExceptRule}
 use Rattle.tm_rules.specs.Policy.{kernel}
 use Rattle.tm_line.specs.Arguments.{group_word, pattern_word, path_word, range_word, addr_range_word, plain_word}
 use Rattle.tm_line.specs.Domains.{domain_words, domain_to_end}
-use Rattle.tm_namespace.specs.Namespaces.{namespace_of, namespace_at}
-use Rattle.tm_except.specs.Reading.{member_word, literal_word, path_group, number_group, address_group, aggregator, acl_group, program_word, domain_side, from_side, program_line, keep_line, control_word, head_of, begins_list, begins_control, begins_rule, rule_at, line, named_line, line_of}
+use Rattle.tm_line.specs.Namespaces.{namespace_of, namespace_at}
+use Rattle.tm_except.specs.Reading.{member_word, first_word, literal_word, path_group, number_group, address_group, aggregator, acl_group, program_word, domain_side, from_side, program_line, keep_line, control_word, head_of, begins_list, begins_control, begins_rule, rule_at, line, named_line, line_of}
 
 -- the definitions that a line's reading goes through
 unfoldable computed : Unit {0}
-unfolding words_of number_of value_of number_range_of octet_of quad_of v4_of group_of last_of groups_after side_of v6_of addr_of range_of token_at step ended parsed pattern_of word_of is_path domain_of group_word pattern_word path_word range_word addr_range_word plain_word domain_words domain_to_end namespace_of namespace_at member_word literal_word path_group number_group address_group aggregator acl_group program_word domain_side from_side program_line keep_line control_word head_of begins_list begins_control begins_rule rule_at named_line line_of
+unfolding words_of number_of value_of number_range_of plain_of quad_of v4_of group_of last_of groups_after side_of v6_of addr_of range_of token_at step ended parsed pattern_of spelled_word word_of byte_head is_path domain_of group_word pattern_word path_word range_word addr_range_word plain_word domain_words domain_to_end namespace_of namespace_at member_word first_word literal_word path_group number_group address_group aggregator acl_group program_word domain_side from_side program_line keep_line control_word head_of begins_list begins_control begins_rule rule_at named_line line_of
 computed = tt
 
 pub control_any : line_of (words_of (codes "initialize_domain any from any")) ≡ Ok (line false kernel (ExceptRule.Control (record { kind = ControlKind.Initialize; program = None; domain = None; last = false })))
@@ -295,3 +296,13 @@ keep_unfinished = refl
 pub keep_name_from : line_of (words_of (codes "keep_domain <kernel> from any")) ≡ Err LineKind.Domain
 unfolding computed
 keep_name_from = refl
+
+-- no word of a line is empty, and none may be where a pattern stands
+
+pub member_empty : line_of (codes "path_group" ∷ codes "A" ∷ [] ∷ []) ≡ Err LineKind.Name
+unfolding computed
+member_empty = refl
+
+pub first_empty : line_of (codes "aggregator" ∷ [] ∷ codes "/a" ∷ []) ≡ Err LineKind.Name
+unfolding computed
+first_empty = refl

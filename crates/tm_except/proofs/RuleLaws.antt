@@ -6,6 +6,7 @@ use Rattle.std.specs.Fmt.{decimal}
 use Rattle.std.proofs.lemmas.Bool.{eqb-true, ltb-true}
 use Rattle.tm_word.specs.Words.{Text, Word, Pattern}
 use Rattle.tm_word.specs.Spelling.{spell}
+use Rattle.tm_word.specs.Matching.{is_empty}
 use Rattle.tm_word.specs.Printing.{spelled_pattern}
 use Rattle.tm_number.specs.declared.Range.{Range}
 use Rattle.tm_number.specs.declared.AddrRange.{AddrRange}
@@ -14,36 +15,37 @@ use Rattle.tm_types.specs.declared.entry.LineKind.{LineKind}
 use Rattle.tm_types.specs.declared.policy.ControlKind.{ControlKind}
 use Rattle.tm_types.specs.declared.policy.Control.{Control}
 use Rattle.tm_types.specs.declared.policy.ExceptRule.{ExceptRule}
-use Rattle.tm_rules.specs.Equality.{texts_equal}
-use Rattle.tm_domain.specs.Names.{is_path, begins_with_slash}
-use Rattle.tm_line.specs.Lines.{◌>>=◌}
-use Rattle.tm_line.specs.Arguments.{path_word}
+use Rattle.tm_word.specs.Texts.{texts_equal, begins_with_byte}
+use Rattle.tm_domain.specs.Names.{is_path}
+use Rattle.tm_word.specs.Gives.{◌>>=◌}
+use Rattle.tm_line.specs.Lines.{or_kind}
+use Rattle.tm_line.specs.Arguments.{pattern_word, path_word}
 use Rattle.tm_line.specs.DomainWords.{domain_parts}
-use Rattle.tm_line.specs.Written.{is_front, is_group, is_range, is_addr_range}
-use Rattle.tm_line.proofs.Steps.{both, not_true}
+use Rattle.tm_line.specs.Written.{is_group, begins_name, is_range, is_addr_range}
+use Rattle.tm_line.proofs.Steps.{both}
 use Rattle.tm_line.proofs.GroupLaws.{group_again}
 use Rattle.tm_line.proofs.NameArgLaws.{pattern_again}
 use Rattle.tm_line.proofs.NumberArgLaws.{range_written, plain_again}
 use Rattle.tm_line.proofs.AddrArgLaws.{range_written as addr_range_written}
-use Rattle.tm_line.proofs.SpellLaws.{word_again}
+use Rattle.tm_word.proofs.Spelled.{word_again}
 use Rattle.tm_line.proofs.DomainLaws.{path_begins, parts_begin, to_end_again}
-use Rattle.tm_namespace.specs.Namespaces.{opens, IsNamespace}
-use Rattle.tm_namespace.proofs.NamespaceLaws.{named, opens_is}
+use Rattle.tm_line.specs.Namespaces.{opens, IsNamespace}
+use Rattle.tm_line.proofs.NamespaceLaws.{named, opens_is}
 use Rattle.tm_except.specs.declared.reading.Head.{Head}
-use Rattle.tm_except.specs.Reading.{member_word, literal_word, word_or_name, path_group, number_group, address_group, aggregator, acl_group, program_word, name_side, domain_side, control, from_side, program_line, keep_line, is_keep, control_word, head_of, rule_by, rule_at, line, named_line, line_of}
+use Rattle.tm_except.specs.Reading.{member_word, first_word, literal_word, path_group, number_group, address_group, aggregator, acl_group, program_word, name_side, domain_side, control, from_side, program_line, keep_line, is_keep, control_word, head_of, rule_by, rule_at, line, named_line, line_of}
 use Rattle.tm_except.specs.Printing.{range_text, addr_range_text, path_group_words, number_group_words, address_group_words, aggregator_words, kind_text, program_text, domain_words, control_words, rule_words, line_words}
-use Rattle.tm_except.specs.Written.{is_kind, is_program, is_side, is_control, is_literal_path, is_line, is_rule}
+use Rattle.tm_except.specs.Written.{is_member, is_first, is_kind, is_program, is_side, is_control, is_literal_path, is_line, is_rule}
 
 -- Groups and aggregators
 
-member_again : (member : Pattern) → is_right member ≡ true → not (is_front 64 (spelled_pattern member)) ≡ true → member_word (spelled_pattern member) ≡ Ok member
+member_again : (member : Pattern) → is_member member ≡ true → member_word (spelled_pattern member) ≡ Ok member
 unfolding member_word
-member_again member h k = rw (not_true (is_front 64 (spelled_pattern member)) k) (pattern_again member h)
+member_again member h = let t = both (is_right member) (begins_name (spelled_pattern member)) h in rw t.1 (pattern_again member t.0)
 
-path_group_again : (first : Bool) (name : Word) (member : Pattern) → is_group name ≡ true → is_right member ≡ true → not (is_front 64 (spelled_pattern member)) ≡ true
+path_group_again : (first : Bool) (name : Word) (member : Pattern) → is_group name ≡ true → is_member member ≡ true
     → rule_at first (path_group_words name member) ≡ Ok (ExceptRule.PathGroup name member)
 unfolding rule_at head_of path_group path_group_words
-path_group_again first name member h k l = rw (group_again name h, member_again member k l) refl
+path_group_again first name member h k = rw (group_again name h, member_again member k) refl
 
 number_group_again : (first : Bool) (name : Word) (member : Range) → is_group name ≡ true → is_range member ≡ true
     → rule_at first (number_group_words name member) ≡ Ok (ExceptRule.NumberGroup name member)
@@ -56,20 +58,31 @@ unfolding rule_at head_of address_group address_group_words addr_range_text
 address_group_again first name member h k = rw (group_again name h, addr_range_written member k) refl
 
 -- a name that begins with `/` is spelled so
-slash_front : (word : Word) → is_front 47 word ≡ true → is_front 47 (spell word) ≡ true
+slash_front : (word : Word) → begins_with_byte 47 word ≡ true → begins_with_byte 47 (spell word) ≡ true
 slash_front [] h = absurd cc
-slash_front (b ∷ word) h = subst (λ c. is_front 47 (spell (c ∷ word)) ≡ true) (sym (eqb-true b 47 h)) refl
+slash_front (b ∷ word) h = subst (λ c. begins_with_byte 47 (spell (c ∷ word)) ≡ true) (sym (eqb-true b 47 h)) refl
 
 literal_again : (word : Word) → is_literal_path word ≡ true → literal_word (spell word) ≡ Ok word
 unfolding literal_word
 literal_again word h =
-    let t = both (is_front 47 word) (list_all (λ b. nat_lt b 256) word) h in
-    rw (slash_front word t.0) (ap word_or_name (word_again word t.1))
+    let t = both (begins_with_byte 47 word) (list_all (λ b. nat_lt b 256) word) h in
+    rw (slash_front word t.0) (ap (or_kind LineKind.Name) (word_again word t.1))
 
-aggregator_again : (first : Bool) (one : Pattern) (other : Word) → is_right one ≡ true → is_literal_path other ≡ true
+-- a text that isn't empty is read as a pattern
+first_is : (text : Text) → not (is_empty text) ≡ true → first_word text ≡ pattern_word text
+unfolding first_word
+first_is [] h = absurd cc
+first_is (b ∷ text) h = refl
+
+first_again : (one : Pattern) → is_first one ≡ true → first_word (spelled_pattern one) ≡ Ok one
+first_again one h =
+    let t = both (is_right one) (not (is_empty (spelled_pattern one))) h in
+    first_is (spelled_pattern one) t.1 ∙ pattern_again one t.0
+
+aggregator_again : (first : Bool) (one : Pattern) (other : Word) → is_first one ≡ true → is_literal_path other ≡ true
     → rule_at first (aggregator_words one other) ≡ Ok (ExceptRule.Aggregator one other)
 unfolding rule_at head_of aggregator aggregator_words
-aggregator_again first one other h k = rw (pattern_again one h, literal_again other k) refl
+aggregator_again first one other h k = rw (first_again one h, literal_again other k) refl
 
 acl_again : (first : Bool) (n : ℕ) (words : List Text) → n < 256 → is_line words ≡ true → rule_at first (codes "acl_group" ∷ decimal n ∷ words) ≡ Ok (ExceptRule.Acl n words)
 unfolding rule_at head_of acl_group
@@ -82,7 +95,7 @@ record Slashed (path : Text) : Type 0 where
   rest : Text
   is : path ≡ 47 ∷ rest
 
-slashed_by : (path : Text) → begins_with_slash path ≡ true → Slashed path
+slashed_by : (path : Text) → begins_with_byte 47 path ≡ true → Slashed path
 slashed_by [] h = absurd cc
 slashed_by (b ∷ rest) h = record { rest = rest; is = ap (λ c. c ∷ rest) (eqb-true b 47 h) }
 
@@ -164,12 +177,11 @@ control_again first c h =
 pub rule_again : (first : Bool) (rule : ExceptRule) → is_rule rule ≡ true → rule_at first (rule_words rule) ≡ Ok rule
 unfolding is_rule rule_words
 rule_again first (ExceptRule.PathGroup name member) h =
-    let t = both (is_group name) (is_right member && not (is_front 64 (spelled_pattern member))) h in
-    let s = both (is_right member) (not (is_front 64 (spelled_pattern member))) t.1 in
-    path_group_again first name member t.0 s.0 s.1
+    let t = both (is_group name) (is_member member) h in
+    path_group_again first name member t.0 t.1
 rule_again first (ExceptRule.NumberGroup name member) h = let t = both (is_group name) (is_range member) h in number_group_again first name member t.0 t.1
 rule_again first (ExceptRule.AddressGroup name member) h = let t = both (is_group name) (is_addr_range member) h in address_group_again first name member t.0 t.1
-rule_again first (ExceptRule.Aggregator one other) h = let t = both (is_right one) (is_literal_path other) h in aggregator_again first one other t.0 t.1
+rule_again first (ExceptRule.Aggregator one other) h = let t = both (is_first one) (is_literal_path other) h in aggregator_again first one other t.0 t.1
 rule_again first (ExceptRule.Control c) h = control_again first c h
 rule_again first (ExceptRule.Acl n words) h = let t = both (nat_lt n 256) (is_line words) h in acl_again first n words (ltb-true n 256 t.0) t.1
 

@@ -15,7 +15,7 @@ use Rattle.tm_types.specs.declared.policy.ExceptRule.{ExceptRule}
 use Rattle.tm_types.specs.declared.policy.ExceptLine.{ExceptLine}
 use Rattle.tm_types.specs.declared.policy.Namespace.{Namespace}
 use Rattle.tm_line.specs.DomainWords.{domain_parts}
-use Rattle.tm_namespace.specs.Namespaces.{line_text}
+use Rattle.tm_line.specs.Namespaces.{line_text}
 
 -- Groups and aggregators
 

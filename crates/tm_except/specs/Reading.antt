@@ -1,38 +1,35 @@
 -- Exception lines: what each word gives, and the kind of the first one at which the line can't go on.
 use Rattle.std.specs.Prelude.{ℕ, ◌&&◌, ◌||◌, not, if◌then◌else◌, Bool, true, false, List, [], ◌∷◌, Option, Some, None, Result, Ok, Err, codes}
 use Rattle.tm_word.specs.Words.{Text, Word, Pattern}
-use Rattle.tm_pattern.specs.Reading.{word_of}
+use Rattle.tm_word.specs.Spelling.{spelled_word}
 use Rattle.tm_types.specs.declared.entry.LineKind.{LineKind}
 use Rattle.tm_types.specs.declared.policy.ControlKind.{ControlKind}
 use Rattle.tm_types.specs.declared.policy.Control.{Control}
 use Rattle.tm_types.specs.declared.policy.ExceptRule.{ExceptRule}
 use Rattle.tm_types.specs.declared.policy.ExceptLine.{ExceptLine}
-use Rattle.tm_rules.specs.Equality.{texts_equal}
-use Rattle.tm_line.specs.Lines.{◌>>=◌, begins, is_last, keyword_kind, word_at}
+use Rattle.tm_word.specs.Texts.{texts_equal, begins, begins_with_byte}
+use Rattle.tm_line.specs.Lines.{or_kind, is_last, ended, keyword_kind, word_at}
+use Rattle.tm_word.specs.Gives.{◌>>=◌}
 use Rattle.tm_line.specs.Arguments.{group_word, pattern_word, path_word, range_word, addr_range_word, plain_word}
+use Rattle.tm_line.specs.Written.{begins_name}
 use Rattle.tm_line.specs.Domains.{domain_to_end}
-use Rattle.tm_line.specs.Written.{is_front}
-use Rattle.tm_namespace.specs.Namespaces.{opens, namespace_at}
+use Rattle.tm_line.specs.Namespaces.{opens, namespace_at}
 use Rattle.tm_except.specs.declared.reading.Head.{Head}
-
--- no word may be left
-abbrev pub ended : {A : Type 0} → A → List Text → Result A LineKind
-ended x [] = Ok x
-ended x (word ∷ words) = Err LineKind.Arity
 
 -- Groups and aggregators
 
--- a member of a path group is a pattern without `@` in front
+-- a member of a path group is a pattern, not empty and without `@` in front
 unfoldable pub member_word : Text → Result Pattern LineKind
-member_word text = if is_front 64 text then Err LineKind.Name else pattern_word text
+member_word text = if begins_name text then pattern_word text else Err LineKind.Name
 
-abbrev pub word_or_name : Option Word → Result Word LineKind
-word_or_name (Some word) = Ok word
-word_or_name None = Err LineKind.Name
+-- the first name of an aggregator is a pattern, not empty
+unfoldable pub first_word : Text → Result Pattern LineKind
+first_word [] = Err LineKind.Name
+first_word (b ∷ text) = pattern_word (b ∷ text)
 
 -- a literal path is the spelled word of a name that begins with `/`
 unfoldable pub literal_word : Text → Result Word LineKind
-literal_word text = if is_front 47 text then word_or_name (word_of text) else Err LineKind.Name
+literal_word text = if begins_with_byte 47 text then or_kind LineKind.Name (spelled_word text) else Err LineKind.Name
 
 unfoldable pub path_group : List Text → Result ExceptRule LineKind
 path_group words = do
@@ -54,7 +51,7 @@ address_group words = do
 
 unfoldable pub aggregator : List Text → Result ExceptRule LineKind
 aggregator words = do
-  one ← word_at pattern_word words
+  one ← word_at first_word words
   other ← word_at literal_word one.1
   ended (ExceptRule.Aggregator one.0 other.0) other.1
 

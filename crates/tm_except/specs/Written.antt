@@ -1,7 +1,9 @@
 -- The rules that a line can write.
 use Rattle.std.specs.Prelude.{nat_lt, Bool, true, false, ◌&&◌, not, List, [], ◌∷◌, Option, Some, None}
 use Rattle.std.specs.List.{list_all}
-use Rattle.tm_word.specs.Words.{Text, Word}
+use Rattle.tm_word.specs.Words.{Text, Word, Pattern}
+use Rattle.tm_word.specs.Spelling.{are_bytes}
+use Rattle.tm_word.specs.Matching.{is_empty}
 use Rattle.tm_word.specs.Printing.{spelled_pattern}
 use Rattle.tm_pattern.specs.Grammar.{is_right}
 use Rattle.tm_types.specs.declared.policy.ControlKind.{ControlKind}
@@ -9,7 +11,16 @@ use Rattle.tm_types.specs.declared.policy.Control.{Control}
 use Rattle.tm_types.specs.declared.policy.ExceptRule.{ExceptRule}
 use Rattle.tm_rules.specs.Transition.{is_domain_name}
 use Rattle.tm_domain.specs.Names.{is_path}
-use Rattle.tm_line.specs.Written.{is_front, is_group, is_range, is_addr_range}
+use Rattle.tm_line.specs.Written.{is_group, begins_name, is_range, is_addr_range}
+use Rattle.tm_word.specs.Texts.{begins_with_byte, is_word}
+
+-- a pattern in the grammar whose text isn't empty and doesn't begin with `@`
+abbrev pub is_member : Pattern → Bool
+is_member member = is_right member && begins_name (spelled_pattern member)
+
+-- a pattern in the grammar whose text isn't empty
+abbrev pub is_first : Pattern → Bool
+is_first one = is_right one && not (is_empty (spelled_pattern one))
 
 -- one of the six kinds
 abbrev pub is_kind : ControlKind → Bool
@@ -37,7 +48,7 @@ is_control control = is_kind control.kind && (is_program control.program && is_s
 
 -- the bytes of a name that begins with `/`
 abbrev pub is_literal_path : Word → Bool
-is_literal_path word = is_front 47 word && list_all (λ b. nat_lt b 256) word
+is_literal_path word = begins_with_byte 47 word && are_bytes word
 
 -- one word or more
 abbrev pub is_line : List Text → Bool
@@ -45,9 +56,27 @@ is_line [] = false
 is_line (word ∷ words) = true
 
 unfoldable pub is_rule : ExceptRule → Bool
-is_rule (ExceptRule.PathGroup name member) = is_group name && (is_right member && not (is_front 64 (spelled_pattern member)))
+is_rule (ExceptRule.PathGroup name member) = is_group name && is_member member
 is_rule (ExceptRule.NumberGroup name member) = is_group name && is_range member
 is_rule (ExceptRule.AddressGroup name member) = is_group name && is_addr_range member
-is_rule (ExceptRule.Aggregator one other) = is_right one && is_literal_path other
+is_rule (ExceptRule.Aggregator one other) = is_first one && is_literal_path other
 is_rule (ExceptRule.Control control) = is_control control
 is_rule (ExceptRule.Acl n words) = nat_lt n 256 && is_line words
+
+-- a rule of a namespace's own lists, which is no line of an ACL group
+abbrev pub is_listed : ExceptRule → Bool
+is_listed (ExceptRule.PathGroup name member) = true
+is_listed (ExceptRule.NumberGroup name member) = true
+is_listed (ExceptRule.AddressGroup name member) = true
+is_listed (ExceptRule.Aggregator one other) = true
+is_listed (ExceptRule.Control control) = true
+is_listed (ExceptRule.Acl n words) = false
+
+-- what the line of an ACL group keeps as it stands are words of a line
+abbrev pub keeps_words : ExceptRule → Bool
+keeps_words (ExceptRule.PathGroup name member) = true
+keeps_words (ExceptRule.NumberGroup name member) = true
+keeps_words (ExceptRule.AddressGroup name member) = true
+keeps_words (ExceptRule.Aggregator one other) = true
+keeps_words (ExceptRule.Control control) = true
+keeps_words (ExceptRule.Acl n words) = list_all is_word words

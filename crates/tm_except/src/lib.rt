@@ -1,5 +1,5 @@
 //! The rules of the exception policy: its lines, aggregators, and the domain transition controls.
-//! Stands on tm_line and tm_namespace for the steps of lines, on tm_pattern, tm_domain, and the definitions of tm_rules.
+//! Stands on tm_line for the steps of lines, on tm_pattern, tm_domain, and the definitions of tm_rules.
 //! Promises that reading is the grammar with the first fault, that the first aggregator that matches decides, and that the controls decide in their order, both without memory.
 #![tactic(auto)]
 
@@ -15,18 +15,19 @@ mod printing;
 mod reading;
 mod sides;
 
-pub use printing::{print_lists, print_rule, round_trip};
-pub use reading::read_exception;
+pub use printing::{print_lists, print_rule, printed_words, round_trip};
+pub use reading::{Head, literal_word, read_exception};
 use tm_domain::last_word;
 use tm_pattern::matches;
-use tm_rules::bytes_equal;
 use tm_types::policy::{Control, ControlKind, Namespace};
 use tm_types::unions::DomainName;
-use tm_word::{Pattern, Text, Word};
+use tm_word::{Pattern, Text, Word, bytes_equal};
 
 // The second name of the first aggregator whose first name matches.
 fn find_name<'a>(aggregators: &'a [(Pattern, Word)], path: &Word) -> Option<&'a Word>
-    ensures { option_copied result ≡ option_map (λ (pair : List Component × List ℕ). pair.1) (find (λ (pair : List Component × List ℕ). matches pair.0 path.now) aggregators.now) }
+    ensures { option_copied result
+        ≡ option_map (λ (pair : List Component × List ℕ). pair.1)
+        (find (λ (pair : List Component × List ℕ). matches pair.0 path.now) aggregators.now) }
 {
     for (first, second) in aggregators {
         if matches(first, path) {
@@ -84,7 +85,10 @@ fn has_control(
     candidate: &[u8],
     kind: ControlKind,
 ) -> bool
-    ensures { result ≡ list_any (λ control. kind_number control.kind == kind_number kind && control_matches domain.now candidate.now control) controls.now }
+    ensures { result
+        ≡ list_any
+        (λ control. kind_number control.kind == kind_number kind && control_matches domain.now candidate.now control)
+        controls.now }
 {
     for control in controls {
         if kind_number(control.kind) == kind_number(kind)
@@ -116,7 +120,9 @@ fn unskipped(
     kind: ControlKind,
     skips: ControlKind,
 ) -> bool
-    ensures { result ≡ (some_control namespace.now domain.now candidate.now kind && not (some_control namespace.now domain.now candidate.now skips)) }
+    ensures { result
+        ≡ (some_control namespace.now domain.now candidate.now kind
+        && not (some_control namespace.now domain.now candidate.now skips)) }
 {
     some_control(namespace, domain, candidate, kind)
         && !some_control(namespace, domain, candidate, skips)
@@ -150,210 +156,4 @@ pub fn control_kind(namespace: &Namespace, domain: &DomainName, candidate: &[u8]
         return ControlKind::Keep;
     }
     ControlKind::Ordinary
-}
-
-#[cfg(test)]
-mod tests {
-    use super::*;
-    use std::alloc::{AllocError, Global};
-    use tm_list::{Map, NoMemory, Seq};
-    use tm_types::entry::LineKind;
-    use tm_types::policy::{ExceptLine, ExceptRule};
-    use tm_types::step::LineFault;
-    use tm_types::unions::Groups;
-    use tm_word::normal_words;
-
-    /// The printed line of the rule that a line writes.
-    fn printed(alloc: Global, line: &str) -> Result<Vec<u8>, LineFault> {
-        let words = normal_words(alloc, line.as_bytes())?;
-        let read = read_exception(alloc, words.as_slice())?;
-        let mut out = Vec::new(alloc);
-        print_rule(alloc, &read.namespace, &read.rule, &mut out)?;
-        Ok(out)
-    }
-
-    /// The kind of a line that is refused.
-    fn kind_of(alloc: Global, line: &str) -> Result<Option<LineKind>, NoMemory> {
-        let words = normal_words(alloc, line.as_bytes())?;
-        match read_exception(alloc, words.as_slice()) {
-            Ok(_) => Ok(None),
-            Err(LineFault::Kind(kind)) => Ok(Some(kind)),
-            Err(LineFault::NoMemory) => Err(AllocError),
-        }
-    }
-
-    /// The control that a line writes.
-    fn control(alloc: Global, line: &str) -> Result<Control, LineFault> {
-        let words = normal_words(alloc, line.as_bytes())?;
-        let ExceptLine {
-            delete: _,
-            namespace: _,
-            rule,
-        } = read_exception(alloc, words.as_slice())?;
-        match rule {
-            ExceptRule::Control(control) => Ok(control),
-            _ => Err(LineFault::Kind(LineKind::Keyword)),
-        }
-    }
-
-    /// A namespace with these controls alone.
-    fn namespace(alloc: Global, lines: &[&str]) -> Result<Namespace, LineFault> {
-        let mut controls = Seq::new(alloc);
-        for line in lines {
-            controls.push(control(alloc, line)?)?;
-        }
-        Ok(Namespace {
-            name: Seq::from_bytes(alloc, b"<kernel>")?,
-            profiles: Map::new(alloc),
-            groups: Groups {
-                paths: Seq::new(alloc),
-                numbers: Seq::new(alloc),
-                addrs: Seq::new(alloc),
-            },
-            aggregators: Seq::new(alloc),
-            controls,
-            acl_groups: Map::new(alloc),
-        })
-    }
-
-    #[test]
-    fn groups_in_normal_form(rt: HostRuntime) -> Result<(), LineFault> {
-        for (line, text) in [
-            ("path_group P40 /a\"b", "<kernel> path_group P40 /a\"b\n"),
-            ("number_group N1080 007", "<kernel> number_group N1080 07\n"),
-            (
-                "number_group N13 0x5-0X5",
-                "<kernel> number_group N13 0x5\n",
-            ),
-            (
-                "</s> address_group A ::1.2.3.4",
-                "</s> address_group A ::102:304\n",
-            ),
-        ] {
-            assert_eq!(rt;
-                printed(rt.alloc(), line)?.as_slice(),
-                text.as_bytes(),
-                "at {line}"
-            );
-        }
-        Ok(())
-    }
-
-    #[test]
-    fn controls_in_normal_form(rt: HostRuntime) -> Result<(), LineFault> {
-        for (line, text) in [
-            (
-                "keep_domain <kernel>",
-                "<kernel> keep_domain any from <kernel>\n",
-            ),
-            (
-                "keep_domain /bin/ls",
-                "<kernel> keep_domain any from /bin/ls\n",
-            ),
-            (
-                "reset_domain /c\\*",
-                "<kernel> reset_domain /c\\* from any\n",
-            ),
-            (
-                "delete no_keep_domain /c from <kernel> /d /e",
-                "<kernel> no_keep_domain /c from <kernel> /d /e\n",
-            ),
-        ] {
-            assert_eq!(rt;
-                printed(rt.alloc(), line)?.as_slice(),
-                text.as_bytes(),
-                "at {line}"
-            );
-        }
-        Ok(())
-    }
-
-    #[test]
-    fn other_lines_in_normal_form(rt: HostRuntime) -> Result<(), LineFault> {
-        for (line, text) in [
-            (
-                "aggregator @ag1943 /z\\040",
-                "<kernel> aggregator @ag1943 /z\\040\n",
-            ),
-            (
-                "acl_group 7 file write/read /l",
-                "<kernel> acl_group 7 file write/read /l\n",
-            ),
-        ] {
-            assert_eq!(rt;
-                printed(rt.alloc(), line)?.as_slice(),
-                text.as_bytes(),
-                "at {line}"
-            );
-        }
-        Ok(())
-    }
-
-    #[test]
-    fn lines_that_are_refused(rt: HostRuntime) -> Result<(), NoMemory> {
-        for (line, kind) in [
-            ("aggregator /ag125 /z\\*", LineKind::Name),
-            ("acl_group 256 file read /l", LineKind::Number),
-            ("address_group A 10.0.0.1-::1", LineKind::Address),
-            ("no_reset_domain any from @D1789", LineKind::Name),
-            ("no_initialize_domain /c from /d /e", LineKind::Arity),
-            ("keep_domain <kern", LineKind::Domain),
-            ("<kernel> delete path_group A /a", LineKind::Keyword),
-        ] {
-            assert_eq!(rt; kind_of(rt.alloc(), line)?, Some(kind), "at {line}");
-        }
-        Ok(())
-    }
-
-    #[test]
-    fn skipped_controls(rt: HostRuntime) -> Result<(), LineFault> {
-        let ns = namespace(
-            rt.alloc(),
-            &[
-                "initialize_domain /t/p from /d",
-                "keep_domain any from /d",
-                "no_initialize_domain any from <kernel> /d",
-            ],
-        )?;
-        for (domain, kind) in [
-            ("<kernel> /d", ControlKind::Keep),
-            ("</s> /d", ControlKind::Initialize),
-            ("<kernel> /x", ControlKind::Ordinary),
-        ] {
-            let name = Seq::from_bytes(rt.alloc(), domain.as_bytes())?;
-            assert_eq!(rt; control_kind(&ns, &name, b"/t/p"), kind, "at {domain}");
-        }
-        Ok(())
-    }
-
-    #[test]
-    fn controls_in_their_order(rt: HostRuntime) -> Result<(), LineFault> {
-        let ns = namespace(
-            rt.alloc(),
-            &[
-                "no_keep_domain /t/p from /d",
-                "reset_domain /t/p from <kernel> /d",
-                "keep_domain <kernel> /d",
-            ],
-        )?;
-        let name = Seq::from_bytes(rt.alloc(), b"<kernel> /d")?;
-        for (program, kind) in [("/t/p", ControlKind::Reset), ("/t/q", ControlKind::Keep)] {
-            assert_eq!(rt;
-                control_kind(&ns, &name, program.as_bytes()),
-                kind,
-                "at {program}"
-            );
-        }
-        Ok(())
-    }
-
-    #[test]
-    fn a_namespace_printed(rt: HostRuntime) -> Result<(), LineFault> {
-        let ns = namespace(rt.alloc(), &["reset_domain any", "keep_domain any"])?;
-        let mut out = Vec::new(rt.alloc());
-        print_lists(rt.alloc(), &ns, &mut out)?;
-        let text = "<kernel> reset_domain any from any\n<kernel> keep_domain any from any\n";
-        assert_eq!(rt; out.as_slice(), text.as_bytes());
-        Ok(())
-    }
 }

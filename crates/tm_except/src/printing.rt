@@ -1,15 +1,17 @@
 //! Printing the lines of the exception policy.
-ghost use Rattle.std.specs.Prelude.{◌≡◌, ◌∷◌, [], ◌++◌, List, Bool, true, Ok, codes, IfOk, OnOk, OnErr};
+ghost use Rattle.std.specs.Prelude.{◌≡◌, ◌∷◌, [], ◌++◌, List, Bool, true, false, Ok, codes, IfOk, OnOk, OnErr};
 ghost use Rattle.std.specs.Fmt.{decimal};
-ghost use Rattle.tm_word.specs.Spelling.{spell};
+ghost use Rattle.std.specs.List.{list_all};
+ghost use Rattle.tm_word.specs.Spelling.{spell, words_of, joined};
+ghost use Rattle.tm_word.specs.Texts.{lines_of, is_word};
 ghost use Rattle.tm_word.specs.Printing.{spelled_pattern};
 ghost use Rattle.tm_line.specs.Lines.{spaced};
 ghost use Rattle.tm_word.specs.Words.{Text};
 ghost use Rattle.tm_types.specs.declared.policy.ExceptRule.{ExceptRule};
 ghost use Rattle.tm_types.specs.declared.policy.ExceptLine.{ExceptLine};
-ghost use Rattle.tm_namespace.specs.Namespaces.{line_text, IsNamespace};
+ghost use Rattle.tm_line.specs.Namespaces.{line_text, IsNamespace};
 ghost use Rattle.tm_except.specs.Reading.{line, line_of};
-ghost use Rattle.tm_except.specs.Written.{is_rule};
+ghost use Rattle.tm_except.specs.Written.{is_rule, is_listed, keeps_words};
 ghost use Rattle.tm_except.specs.Printing.{range_text, addr_range_text, path_group_words, number_group_words, address_group_words, aggregator_words, kind_text, program_text, domain_words, control_words, rule_words, line_words, path_groups_text, number_groups_text, address_groups_text, aggregators_text, controls_text, lists_text};
 
 use std::alloc::Global;
@@ -84,7 +86,8 @@ fn push_three(
     second: &[u8],
     out: &mut Vec<u8>,
 ) -> Result<(), NoMemory>
-    ensures { OnOk result (out.new.items ≡ out.old.items ++ line_text ns.now (word.now ∷ first.now ∷ second.now ∷ [])) }
+    ensures { OnOk result
+        (out.new.items ≡ out.old.items ++ line_text ns.now (word.now ∷ first.now ∷ second.now ∷ [])) }
 {
     push_head(ns, word, out)?;
     push_word(first, out)?;
@@ -126,7 +129,8 @@ fn push_number_group(
     member: &Range,
     out: &mut Vec<u8>,
 ) -> Result<(), NoMemory>
-    ensures { OnOk result (out.new.items ≡ out.old.items ++ line_text ns.now (number_group_words name.now member.now)) }
+    ensures { OnOk result
+        (out.new.items ≡ out.old.items ++ line_text ns.now (number_group_words name.now member.now)) }
 {
     let name = name_text(alloc, name)?;
     let member = range_text(alloc, member)?;
@@ -142,7 +146,8 @@ fn push_address_group(
     member: &AddrRange,
     out: &mut Vec<u8>,
 ) -> Result<(), NoMemory>
-    ensures { OnOk result (out.new.items ≡ out.old.items ++ line_text ns.now (address_group_words name.now member.now)) }
+    ensures { OnOk result
+        (out.new.items ≡ out.old.items ++ line_text ns.now (address_group_words name.now member.now)) }
 {
     let name = name_text(alloc, name)?;
     let member = addr_range_text(alloc, member)?;
@@ -213,7 +218,11 @@ fn push_domain(
 
 /// Appends both sides of a control with the `from` between them, or a part of them.
 fn push_sides(alloc: Global, control: &Control, out: &mut Vec<u8>) -> Result<(), NoMemory>
-    ensures { OnOk result (out.new.items ≡ out.old.items ++ spaced (program_text control.now.program ∷ codes "from" ∷ domain_words control.now.domain control.now.last)) }
+    ensures { OnOk result
+        (out.new.items
+        ≡ out.old.items
+        ++ spaced (program_text control.now.program ∷ codes "from"
+        ∷ domain_words control.now.domain control.now.last)) }
 {
     push_program(&control.program, out)?;
     push_word(b"from", out)?;
@@ -254,7 +263,8 @@ fn push_acl_group(
     words: &[Text],
     out: &mut Vec<u8>,
 ) -> Result<(), NoMemory>
-    ensures { OnOk result (out.new.items ≡ out.old.items ++ line_text ns.now (codes "acl_group" ∷ decimal number ∷ words.now)) }
+    ensures { OnOk result
+        (out.new.items ≡ out.old.items ++ line_text ns.now (codes "acl_group" ∷ decimal number ∷ words.now)) }
 {
     push_head(ns, b"acl_group", out)?;
     push_decimal(alloc, number, out)?;
@@ -407,6 +417,27 @@ pub fn print_lists(alloc: Global, ns: &Namespace, out: &mut Vec<u8>) -> Result<(
 
 /// A law, nothing to run: the words of a printed line are read again as that line, and what is read is a line that can be printed.
 pub fn round_trip()
-    ensures again { (delete : Bool) (name : Text) (rule : ExceptRule) → IsNamespace name → is_rule rule ≡ true → line_of (line_words (line delete name rule)) ≡ Ok (line delete name rule) }
-    ensures found { (words : List Text) (line : ExceptLine) → line_of words ≡ Ok line → IsNamespace line.namespace × (is_rule line.rule ≡ true) }
+    ensures again { (delete : Bool) (name : Text) (rule : ExceptRule) → IsNamespace name → is_rule rule ≡ true
+        → line_of (line_words (line delete name rule)) ≡ Ok (line delete name rule) }
+    ensures found { (words : List Text) (line : ExceptLine) → line_of words ≡ Ok line
+        → IsNamespace line.namespace × (is_rule line.rule ≡ true) }
+{}
+
+/// A law, nothing to run: the printed words of a rule are words of a line, none empty and none with a byte that separates words, where
+/// the words that an ACL group keeps are so, as they are when they were read from a line. So the line that joins them has these words,
+/// and it is the first line of a text that begins with the printed one.
+pub fn printed_words()
+    ensures words { (rule : ExceptRule) → is_rule rule ≡ true → keeps_words rule ≡ true
+        → list_all is_word (rule_words rule) ≡ true }
+    ensures listed { (rule : ExceptRule) → is_rule rule ≡ true → is_listed rule ≡ true
+        → list_all is_word (rule_words rule) ≡ true }
+    ensures kept { (words : List Text) (line : ExceptLine) → list_all is_word words ≡ true → line_of words ≡ Ok line
+        → keeps_words line.rule ≡ true }
+    ensures joined { (delete : Bool) (name : Text) (rule : ExceptRule) → IsNamespace name → is_rule rule ≡ true
+        → keeps_words rule ≡ true
+        → words_of (joined (line_words (line delete name rule))) ≡ line_words (line delete name rule) }
+    ensures text { (name : Text) (rule : ExceptRule) (rest : Text) → IsNamespace name → is_rule rule ≡ true
+        → keeps_words rule ≡ true
+        → lines_of (line_text name (rule_words rule) ++ rest)
+        ≡ joined (line_words (line false name rule)) ∷ lines_of rest }
 {}

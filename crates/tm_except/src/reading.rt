@@ -1,81 +1,68 @@
 //! Reading exception lines.
 ghost use Rattle.std.specs.Prelude.{◌≡◌, ℕ, IfOk, Some};
-ghost use Rattle.tm_line.specs.Lines.{Gives, word_at};
-ghost use Rattle.tm_line.specs.Arguments.{group_word, pattern_word, range_word, addr_range_word, plain_word};
-ghost use Rattle.tm_line.specs.Written.{is_front};
-ghost use Rattle.tm_except.specs.Reading.{ended, member_word, literal_word, path_group, number_group, address_group, aggregator, group_line, acl_group, begins_list, begins_control, begins_rule, control_word, head_of, rule_by, rule_at, named_line, line_of};
+ghost use Rattle.tm_word.specs.Gives.{Gives, GivesNow};
+ghost use Rattle.tm_line.specs.Lines.{line_cause, word_at};
+ghost use Rattle.tm_line.specs.Arguments.{group_word, range_word, addr_range_word, plain_word};
+ghost use Rattle.tm_except.specs.Reading.{member_word, first_word, literal_word, path_group, number_group, address_group, aggregator, group_line, acl_group, begins_list, begins_control, begins_rule, control_word, head_of, rule_by, rule_at, named_line, line_of};
 
 use crate::sides::control_line;
 use std::alloc::Global;
-use tm_line::{addr_range_word, begins, group_word, pattern_word, range_word, small_number};
+use tm_line::{
+    addr_range_word, ended, group_word, keyword_kind, namespace_at, opens, pattern_word,
+    range_word, small_number,
+};
 use tm_list::{Copied, NoMemory, Seq};
-use tm_namespace::{namespace_at, opens};
 use tm_number::{AddrRange, Range};
-use tm_pattern::spelled_word;
-use tm_rules::bytes_equal;
 use tm_types::entry::LineKind;
 use tm_types::policy::{ControlKind, ExceptLine, ExceptRule};
 use tm_types::step::LineFault;
-use tm_word::{Pattern, Text, Word};
+use tm_word::{Pattern, Text, Word, begins, begins_with, bytes_equal, spelled_word};
 
 /// What a line's leading word begins.
-#[derive(Clone, Copy, PartialEq, Eq, Debug)]
-enum Head {
+#[derive(Clone, Copy)]
+pub enum Head {
+    /// `path_group GROUP MEMBER`.
     PathGroup,
+    /// `number_group GROUP RANGE`.
     NumberGroup,
+    /// `address_group GROUP RANGE`.
     AddressGroup,
+    /// `aggregator FIRST SECOND`.
     Aggregator,
+    /// A domain transition control of this kind.
     Control(ControlKind),
+    /// `acl_group N` and the line of an entry.
     Acl,
 }
 
-/// Whether no word is left.
-fn ends(words: &[Text]) -> Result<(), LineFault>
-    ensures { Gives (λ x. x) result (ended tt words.now) }
-{
-    match words {
-        [] => Ok(()),
-        [_, ..] => Err(LineFault::Kind(LineKind::Arity)),
-    }
-}
-
-/// Whether a text begins with `/`.
-fn begins_with_slash(text: &[u8]) -> bool
-    ensures { result ≡ is_front 47 text.now }
-{
-    match text {
-        [] => false,
-        [first, ..] => *first == b'/',
-    }
-}
-
-/// Whether a text begins with `@`.
-fn begins_with_at(text: &[u8]) -> bool
-    ensures { result ≡ is_front 64 text.now }
-{
-    match text {
-        [] => false,
-        [first, ..] => *first == b'@',
-    }
-}
-
-/// The member of a path group: a pattern without `@` in front.
+/// The member of a path group: a pattern, not empty and without `@` in front.
 #[tactic(auto, unfolding(crate::specs::Reading::member_word))]
 fn member_word(alloc: Global, text: &[u8]) -> Result<Pattern, LineFault>
-    ensures { Gives (λ x. x) result (member_word text.now) }
+    ensures { Gives line_cause (λ x. x) result (member_word text.now) }
 {
-    if begins_with_at(text) {
-        return Err(LineFault::Kind(LineKind::Name));
+    match text {
+        [] | [b'@', ..] => Err(LineFault::Kind(LineKind::Name)),
+        _ => pattern_word(alloc, text),
     }
-    pattern_word(alloc, text)
 }
 
-/// The name that a literal path spells.
-#[tactic(auto, unfolding(crate::specs::Reading::literal_word))]
-fn literal_word(alloc: Global, text: &[u8]) -> Result<Word, LineFault>
-    ensures { Gives (λ x. x) result (literal_word text.now) }
+/// The first name of an aggregator: a pattern, not empty.
+#[tactic(auto, unfolding(crate::specs::Reading::first_word))]
+fn first_word(alloc: Global, text: &[u8]) -> Result<Pattern, LineFault>
+    ensures { Gives line_cause (λ x. x) result (first_word text.now) }
 {
-    if !begins_with_slash(text) {
+    match text {
+        [] => Err(LineFault::Kind(LineKind::Name)),
+        [_, ..] => pattern_word(alloc, text),
+    }
+}
+
+/// Reads a literal path, which is the spelled word of a name that begins with `/`, as that name. Errors: `Name`.
+#[tactic(auto, unfolding(crate::specs::Reading::literal_word))]
+pub fn literal_word(alloc: Global, text: &[u8]) -> Result<Word, LineFault>
+    ensures { Gives line_cause (λ x. x) result (literal_word text.now) }
+{
+    if !begins_with(b'/', text) {
         return Err(LineFault::Kind(LineKind::Name));
     }
     match spelled_word(alloc, text)? {
@@ -86,7 +73,7 @@ fn literal_word(alloc: Global, text: &[u8]) -> Result<Word, LineFault>
 
 /// The name of a group as the first word, and the words after it.
 fn group_at(alloc: Global, words: &[Text]) -> Result<(Word, &[Text]), LineFault>
-    ensures { Gives (λ x. (x.0, x.1.now)) result (word_at group_word words.now) }
+    ensures { Gives line_cause (λ x. (x.0, x.1.now)) result (word_at group_word words.now) }
 {
     match words {
         [] => Err(LineFault::Kind(LineKind::Arity)),
@@ -96,7 +83,7 @@ fn group_at(alloc: Global, words: &[Text]) -> Result<(Word, &[Text]), LineFault>
 
 /// A member of a path group as the first word, and the words after it.
 fn member_at(alloc: Global, words: &[Text]) -> Result<(Pattern, &[Text]), LineFault>
-    ensures { Gives (λ x. (x.0, x.1.now)) result (word_at member_word words.now) }
+    ensures { Gives line_cause (λ x. (x.0, x.1.now)) result (word_at member_word words.now) }
 {
     match words {
         [] => Err(LineFault::Kind(LineKind::Arity)),
@@ -106,7 +93,7 @@ fn member_at(alloc: Global, words: &[Text]) -> Result<(Pattern, &[Text]), LineFa
 
 /// A range of numbers as the first word, and the words after it.
 fn range_at(words: &[Text]) -> Result<(Range, &[Text]), LineFault>
-    ensures { Gives (λ x. (x.0, x.1.now)) result (word_at range_word words.now) }
+    ensures { GivesNow line_cause (λ x. (x.0, x.1.now)) result (word_at range_word words.now) }
 {
     match words {
         [] => Err(LineFault::Kind(LineKind::Arity)),
@@ -116,7 +103,7 @@ fn range_at(words: &[Text]) -> Result<(Range, &[Text]), LineFault>
 
 /// A range of addresses as the first word, and the words after it.
 fn addr_range_at(words: &[Text]) -> Result<(AddrRange, &[Text]), LineFault>
-    ensures { Gives (λ x. (x.0, x.1.now)) result (word_at addr_range_word words.now) }
+    ensures { GivesNow line_cause (λ x. (x.0, x.1.now)) result (word_at addr_range_word words.now) }
 {
     match words {
         [] => Err(LineFault::Kind(LineKind::Arity)),
@@ -124,19 +111,19 @@ fn addr_range_at(words: &[Text]) -> Result<(AddrRange, &[Text]), LineFault>
     }
 }
 
-/// A pattern as the first word, and the words after it.
-fn pattern_at(alloc: Global, words: &[Text]) -> Result<(Pattern, &[Text]), LineFault>
-    ensures { Gives (λ x. (x.0, x.1.now)) result (word_at pattern_word words.now) }
+/// The first name of an aggregator as the first word, and the words after it.
+fn first_at(alloc: Global, words: &[Text]) -> Result<(Pattern, &[Text]), LineFault>
+    ensures { Gives line_cause (λ x. (x.0, x.1.now)) result (word_at first_word words.now) }
 {
     match words {
         [] => Err(LineFault::Kind(LineKind::Arity)),
-        [word, rest @ ..] => Ok((pattern_word(alloc, word.bytes())?, rest)),
+        [word, rest @ ..] => Ok((first_word(alloc, word.bytes())?, rest)),
     }
 }
 
 /// A literal path as the first word, and the words after it.
 fn literal_at(alloc: Global, words: &[Text]) -> Result<(Word, &[Text]), LineFault>
-    ensures { Gives (λ x. (x.0, x.1.now)) result (word_at literal_word words.now) }
+    ensures { Gives line_cause (λ x. (x.0, x.1.now)) result (word_at literal_word words.now) }
 {
     match words {
         [] => Err(LineFault::Kind(LineKind::Arity)),
@@ -146,7 +133,7 @@ fn literal_at(alloc: Global, words: &[Text]) -> Result<(Word, &[Text]), LineFaul
 
 /// The number of an ACL group as the first word, and the words after it.
 fn number_at(words: &[Text]) -> Result<(u8, &[Text]), LineFault>
-    ensures { Gives (λ x. (x.0, x.1.now)) result (word_at (plain_word 256) words.now) }
+    ensures { GivesNow line_cause (λ x. (x.0, x.1.now)) result (word_at (plain_word 256) words.now) }
 {
     match words {
         [] => Err(LineFault::Kind(LineKind::Arity)),
@@ -156,42 +143,38 @@ fn number_at(words: &[Text]) -> Result<(u8, &[Text]), LineFault>
 
 #[tactic(auto, unfolding(crate::specs::Reading::path_group))]
 fn path_group(alloc: Global, words: &[Text]) -> Result<ExceptRule, LineFault>
-    ensures { Gives (λ x. x) result (path_group words.now) }
+    ensures { Gives line_cause (λ x. x) result (path_group words.now) }
 {
     let (name, rest) = group_at(alloc, words)?;
     let (member, rest) = member_at(alloc, rest)?;
-    ends(rest)?;
-    Ok(ExceptRule::PathGroup(name, member))
+    ended(ExceptRule::PathGroup(name, member), rest)
 }
 
 #[tactic(auto, unfolding(crate::specs::Reading::number_group))]
 fn number_group(alloc: Global, words: &[Text]) -> Result<ExceptRule, LineFault>
-    ensures { Gives (λ x. x) result (number_group words.now) }
+    ensures { Gives line_cause (λ x. x) result (number_group words.now) }
 {
     let (name, rest) = group_at(alloc, words)?;
     let (member, rest) = range_at(rest)?;
-    ends(rest)?;
-    Ok(ExceptRule::NumberGroup(name, member))
+    ended(ExceptRule::NumberGroup(name, member), rest)
 }
 
 #[tactic(auto, unfolding(crate::specs::Reading::address_group))]
 fn address_group(alloc: Global, words: &[Text]) -> Result<ExceptRule, LineFault>
-    ensures { Gives (λ x. x) result (address_group words.now) }
+    ensures { Gives line_cause (λ x. x) result (address_group words.now) }
 {
     let (name, rest) = group_at(alloc, words)?;
     let (member, rest) = addr_range_at(rest)?;
-    ends(rest)?;
-    Ok(ExceptRule::AddressGroup(name, member))
+    ended(ExceptRule::AddressGroup(name, member), rest)
 }
 
 #[tactic(auto, unfolding(crate::specs::Reading::aggregator))]
 fn aggregator(alloc: Global, words: &[Text]) -> Result<ExceptRule, LineFault>
-    ensures { Gives (λ x. x) result (aggregator words.now) }
+    ensures { Gives line_cause (λ x. x) result (aggregator words.now) }
 {
-    let (first, rest) = pattern_at(alloc, words)?;
+    let (first, rest) = first_at(alloc, words)?;
     let (second, rest) = literal_at(alloc, rest)?;
-    ends(rest)?;
-    Ok(ExceptRule::Aggregator(first, second))
+    ended(ExceptRule::Aggregator(first, second), rest)
 }
 
 /// These words, made anew.
@@ -207,7 +190,7 @@ fn copied(alloc: Global, words: &[Text]) -> Result<Seq<Text>, NoMemory>
 
 /// The line of an ACL group, as words.
 fn group_line(alloc: Global, number: u8, words: &[Text]) -> Result<ExceptRule, LineFault>
-    ensures { Gives (λ x. x) result (group_line number words.now) }
+    ensures { Gives line_cause (λ x. x) result (group_line number words.now) }
 {
     match words {
         [] => Err(LineFault::Kind(LineKind::Arity)),
@@ -217,7 +200,7 @@ fn group_line(alloc: Global, number: u8, words: &[Text]) -> Result<ExceptRule, L
 
 #[tactic(auto, unfolding(crate::specs::Reading::acl_group))]
 fn acl_group(alloc: Global, words: &[Text]) -> Result<ExceptRule, LineFault>
-    ensures { Gives (λ x. x) result (acl_group words.now) }
+    ensures { Gives line_cause (λ x. x) result (acl_group words.now) }
 {
     let (number, rest) = number_at(words)?;
     group_line(alloc, number, rest)
@@ -336,22 +319,13 @@ fn begins_rule(first: bool, word: &[u8]) -> bool
 fn head_kind(first: bool, word: &[u8], words: &[Text]) -> LineKind
     ensures { rule_by None first word.now words.now ≡ Err result }
 {
-    match words {
-        [] => {
-            if begins_rule(first, word) {
-                LineKind::Arity
-            } else {
-                LineKind::Keyword
-            }
-        }
-        [_, ..] => LineKind::Keyword,
-    }
+    keyword_kind(words.is_empty() && begins_rule(first, word))
 }
 
 /// The rule that a line writes, without `delete` and its namespace word.
 #[tactic(auto, unfolding(crate::specs::Reading::rule_at))]
 fn rule_at(alloc: Global, first: bool, words: &[Text]) -> Result<ExceptRule, LineFault>
-    ensures { Gives (λ x. x) result (rule_at first words.now) }
+    ensures { Gives line_cause (λ x. x) result (rule_at first words.now) }
 {
     match words {
         [] => Err(LineFault::Kind(LineKind::Arity)),
@@ -370,7 +344,7 @@ fn rule_at(alloc: Global, first: bool, words: &[Text]) -> Result<ExceptRule, Lin
 /// A line without its `delete`.
 #[tactic(auto, unfolding(crate::specs::Reading::named_line))]
 fn named_line(alloc: Global, delete: bool, words: &[Text]) -> Result<ExceptLine, LineFault>
-    ensures { Gives (λ x. x) result (named_line delete words.now) }
+    ensures { Gives line_cause (λ x. x) result (named_line delete words.now) }
 {
     match words {
         [] => Err(LineFault::Kind(LineKind::Arity)),
@@ -396,7 +370,7 @@ fn named_line(alloc: Global, delete: bool, words: &[Text]) -> Result<ExceptLine,
 /// wrong range or ACL group's number, `Domain` a wrong domain name or namespace word.
 #[tactic(auto, unfolding(crate::specs::Reading::line_of))]
 pub fn read_exception(alloc: Global, words: &[Text]) -> Result<ExceptLine, LineFault>
-    ensures { Gives (λ x. x) result (line_of words.now) }
+    ensures { Gives line_cause (λ x. x) result (line_of words.now) }
 {
     match words {
         [] => Err(LineFault::Kind(LineKind::Arity)),

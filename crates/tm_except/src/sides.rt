@@ -1,27 +1,16 @@
 //! Reading the two sides of a domain transition control.
 ghost use Rattle.std.specs.Prelude.{◌≡◌};
-ghost use Rattle.tm_line.specs.Lines.{Gives, is_last};
+ghost use Rattle.tm_word.specs.Gives.{Gives};
+ghost use Rattle.tm_line.specs.Lines.{line_cause};
 ghost use Rattle.tm_line.specs.Arguments.{path_word};
-ghost use Rattle.tm_except.specs.Reading.{ended, side_kind, program_by, program_word, path_side, name_side, domain_side, control, from_side, program_line, alone, keep_side, keep_line, is_keep, control_sides};
+ghost use Rattle.tm_except.specs.Reading.{side_kind, program_by, program_word, path_side, name_side, domain_side, control, from_side, program_line, alone, keep_side, keep_line, is_keep, control_sides};
 
 use std::alloc::Global;
-use tm_line::{begins, domain_to_end, path_word};
-use tm_namespace::opens;
-use tm_rules::bytes_equal;
+use tm_line::{domain_to_end, ended, opens, path_word};
 use tm_types::entry::LineKind;
 use tm_types::policy::{Control, ControlKind};
 use tm_types::step::LineFault;
-use tm_word::Text;
-
-/// Whether no word follows.
-fn is_last(words: &[Text]) -> bool
-    ensures { result ≡ is_last words.now }
-{
-    match words {
-        [] => true,
-        [_, ..] => false,
-    }
-}
+use tm_word::{Text, begins, bytes_equal};
 
 /// The kind of a wrong word where `any` may stand.
 fn side_kind(kind: LineKind, word: &[u8], last: bool) -> LineKind
@@ -37,7 +26,7 @@ fn side_kind(kind: LineKind, word: &[u8], last: bool) -> LineKind
 /// The program's side: `any` or a path.
 #[tactic(auto, unfolding(crate::specs::Reading::program_word))]
 fn program_word(alloc: Global, word: &[u8], last: bool) -> Result<Option<Text>, LineFault>
-    ensures { Gives (λ x. x) result (program_word word.now last) }
+    ensures { Gives line_cause (λ x. x) result (program_word word.now last) }
 {
     if bytes_equal(word, b"any") {
         return Ok(None);
@@ -52,30 +41,20 @@ fn program_word(alloc: Global, word: &[u8], last: bool) -> Result<Option<Text>, 
 /// A domain's side: its text, none for `any`, and whether it is one path.
 type Side = (Option<Text>, bool);
 
-/// A side of which no word may be left.
-fn ended(side: Side, words: &[Text]) -> Result<Side, LineFault>
-    ensures { Gives (λ x. x) result (ended side words.now) }
-{
-    match words {
-        [] => Ok(side),
-        [_, ..] => Err(LineFault::Kind(LineKind::Arity)),
-    }
-}
-
 /// A domain's side that is one path.
 fn path_side(alloc: Global, word: &[u8], words: &[Text]) -> Result<Side, LineFault>
-    ensures { Gives (λ x. x) result (path_side (path_word word.now) word.now words.now) }
+    ensures { Gives line_cause (λ x. x) result (path_side (path_word word.now) word.now words.now) }
 {
     match path_word(alloc, word) {
         Ok(path) => ended((Some(path), true), words),
-        Err(LineFault::Kind(kind)) => Err(LineFault::Kind(side_kind(kind, word, is_last(words)))),
+        Err(LineFault::Kind(kind)) => Err(LineFault::Kind(side_kind(kind, word, words.is_empty()))),
         Err(LineFault::NoMemory) => Err(LineFault::NoMemory),
     }
 }
 
 /// A domain's side that is a domain name up to the line's end.
 fn name_side(alloc: Global, words: &[Text]) -> Result<Side, LineFault>
-    ensures { Gives (λ x. x) result (name_side words.now) }
+    ensures { Gives line_cause (λ x. x) result (name_side words.now) }
 {
     let name = domain_to_end(alloc, words)?;
     Ok((Some(name), false))
@@ -84,7 +63,7 @@ fn name_side(alloc: Global, words: &[Text]) -> Result<Side, LineFault>
 /// The domain's side: `any`, a domain name, or one path.
 #[tactic(auto, unfolding(crate::specs::Reading::domain_side))]
 fn domain_side(alloc: Global, words: &[Text]) -> Result<Side, LineFault>
-    ensures { Gives (λ x. x) result (domain_side words.now) }
+    ensures { Gives line_cause (λ x. x) result (domain_side words.now) }
 {
     match words {
         [] => Err(LineFault::Kind(LineKind::Arity)),
@@ -121,7 +100,7 @@ fn from_side(
     program: Option<Text>,
     words: &[Text],
 ) -> Result<Control, LineFault>
-    ensures { Gives (λ x. x) result (from_side kind program words.now) }
+    ensures { Gives line_cause (λ x. x) result (from_side kind program words.now) }
 {
     match words {
         [] => Ok(control(kind, program, (None, false))),
@@ -139,12 +118,12 @@ fn from_side(
 /// A control whose program's side comes first.
 #[tactic(auto, unfolding(crate::specs::Reading::program_line))]
 fn program_line(alloc: Global, kind: ControlKind, words: &[Text]) -> Result<Control, LineFault>
-    ensures { Gives (λ x. x) result (program_line kind words.now) }
+    ensures { Gives line_cause (λ x. x) result (program_line kind words.now) }
 {
     match words {
         [] => Err(LineFault::Kind(LineKind::Arity)),
         [word, rest @ ..] => {
-            let program = program_word(alloc, word.bytes(), is_last(rest))?;
+            let program = program_word(alloc, word.bytes(), rest.is_empty())?;
             from_side(alloc, kind, program, rest)
         }
     }
@@ -167,7 +146,7 @@ fn keep_side(
     side: Option<Text>,
     words: &[Text],
 ) -> Result<Control, LineFault>
-    ensures { Gives (λ x. x) result (keep_side kind side words.now) }
+    ensures { Gives line_cause (λ x. x) result (keep_side kind side words.now) }
 {
     match words {
         [] => Ok(control(kind, None, alone(side))),
@@ -178,7 +157,7 @@ fn keep_side(
 /// A keep form, which may have the domain's side alone.
 #[tactic(auto, unfolding(crate::specs::Reading::keep_line))]
 fn keep_line(alloc: Global, kind: ControlKind, words: &[Text]) -> Result<Control, LineFault>
-    ensures { Gives (λ x. x) result (keep_line kind words.now) }
+    ensures { Gives line_cause (λ x. x) result (keep_line kind words.now) }
 {
     match words {
         [] => Err(LineFault::Kind(LineKind::Arity)),
@@ -187,7 +166,7 @@ fn keep_line(alloc: Global, kind: ControlKind, words: &[Text]) -> Result<Control
                 let side = name_side(alloc, words)?;
                 Ok(control(kind, None, side))
             } else {
-                let side = program_word(alloc, word.bytes(), is_last(rest))?;
+                let side = program_word(alloc, word.bytes(), rest.is_empty())?;
                 keep_side(alloc, kind, side, rest)
             }
         }
@@ -215,7 +194,7 @@ pub(crate) fn control_line(
     kind: ControlKind,
     words: &[Text],
 ) -> Result<Control, LineFault>
-    ensures { Gives (λ x. x) result (control_sides kind words.now) }
+    ensures { Gives line_cause (λ x. x) result (control_sides kind words.now) }
 {
     if is_keep(kind) {
         keep_line(alloc, kind, words)

@@ -8,10 +8,11 @@ use Rattle.tm_types.specs.declared.entry.LineKind.{LineKind}
 use Rattle.tm_types.specs.declared.entry.Perms.{Perms}
 use Rattle.tm_types.specs.declared.entry.Prefer.{Prefer}
 use Rattle.tm_types.specs.declared.unions.NameUnion.{NameUnion}
-use Rattle.tm_rules.specs.Equality.{texts_equal}
+use Rattle.tm_word.specs.Texts.{texts_equal}
 use Rattle.tm_domain.proofs.NameLaws.{same_texts}
 use Rattle.tm_line.specs.declared.permissions.Row.{Row}
-use Rattle.tm_line.specs.Lines.{◌>>=◌, is_last, keyword_at}
+use Rattle.tm_line.specs.Lines.{is_last, keyword_at}
+use Rattle.tm_word.specs.Gives.{◌>>=◌}
 use Rattle.tm_line.specs.Permissions.{names, pieces_of, perm_on, perms_of, perms_spelling}
 use Rattle.tm_line.specs.Arguments.{name_at, number_at}
 use Rattle.tm_line.specs.Printing.{name_spelling, number_spelling}

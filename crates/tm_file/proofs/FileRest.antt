@@ -6,13 +6,13 @@ use Rattle.tm_types.specs.declared.entry.Args.{Args}
 use Rattle.tm_types.specs.declared.entry.LineKind.{LineKind}
 use Rattle.tm_types.specs.declared.entry.Perms.{Perms}
 use Rattle.tm_types.specs.declared.entry.Prefer.{Prefer}
-use Rattle.tm_rules.specs.Equality.{texts_equal}
+use Rattle.tm_word.specs.Texts.{texts_equal, begins_with_byte}
 use Rattle.tm_line.specs.declared.permissions.Row.{Row}
-use Rattle.tm_line.specs.Lines.{◌>>=◌, is_last, keyword_at}
+use Rattle.tm_line.specs.Lines.{is_last, keyword_at}
+use Rattle.tm_word.specs.Gives.{◌>>=◌}
 use Rattle.tm_line.specs.Permissions.{pieces_of, perms_of}
 use Rattle.tm_line.specs.Arguments.{path_word, name_at, number_at}
 use Rattle.tm_line.specs.Domains.{domain_at}
-use Rattle.tm_line.specs.Written.{is_front}
 use Rattle.tm_line.proofs.Steps.{bind_ok, ok_is}
 use Rattle.tm_line.proofs.RestLaws.{Rest, rest_none, rest_more, rest_then, rest_is, name_rest, number_rest, domain_rest, keyword_rest}
 use Rattle.tm_file.specs.Preferences.{turn_of, turn_or_place, prefer_at, with_prefer, path_at}
@@ -52,7 +52,7 @@ place_part false false word words x e = let made : Found = (None, word ∷ words
 
 turn_part : (o : Option Prefer) (word : Text) (words : Line) (x : Found) → turn_or_place o word words ≡ Ok x → Rest (word ∷ words) x.1
 turn_part (Some turn) word words x e = let made : Found = (Some turn, words) in subst (λ (y : Found). Rest (word ∷ words) y.1) (ok_is made x e) (word ∷ [], refl)
-turn_part None word words x e = place_part (is_front 47 word) (is_front 60 word) word words x e
+turn_part None word words x e = place_part (begins_with_byte 47 word) (begins_with_byte 60 word) word words x e
 
 prefer_rest : (words : Line) (x : Found) → prefer_at words ≡ Ok x → Rest words x.1
 unfolding prefer_at

@@ -11,7 +11,7 @@ use Rattle.tm_line.specs.declared.permissions.Row.{Row}
 use Rattle.tm_line.specs.Permissions.{perms_spelling}
 use Rattle.tm_line.specs.Printing.{name_spelling, number_spelling}
 use Rattle.tm_line.specs.Written.{is_name, is_number, is_set}
-use Rattle.tm_line.specs.WholeWords.{is_word}
+use Rattle.tm_word.specs.Texts.{is_word}
 use Rattle.tm_line.proofs.Steps.{both, all}
 use Rattle.tm_line.proofs.WholeLaws.{words_again, name_is, number_is, perms_is, path_is, parts_are}
 use Rattle.tm_file.specs.Preferences.{prefer_words, is_prefer}

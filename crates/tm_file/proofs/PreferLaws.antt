@@ -1,19 +1,19 @@
 -- Preferences: what is written is read again, and what is read can be written.
-use Rattle.std.proofs.Common.{◌≡◌, Bool, true, false, cond, ◌&&◌, not, List, [], ◌∷◌, ◌++◌, Option, Some, None, Ok, ◌⊎◌, inl, inr, refl, sym, subst, ◌∙◌}
+use Rattle.std.proofs.Common.{◌≡◌, Bool, true, false, cond, ◌&&◌, not, List, [], ◌∷◌, ◌++◌, Option, Some, None, Ok, ◌⊎◌, inl, inr, refl, sym, subst}
 use Rattle.std.specs.Prelude.{codes, is_some}
 use Rattle.tm_word.specs.Words.{Text}
 use Rattle.tm_types.specs.declared.entry.Args.{Args}
 use Rattle.tm_types.specs.declared.entry.LineKind.{LineKind}
 use Rattle.tm_types.specs.declared.entry.Prefer.{Prefer}
 use Rattle.tm_types.specs.declared.unions.NameUnion.{NameUnion}
-use Rattle.tm_rules.specs.Equality.{texts_equal}
+use Rattle.tm_word.specs.Texts.{texts_equal, begins_with_byte}
 use Rattle.tm_rules.specs.Transition.{is_domain_name}
-use Rattle.tm_domain.specs.Names.{begins_with_slash, is_path}
-use Rattle.tm_line.specs.Lines.{◌>>=◌}
+use Rattle.tm_domain.specs.Names.{is_path}
+use Rattle.tm_word.specs.Gives.{◌>>=◌}
 use Rattle.tm_line.specs.Arguments.{path_word, name_at}
 use Rattle.tm_line.specs.Domains.{domain_at}
 use Rattle.tm_line.specs.DomainWords.{domain_parts, ends_domain}
-use Rattle.tm_line.specs.Written.{is_front, is_name}
+use Rattle.tm_line.specs.Written.{is_name}
 use Rattle.tm_line.proofs.Steps.{bind_ok, ok_is, chosen, both, not_true, to_not}
 use Rattle.std.proofs.lemmas.Bool.{eqb-true}
 use Rattle.tm_line.specs.Printing.{name_spelling}
@@ -29,24 +29,20 @@ no_some (Some x) h = absurd cc
 
 record NoPrefer (word : Text) : Type 0 where
   turn : turn_of word ≡ None
-  slash : is_front 47 word ≡ false
-  angle : is_front 60 word ≡ false
+  slash : begins_with_byte 47 word ≡ false
+  angle : begins_with_byte 60 word ≡ false
 
 no_prefer_is : (word : Text) (words : List Text) → no_prefer (word ∷ words) ≡ true → NoPrefer word
 unfolding no_prefer
 no_prefer_is word words h =
-    let b = both (not (is_some (turn_of word)) && not (is_front 47 word)) (not (is_front 60 word)) h in
-    let a = both (not (is_some (turn_of word))) (not (is_front 47 word)) b.0 in
+    let b = both (not (is_some (turn_of word)) && not (begins_with_byte 47 word)) (not (begins_with_byte 60 word)) h in
+    let a = both (not (is_some (turn_of word))) (not (begins_with_byte 47 word)) b.0 in
     record { turn = no_some (turn_of word) (not_true _ a.0); slash = not_true _ a.1; angle = not_true _ b.1 }
-
-slash_front : (word : Text) → is_front 47 word ≡ begins_with_slash word
-slash_front [] = refl
-slash_front (b ∷ word) = refl
 
 -- such words don't go on with a domain name
 pub ends_prefer : (more : List Text) → no_prefer more ≡ true → ends_domain more ≡ true
 ends_prefer [] h = refl
-ends_prefer (word ∷ words) h = to_not _ (sym (slash_front word) ∙ (no_prefer_is word words h).slash)
+ends_prefer (word ∷ words) h = to_not _ (no_prefer_is word words h).slash
 
 pub none_again : (more : List Text) → no_prefer more ≡ true → prefer_at more ≡ Ok (None, more)
 unfolding prefer_at
@@ -55,7 +51,7 @@ none_again (word ∷ words) h = let is = no_prefer_is word words h in rw (is.tur
 
 path_again : (path : Text) (more : List Text) → is_path path ≡ true → prefer_at (path ∷ more) ≡ Ok (Some (Prefer.Path path), more)
 unfolding prefer_at path_word
-path_again [] more h = let k : begins_with_slash [] ≡ true = path_begins [] h in absurd cc
+path_again [] more h = let k : begins_with_byte 47 [] ≡ true = path_begins [] h in absurd cc
 path_again (b ∷ path) more h =
     let front : b ≡ 47 = eqb-true b 47 (path_begins (b ∷ path) h) in
     subst (λ c. is_path (c ∷ path) ≡ true → prefer_at ((c ∷ path) ∷ more) ≡ Ok (Some (Prefer.Path (c ∷ path)), more)) (sym front) (λ k. rw k refl) h
@@ -122,7 +118,7 @@ place_right false false word words x e = let made : Found = (None, word ∷ word
 
 turn_or_right : (o : Option Prefer) (word : Text) (words : List Text) (x : Found) → IsRight o → turn_or_place o word words ≡ Ok x → IsRight x.0
 turn_or_right (Some turn) word words x h e = let made : Found = (Some turn, words) in subst (λ (y : Found). IsRight y.0) (ok_is made x e) h
-turn_or_right None word words x h e = place_right (is_front 47 word) (is_front 60 word) word words x e
+turn_or_right None word words x h e = place_right (begins_with_byte 47 word) (begins_with_byte 60 word) word words x e
 
 pub prefer_read : (words : List Text) (x : Found) → prefer_at words ≡ Ok x → IsRight x.0
 unfolding prefer_at

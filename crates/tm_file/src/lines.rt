@@ -2,28 +2,26 @@
 ghost use Rattle.std.specs.Prelude.{◌≡◌, ◌≤◌, ◌++◌, ◌-◌, ℕ, true, List, Ok, length, drop, IfOk};
 ghost use Rattle.std.specs.List.{list_all};
 ghost use Rattle.tm_word.specs.Spelling.{words_of, joined};
-ghost use Rattle.tm_line.specs.WholeWords.{is_word};
+ghost use Rattle.tm_word.specs.Texts.{is_word};
 ghost use Rattle.tm_types.specs.declared.entry.Args.{Args};
 ghost use Rattle.tm_types.specs.declared.entry.Perms.{Perms};
 ghost use Rattle.tm_word.specs.Words.{Text};
 ghost use Rattle.tm_file.specs.Preferences.{no_prefer};
-ghost use Rattle.tm_line.specs.Lines.{Gives};
+ghost use Rattle.tm_word.specs.Gives.{Gives};
+ghost use Rattle.tm_line.specs.Lines.{line_cause};
 ghost use Rattle.tm_line.specs.Permissions.{pieces_of};
 ghost use Rattle.tm_file.specs.FileLines.{row_of, row_in, starts_any, is_unfinished, args_at, mount_at, row_line, perms_line, file_line, counted, file_words, is_file, perms};
 
 use crate::prefer::path_at;
 use std::alloc::Global;
-use tm_line::{
-    Row, begins, keyword_at, mask_in, name_at, number_at, pieces_of, read_perms, starts_in,
-};
-use tm_rules::bytes_equal;
+use tm_line::{Row, keyword_at, mask_in, name_at, number_at, pieces_of, read_perms, starts_in};
 use tm_types::entry::{Args, LineKind, Perms};
 use tm_types::step::LineFault;
-use tm_word::Text;
+use tm_word::{Text, begins, bytes_equal};
 
-// The row of a permission.
+/// The row that has this permission, if one does.
 #[tactic(auto, unfolding(crate::specs::FileLines::row_of))]
-fn row_of(piece: &[u8]) -> Option<Row>
+pub fn row_of(piece: &[u8]) -> Option<Row>
     ensures { result ≡ row_of piece.now }
 {
     if mask_in(Row::Path, piece).is_some() {
@@ -77,7 +75,7 @@ fn args_at(
     alone: bool,
     words: &[Text],
 ) -> Result<(Args, &[Text]), LineFault>
-    ensures { Gives (λ x. (x.0, x.1.now)) result (args_at row alone words.now) }
+    ensures { Gives line_cause (λ x. (x.0, x.1.now)) result (args_at row alone words.now) }
 {
     match row {
         Row::Path => path_at(alloc, alone, words),
@@ -105,7 +103,7 @@ fn args_at(
 // The arguments of a mount.
 #[tactic(auto, unfolding(crate::specs::FileLines::mount_at))]
 fn mount_at(alloc: Global, words: &[Text]) -> Result<(Args, &[Text]), LineFault>
-    ensures { Gives (λ x. (x.0, x.1.now)) result (mount_at words.now) }
+    ensures { Gives line_cause (λ x. (x.0, x.1.now)) result (mount_at words.now) }
 {
     let (device, rest) = name_at(alloc, words)?;
     let (dir, rest) = name_at(alloc, rest)?;
@@ -121,7 +119,7 @@ fn row_line<'a>(
     word: &[u8],
     words: &'a [Text],
 ) -> Result<(Args, Perms, &'a [Text]), LineFault>
-    ensures { Gives (λ x. (x.0, x.1, x.2.now)) result (row_line (row_in (pieces_of word.now)) word.now words.now) }
+    ensures { Gives line_cause (λ x. (x.0, x.1, x.2.now)) result (row_line (row_in (pieces_of word.now)) word.now words.now) }
 {
     let pieces = pieces_of(alloc, word)?;
     match row_in(&pieces) {
@@ -143,7 +141,7 @@ fn row_line<'a>(
 // What stands after `file`.
 #[tactic(auto, unfolding(crate::specs::FileLines::perms_line))]
 fn perms_line(alloc: Global, words: &[Text]) -> Result<(Args, Perms, &[Text]), LineFault>
-    ensures { Gives (λ x. (x.0, x.1, x.2.now)) result (perms_line words.now) }
+    ensures { Gives line_cause (λ x. (x.0, x.1, x.2.now)) result (perms_line words.now) }
 {
     match words {
         [] => Err(LineFault::Kind(LineKind::Arity)),
@@ -165,7 +163,7 @@ fn perms_line(alloc: Global, words: &[Text]) -> Result<(Args, Perms, &[Text]), L
 /// Errors: the kind of the first word at which the line can't go on, and `Arity` where a word is missing.
 #[tactic(auto, unfolding(crate::specs::FileLines::file_line))]
 pub fn file_acl_at(alloc: Global, words: &[Text]) -> Result<(Args, Perms, &[Text]), LineFault>
-    ensures { Gives (λ x. (x.0, x.1, x.2.now)) result (file_line words.now) }
+    ensures { Gives line_cause (λ x. (x.0, x.1, x.2.now)) result (file_line words.now) }
 {
     let rest = keyword_at(b"file", words)?;
     perms_line(alloc, rest)
@@ -175,7 +173,7 @@ pub fn file_acl_at(alloc: Global, words: &[Text]) -> Result<(Args, Perms, &[Text
 ///
 /// Errors: the kind of the first word at which the line can't go on, and `Arity` where a word is missing.
 pub fn read_file_acl(alloc: Global, words: &[Text]) -> Result<(Args, Perms, usize), LineFault>
-    ensures exact { Gives (λ x. x) result (counted (length words.now) (file_line words.now)) }
+    ensures exact { Gives line_cause (λ x. x) result (counted (length words.now) (file_line words.now)) }
     ensures within { IfOk result (λ x. x.2 ≤ length words.now) }
 {
     let (args, perms, rest) = file_acl_at(alloc, words)?;

@@ -1,3 +1,4 @@
 pub mod Pids
 pub mod TraceLaws
 pub mod OpeningLaws
+mod TextLines

@@ -1,5 +1,5 @@
 -- Every opening of the first path is domain `<kernel>` alone with a profile.
-use Rattle.std.proofs.Common.{◌≡◌, ℕ, zero, suc, ◌==◌, Bool, true, false, ◌&&◌, ◌||◌, List, [], ◌∷◌, refl, sym, ◌∙◌, subst}
+use Rattle.std.proofs.Common.{◌≡◌, ℕ, zero, suc, ◌+◌, ◌==◌, Bool, true, false, ◌&&◌, ◌||◌, List, [], ◌∷◌, refl, sym, ◌∙◌, subst}
 use Rattle.std.specs.Prelude.{Option, Some, None, Result, Ok, Err, if◌then◌else◌, IsSome, is_some, not, unwrap_or, nat_lt, slice_get, bit_or}
 use Rattle.std.specs.List.{AllByRecursion}
 use Rattle.std.specs.Option.{option_and_then, option_map_or}
@@ -18,7 +18,7 @@ use Rattle.tm_types.specs.declared.policy.Policy.{Policy}
 use Rattle.tm_types.specs.declared.step.FileKind.{FileKind}
 use Rattle.tm_types.specs.declared.step.EditReply.{EditReply}
 use Rattle.tm_rules.specs.Words.{Cursor, DomainName}
-use Rattle.tm_rules.specs.Equality.{texts_equal}
+use Rattle.tm_word.specs.Texts.{texts_equal}
 use Rattle.tm_rules.proofs.EqualityLaws.{both, same_texts}
 use Rattle.tm_rules.specs.Policy.{kernel, at_key, empty_namespace, namespace_named, namespace_word, profile_numbered, profile_of, live_domain, same_line, adding}
 use Rattle.tm_rules.specs.Edit.{Edited, refused, put_key, in_namespace, changing_namespace, new_profile, set_config, profile_line, on_chosen, changed_domain, choosing, domain_line, apply_read, apply_parsed}
@@ -26,7 +26,8 @@ use Rattle.tm_rules.specs.Load.{new_policy, is_done}
 use Rattle.tm_policy.specs.Lines.{read_line}
 use Rattle.tm_forms.specs.declared.opening.Stage.{Stage}
 use Rattle.tm_forms.specs.declared.opening.Loading.{Loading}
-use Rattle.tm_forms.specs.Lines.{◌>>=◌, text_lines}
+use Rattle.tm_word.specs.Gives.{◌>>=◌}
+use Rattle.tm_forms.specs.Lines.{text_lines}
 use Rattle.tm_forms.specs.Opening.{file_of, may_end, after_stage, effect_fits, is_kernel, is_use_profile, is_quota_exceeded, is_literal_path, are_built_permissions, is_no_condition, is_built_entry, is_entry, names_profile, has_silent_profile, silent_or_fault, rule_fits, line_fits, stage_after, stage_at, edited_as, load_line, load_lines, profile_opening, domain_opening, opened_or_fault, with_domains, opening_of}
 use Rattle.tm_forms.specs.Opened.{IsFirstProfile, IsFirstNumbered, IsFirstNamespace, IsSilent, IsFirst, EveryOpeningIsFirst}
 use Rattle.tm_forms.proofs.TraceLaws.{ok_is, bind_ok}
@@ -524,8 +525,8 @@ lines_fit number s [] p good e =
     let end = if_both (may_end s.stage) s.policy number p e in
     subst (Ended (file_of s.stage)) end.1 (ended s.stage s.policy end.0 good.0 good.1)
 lines_fit number s (line ∷ lines) p good e =
-    let found = bind_ok (load_line number s line) (λ next. load_lines (suc number) next lines) p e in
-    subst (λ file. Ended file p) (same_file number s line found.0 found.1) (lines_fit (suc number) found.0 lines p (line_step number s line found.0 good found.1) found.2)
+    let found = bind_ok (load_line number s line) (λ next. load_lines (number + 1) next lines) p e in
+    subst (λ file. Ended file p) (same_file number s line found.0 found.1) (lines_fit (number + 1) found.0 lines p (line_step number s line found.0 good found.1) found.2)
 
 -- Both files
 

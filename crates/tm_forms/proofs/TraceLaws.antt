@@ -1,22 +1,23 @@
 -- Every trace that is read has plain trees with distinct pids.
-use Rattle.std.proofs.Common.{◌≡◌, ℕ, suc, ◌==◌, Bool, true, false, ◌||◌, List, [], ◌∷◌, ◌++◌, refl, sym, ap, ◌∙◌, subst}
+use Rattle.std.proofs.Common.{◌≡◌, ℕ, ◌+◌, ◌==◌, Bool, true, false, ◌||◌, List, [], ◌∷◌, ◌++◌, refl, sym, ap, ◌∙◌, subst}
 use Rattle.std.specs.Prelude.{Option, Some, None, Result, Ok, Err, if◌then◌else◌, codes, option_to_list}
 use Rattle.std.specs.List.{AllByRecursion, IsDistinct}
 use Rattle.tm_word.specs.Words.{Text, Word}
-use Rattle.tm_word.specs.Spelling.{words_of}
+use Rattle.tm_word.specs.Spelling.{words_of, are_bytes, spelled_word}
 use Rattle.tm_word.specs.Matching.{is_empty}
 use Rattle.tm_word.specs.Printing.{literal}
 use Rattle.tm_word.proofs.Literals.{literal-name}
-use Rattle.tm_pattern.specs.Reading.{word_of}
 use Rattle.tm_types.specs.declared.request.Request.{Request}
 use Rattle.tm_types.specs.declared.request.Item.{Item}
 use Rattle.tm_types.specs.declared.request.Tree.{Tree}
 use Rattle.tm_types.specs.Functions.{function_of}
 use Rattle.tm_rules.specs.Words.{Trace}
-use Rattle.tm_rules.specs.Equality.{texts_equal}
-use Rattle.tm_rules.specs.Requests.{is_request, begins_with_byte}
+use Rattle.tm_word.specs.Texts.{texts_equal, begins_with_byte}
+use Rattle.tm_rules.specs.Requests.{is_request}
 use Rattle.tm_rules.proofs.EqualityLaws.{same_patterns}
-use Rattle.tm_forms.specs.Lines.{◌>>=◌, text_lines}
+use Rattle.tm_word.proofs.Spelled.{word_small}
+use Rattle.tm_word.specs.Gives.{◌>>=◌}
+use Rattle.tm_forms.specs.Lines.{text_lines}
 use Rattle.tm_forms.specs.Numbers.{positive_of}
 use Rattle.tm_forms.specs.Trace.{path_request, named_request, perm_of, request_for, new_tree, tree_line, with_request, same_pid, do_line, Trees, no_trees, all_trees, is_known, with_tree, with_do, trace_line, trace_lines, trace_of}
 use Rattle.tm_forms.specs.TraceForms.{IsPlain, IsPlainItem, IsPlainTree, pids_of, IsPlainTrace, EveryTraceIsPlain}
@@ -82,37 +83,37 @@ distinct_more (first ∷ pids) pid distinct others = (all_more (λ y. (first == 
 module _ (is_path : Text → Bool) where
   -- Requests
 
-  -- a name that a word of a line can write
+  -- a name that a word of a line can write: bytes, at least one, and the first isn't `@`
   abbrev IsNamed : Word → Type 0
-  IsNamed name = (is_empty name || begins_with_byte 64 name) ≡ false
+  IsNamed name = ((is_empty name || begins_with_byte 64 name) ≡ false) × (are_bytes name ≡ true)
 
   fits_at_1 : (name : Word) → IsNamed name → IsPlain is_path (path_request 1 name)
   unfolding is_request function_of
   fits_at_1 name h =
-      let full = no_left (is_empty name) (begins_with_byte 64 name) h in
-      let own = no_right (is_empty name) (begins_with_byte 64 name) h in
-      record { askable = rw (literal-name name, same_patterns.full (literal name), full, own) refl; execute = refl; manual = refl }
+      let full = no_left (is_empty name) (begins_with_byte 64 name) h.0 in
+      let own = no_right (is_empty name) (begins_with_byte 64 name) h.0 in
+      record { askable = rw (literal-name name, same_patterns.full (literal name), full, own, h.1) refl; execute = refl; manual = refl }
 
   fits_at_2 : (name : Word) → IsNamed name → IsPlain is_path (path_request 2 name)
   unfolding is_request function_of
   fits_at_2 name h =
-      let full = no_left (is_empty name) (begins_with_byte 64 name) h in
-      let own = no_right (is_empty name) (begins_with_byte 64 name) h in
-      record { askable = rw (literal-name name, same_patterns.full (literal name), full, own) refl; execute = refl; manual = refl }
+      let full = no_left (is_empty name) (begins_with_byte 64 name) h.0 in
+      let own = no_right (is_empty name) (begins_with_byte 64 name) h.0 in
+      record { askable = rw (literal-name name, same_patterns.full (literal name), full, own, h.1) refl; execute = refl; manual = refl }
 
   fits_at_3 : (name : Word) → IsNamed name → IsPlain is_path (path_request 3 name)
   unfolding is_request function_of
   fits_at_3 name h =
-      let full = no_left (is_empty name) (begins_with_byte 64 name) h in
-      let own = no_right (is_empty name) (begins_with_byte 64 name) h in
-      record { askable = rw (literal-name name, same_patterns.full (literal name), full, own) refl; execute = refl; manual = refl }
+      let full = no_left (is_empty name) (begins_with_byte 64 name) h.0 in
+      let own = no_right (is_empty name) (begins_with_byte 64 name) h.0 in
+      record { askable = rw (literal-name name, same_patterns.full (literal name), full, own, h.1) refl; execute = refl; manual = refl }
 
   fits_at_5 : (name : Word) → IsNamed name → IsPlain is_path (path_request 5 name)
   unfolding is_request function_of
   fits_at_5 name h =
-      let full = no_left (is_empty name) (begins_with_byte 64 name) h in
-      let own = no_right (is_empty name) (begins_with_byte 64 name) h in
-      record { askable = rw (literal-name name, same_patterns.full (literal name), full, own) refl; execute = refl; manual = refl }
+      let full = no_left (is_empty name) (begins_with_byte 64 name) h.0 in
+      let own = no_right (is_empty name) (begins_with_byte 64 name) h.0 in
+      record { askable = rw (literal-name name, same_patterns.full (literal name), full, own, h.1) refl; execute = refl; manual = refl }
 
   some_is : (x y : ℕ) → Some x ≡ Some y → x ≡ y
   some_is x y e = cc
@@ -131,18 +132,18 @@ module _ (is_path : Text → Bool) where
       go false false false true is = at 5 (fits_at_5 name h) is
       go false false false false is = absurd cc
 
-  named_fits : (line perm : ℕ) (word : Text) (name : Option Word) (r : Request) → perm_of word ≡ Some perm → named_request line perm name ≡ Ok r → IsPlain is_path r
-  named_fits line perm word None r is e = absurd cc
-  named_fits line perm word (Some name) r is e =
+  named_fits : (line perm : ℕ) (word : Text) (name : Option Word) (r : Request) → perm_of word ≡ Some perm → ((bytes : Word) → name ≡ Some bytes → are_bytes bytes ≡ true) → named_request line perm name ≡ Ok r → IsPlain is_path r
+  named_fits line perm word None r is small e = absurd cc
+  named_fits line perm word (Some name) r is small e =
       let found = if_err (is_empty name || begins_with_byte 64 name) (Ok (path_request perm name)) line r e in
-      subst (IsPlain is_path) (ok_is (path_request perm name) r found.1) (perm_fits word perm name is found.0)
+      subst (IsPlain is_path) (ok_is (path_request perm name) r found.1) (perm_fits word perm name is (found.0, small name refl))
 
   request_fits : (line : ℕ) (word name : Text) (r : Request) → request_for line (perm_of word) name ≡ Ok r → IsPlain is_path r
   request_fits line word name r e = go (perm_of word) refl e
     where
       go : (perm : Option ℕ) → perm_of word ≡ perm → request_for line perm name ≡ Ok r → IsPlain is_path r
       go None is h = absurd cc
-      go (Some perm) is h = named_fits line perm word (word_of name) r is h
+      go (Some perm) is h = named_fits line perm word (spelled_word name) r is (word_small name) h
 
   same_fits : (line own pid : ℕ) (perm name : Text) (r : Request) → same_pid line own pid perm name ≡ Ok r → IsPlain is_path r
   same_fits line own pid perm name r e = request_fits line perm name r (if_ok (pid == own) (request_for line (perm_of perm) name) line r e)
@@ -224,8 +225,8 @@ module _ (is_path : Text → Bool) where
   unfolding trace_lines
   lines_fit number trees [] trace plain e = subst (IsPlainTrace is_path) (ok_is (all_trees trees) trace e) plain
   lines_fit number trees (line ∷ lines) trace plain e =
-      let found = bind_ok (trace_line number trees (words_of line)) (λ next. trace_lines (suc number) next lines) trace e in
-      lines_fit (suc number) found.0 lines trace (line_fits number trees (words_of line) found.0 plain found.1) found.2
+      let found = bind_ok (trace_line number trees (words_of line)) (λ next. trace_lines (number + 1) next lines) trace e in
+      lines_fit (number + 1) found.0 lines trace (line_fits number trees (words_of line) found.0 plain found.1) found.2
 
 none_fit : (is_path : Text → Bool) → IsPlainTrace is_path []
 unfolding IsDistinct

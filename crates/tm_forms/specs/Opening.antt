@@ -1,6 +1,6 @@
 -- The policy that the two policy files of the first path give.
 use Rattle.std.specs.Option.{option_map_or}
-use Rattle.std.specs.Prelude.{ℕ, suc, ◌==◌, bit_or, Bool, true, false, ◌&&◌, ◌||◌, not, List, [], ◌∷◌, None, Result, Ok, Err, if◌then◌else◌, is_some}
+use Rattle.std.specs.Prelude.{ℕ, ◌+◌, ◌==◌, bit_or, Bool, true, false, ◌&&◌, ◌||◌, not, List, [], ◌∷◌, None, Result, Ok, Err, if◌then◌else◌, is_some}
 use Rattle.tm_word.specs.Words.{Text}
 use Rattle.tm_word.specs.Matching.{is_empty}
 use Rattle.tm_word.specs.Printing.{is_literal}
@@ -15,14 +15,15 @@ use Rattle.tm_types.specs.declared.policy.DomainRule.{DomainRule}
 use Rattle.tm_types.specs.declared.policy.PolicyLine.{PolicyLine}
 use Rattle.tm_types.specs.declared.policy.Policy.{Policy}
 use Rattle.tm_types.specs.declared.step.FileKind.{FileKind}
-use Rattle.tm_rules.specs.Equality.{texts_equal}
+use Rattle.tm_word.specs.Texts.{texts_equal}
 use Rattle.tm_rules.specs.Policy.{kernel, domain_at, profile_of}
 use Rattle.tm_rules.specs.Edit.{Edited, apply_parsed}
 use Rattle.tm_rules.specs.Load.{new_policy, is_done}
 use Rattle.tm_policy.specs.Lines.{read_line}
 use Rattle.tm_forms.specs.declared.opening.Stage.{Stage}
 use Rattle.tm_forms.specs.declared.opening.Loading.{Loading}
-use Rattle.tm_forms.specs.Lines.{◌>>=◌, text_lines}
+use Rattle.tm_word.specs.Gives.{◌>>=◌}
+use Rattle.tm_forms.specs.Lines.{text_lines}
 
 -- Which line may stand where
 
@@ -216,7 +217,7 @@ load_line number s line =
 -- all lines of a file, the first with this number; where it ends too early, the line past the last is at fault
 unfoldable pub load_lines : ℕ → Loading → List Text → Result Policy ℕ
 load_lines number s [] = if may_end s.stage then Ok s.policy else Err number
-load_lines number s (line ∷ lines) = load_line number s line >>= (λ next. load_lines (suc number) next lines)
+load_lines number s (line ∷ lines) = load_line number s line >>= (λ next. load_lines (number + 1) next lines)
 
 -- a file begins at this stage, with no domain chosen
 abbrev pub load_from : Stage → Policy → Text → Result Policy ℕ

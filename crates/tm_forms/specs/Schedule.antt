@@ -1,10 +1,11 @@
 -- Schedules: whose turn it is, one tree a line.
-use Rattle.std.specs.Prelude.{ℕ, suc, nat_lt, List, [], ◌∷◌, ◌++◌, Option, Some, None, Result, Ok, Err, if◌then◌else◌, codes, option_to_list}
+use Rattle.std.specs.Prelude.{ℕ, ◌+◌, nat_lt, List, [], ◌∷◌, ◌++◌, Option, Some, None, Result, Ok, Err, if◌then◌else◌, codes, option_to_list}
 use Rattle.tm_word.specs.Words.{Text}
 use Rattle.tm_word.specs.Spelling.{words_of}
 use Rattle.tm_types.specs.declared.step.Turn.{Turn}
-use Rattle.tm_rules.specs.Equality.{texts_equal}
-use Rattle.tm_forms.specs.Lines.{◌>>=◌, text_lines}
+use Rattle.tm_word.specs.Texts.{texts_equal}
+use Rattle.tm_word.specs.Gives.{◌>>=◌}
+use Rattle.tm_forms.specs.Lines.{text_lines}
 use Rattle.tm_forms.specs.Numbers.{positive_of}
 
 -- the turn of the tree with this number, where there are so many trees
@@ -22,7 +23,7 @@ schedule_line trees line words = Err line
 unfoldable pub schedule_lines : ℕ → ℕ → List Turn → List Text → Result (List Turn) ℕ
 schedule_lines trees number turns [] = Ok turns
 schedule_lines trees number turns (line ∷ lines) =
-    schedule_line trees number (words_of line) >>= (λ turn. schedule_lines trees (suc number) (turns ++ option_to_list turn) lines)
+    schedule_line trees number (words_of line) >>= (λ turn. schedule_lines trees (number + 1) (turns ++ option_to_list turn) lines)
 
 -- the schedule for so many trees that a text spells, or the first line outside this form
 unfoldable pub schedule_of : ℕ → Text → Result (List Turn) ℕ

@@ -1,13 +1,12 @@
 -- The traces that are played so far: trees that begin in `<kernel>`, each with the reads, writes, appends and getattrs of its one process.
-use Rattle.std.specs.Prelude.{◌≡◌, ℕ, suc, Bool, ◌||◌, ◌==◌, List, [], ◌∷◌, ◌++◌, Option, Some, None, Result, Ok, Err, if◌then◌else◌, codes, option_to_list}
+use Rattle.std.specs.Prelude.{◌≡◌, ℕ, ◌+◌, Bool, ◌||◌, ◌==◌, List, [], ◌∷◌, ◌++◌, Option, Some, None, Result, Ok, Err, if◌then◌else◌, codes, option_to_list}
 use Rattle.std.specs.List.{list_any}
 use Rattle.std.specs.Ordering.{nat_cmp}
 use Rattle.std.specs.BTreeSet.{BTreeSet, contains}
 use Rattle.tm_word.specs.Words.{Text, Word}
-use Rattle.tm_word.specs.Spelling.{words_of}
+use Rattle.tm_word.specs.Spelling.{words_of, spelled_word}
 use Rattle.tm_word.specs.Matching.{is_empty}
 use Rattle.tm_word.specs.Printing.{literal}
-use Rattle.tm_pattern.specs.Reading.{word_of}
 use Rattle.tm_types.specs.declared.unions.NameUnion.{NameUnion}
 use Rattle.tm_types.specs.declared.entry.Args.{Args}
 use Rattle.tm_types.specs.declared.request.Attributes.{Attributes}
@@ -15,9 +14,9 @@ use Rattle.tm_types.specs.declared.request.Request.{Request}
 use Rattle.tm_types.specs.declared.request.Item.{Item}
 use Rattle.tm_types.specs.declared.request.Tree.{Tree}
 use Rattle.tm_rules.specs.Words.{Trace}
-use Rattle.tm_rules.specs.Equality.{texts_equal}
-use Rattle.tm_rules.specs.Requests.{begins_with_byte}
-use Rattle.tm_forms.specs.Lines.{◌>>=◌, text_lines}
+use Rattle.tm_word.specs.Texts.{texts_equal, begins_with_byte}
+use Rattle.tm_word.specs.Gives.{◌>>=◌}
+use Rattle.tm_forms.specs.Lines.{text_lines}
 use Rattle.tm_forms.specs.Numbers.{positive_of}
 
 -- Requests
@@ -49,7 +48,7 @@ perm_of word =
 -- the request for that permission on that name
 abbrev pub request_for : ℕ → Option ℕ → Text → Result Request ℕ
 request_for line None name = Err line
-request_for line (Some perm) name = named_request line perm (word_of name)
+request_for line (Some perm) name = named_request line perm (spelled_word name)
 
 -- Lines
 
@@ -119,7 +118,7 @@ trace_line line trees (key ∷ words) =
 -- the trace after these lines, the first with this number
 unfoldable pub trace_lines : ℕ → Trees → List Text → Result Trace ℕ
 trace_lines number trees [] = Ok (all_trees trees)
-trace_lines number trees (line ∷ lines) = trace_line number trees (words_of line) >>= (λ next. trace_lines (suc number) next lines)
+trace_lines number trees (line ∷ lines) = trace_line number trees (words_of line) >>= (λ next. trace_lines (number + 1) next lines)
 
 -- the trace that a text spells, or the first line outside these forms
 unfoldable pub trace_of : Text → Result Trace ℕ

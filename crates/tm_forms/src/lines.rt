@@ -1,12 +1,10 @@
 //! The lines of a text.
-ghost use Rattle.std.specs.Prelude.{◌≡◌, ◌==◌, IfOk};
-ghost use Rattle.std.specs.List.{slice_split};
-ghost use Rattle.tm_forms.specs.Lines.{ends_empty, text_lines};
+ghost use Rattle.std.specs.Prelude.{◌≡◌, ◌<◌, [], ◌∷◌, length, IfSome, MatchOption};
+ghost use Rattle.tm_forms.specs.Lines.{text_lines};
 ghost use Rattle.tm_forms.specs.declared.lines.FormFault.TheVariants.{NoMemory};
 
-use std::alloc::{AllocError, AllocFailed, Global};
-use tm_list::NoMemory;
-use tm_word::Text;
+use std::alloc::{AllocError, AllocFailed};
+use tm_word::cut_at;
 
 /// The first line outside the forms that are read, numbered from 1, one past the last where a file ends too early; or want of memory.
 #[derive(Clone, Copy, PartialEq, Eq, Debug)]
@@ -33,35 +31,19 @@ impl<T: Drop> From<AllocFailed<T>> for FormFault {
     }
 }
 
-/// What stands between the bytes 10 of a text, before the first and after the last.
-fn pieces(alloc: Global, text: &[u8]) -> Result<Vec<Text>, NoMemory>
-    ensures { IfOk result (λ pieces. pieces.items ≡ slice_split (λ b. b == 10) text.now) }
+/// The first line of a text, and the text after it; None where it has no line. Each line ends with byte 10, and the last
+/// one needn't.
+#[tactic(auto, using(crate::proofs::TextLines::line_cut), unfolding(crate::specs::Lines::text_lines))]
+pub(crate) fn first_line(text: &[u8]) -> Option<(&[u8], &[u8])>
+    ensures lines { MatchOption result (text_lines text.now ≡ [])
+        (λ cut. text_lines text.now ≡ cut.0.now ∷ text_lines cut.1.now) }
+    ensures shorter { IfSome result (λ cut. length cut.1.now < length text.now) }
 {
-    let mut pieces = Vec::new(alloc);
-    for piece in text.split(|byte| *byte == b'\n') {
-        pieces.push(Text::from_bytes(alloc, piece)?)?;
+    if text.is_empty() {
+        return None;
     }
-    Ok(pieces)
-}
-
-/// Whether the last piece is empty.
-fn ends_empty(pieces: &[Text]) -> bool
-    ensures { result ≡ ends_empty pieces.now }
-{
-    match pieces.last() {
-        Some(last) => last.is_empty(),
-        None => true,
+    match cut_at(b'\n', text) {
+        Some(cut) => Some(cut),
+        None => Some((text, &[])),
     }
-}
-
-/// The lines of a text: each ends with byte 10, and the last one needn't.
-#[tactic(auto, unfolding(crate::specs::Lines::text_lines))]
-pub(crate) fn text_lines(alloc: Global, text: &[u8]) -> Result<Vec<Text>, NoMemory>
-    ensures { IfOk result (λ lines. lines.items ≡ text_lines text.now) }
-{
-    let mut lines = pieces(alloc, text)?;
-    if ends_empty(&lines) {
-        lines.pop();
-    }
-    Ok(lines)
 }

@@ -1,28 +1,28 @@
 //! The policy that the two policy files of the first path give.
-ghost use Rattle.std.specs.Prelude.{◌≡◌, Ok, IfOk};
-ghost use Rattle.tm_rules.specs.Load.{new_policy, is_done};
-ghost use Rattle.tm_forms.specs.Lines.{Gives};
+ghost use Rattle.std.specs.Prelude.{◌≡◌, Ok};
+ghost use Rattle.tm_rules.specs.Load.{is_done};
+ghost use Rattle.tm_word.specs.Gives.{Gives, GivesNow};
+ghost use Rattle.tm_forms.specs.Lines.{form_cause};
 ghost use Rattle.tm_forms.specs.Opened.{EveryOpeningIsFirst};
 ghost use Rattle.tm_policy.specs.Lines.{read_line};
 ghost use Rattle.tm_rules.specs.Edit.{apply_parsed};
 ghost use Rattle.tm_forms.specs.Opening.{file_of, may_end, after_stage, effect_fits, is_quota_exceeded, names_profile, is_silent_profile, has_silent_profile, silent_or_fault, is_kernel, is_use_profile, is_literal_name, is_literal_path, is_no_condition, is_built_entry, is_entry, rule_fits, line_fits, stage_after, stage_at, edited_as, load_line, load_from, profile_opening, domain_opening};
 
-use crate::lines::{FormFault, text_lines};
+use crate::lines::{FormFault, first_line};
 use std::alloc::Global;
-use tm_list::{Map, NoMemory, Seq};
 use tm_pattern::is_literal;
-use tm_policy::{apply_line, domain_at, profile_of, read_line};
-use tm_rules::bytes_equal;
+use tm_policy::{PolicyCalls, apply_line, domain_at, profile_of, read_line};
 use tm_types::entry::{Args, Cond, Entry};
-use tm_types::policy::{Cursor, Domain, DomainRule, Policy, PolicyLine, Profile, ProfileEffect};
+use tm_types::policy::{Cursor, DomainRule, Policy, PolicyLine, Profile, ProfileEffect};
 use tm_types::step::{EditReply, FileKind, LineFault};
 use tm_types::unions::NameUnion;
+use tm_word::bytes_equal;
 
 /// The permissions of entries that the program plays: read, write, append and getattr.
 const PLAYED_PERMISSIONS: u16 = 2 | 4 | 8 | 32;
 
 /// Which line of a policy file has to come.
-#[derive(Clone, Copy, PartialEq, Eq, Debug)]
+#[derive(Clone, Copy)]
 enum Stage {
     /// The version of the profiles.
     Version,
@@ -260,7 +260,7 @@ fn stage_after(stage: Stage, line: &PolicyLine) -> Stage
 /// The stage after a line that may stand here.
 #[tactic(auto, unfolding(crate::specs::Opening::stage_at))]
 fn next_stage(number: u64, stage: Stage, line: &PolicyLine) -> Result<Stage, FormFault>
-    ensures { Gives result (stage_at number stage (Ok line.now)) }
+    ensures { GivesNow form_cause (λ x. x) result (stage_at number stage (Ok line.now)) }
 {
     if line_fits(stage, line) {
         Ok(stage_after(stage, line))
@@ -272,7 +272,7 @@ fn next_stage(number: u64, stage: Stage, line: &PolicyLine) -> Result<Stage, For
 /// The stage after a line of this text, where it may stand here.
 #[tactic(auto, unfolding(crate::specs::Opening::stage_at))]
 fn stage_at(alloc: Global, number: u64, stage: Stage, text: &[u8]) -> Result<Stage, FormFault>
-    ensures { Gives result (stage_at number stage (read_line (file_of stage) text.now)) }
+    ensures { Gives form_cause (λ x. x) result (stage_at number stage (read_line (file_of stage) text.now)) }
 {
     match read_line(alloc, file_of(stage), text) {
         Ok(line) => next_stage(number, stage, &line),
@@ -304,7 +304,8 @@ fn edit_line(
     state: Loading,
     text: &[u8],
 ) -> Result<Loading, FormFault>
-    ensures { Gives result (edited_as number next (apply_parsed state.policy state.cursor (read_line file text.now))) }
+    ensures { Gives form_cause (λ x. x) result
+        (edited_as number next (apply_parsed state.policy state.cursor (read_line file text.now))) }
 {
     let Loading {
         mut policy,
@@ -364,7 +365,7 @@ fn has_silent_profile(policy: &Policy) -> bool
 /// What a line has left, where the profile that it may name writes no log.
 #[tactic(auto, unfolding(crate::specs::Opening::silent_or_fault))]
 fn silent_or_fault(number: u64, before: Stage, next: Loading) -> Result<Loading, FormFault>
-    ensures { Gives result (silent_or_fault number before next) }
+    ensures { GivesNow form_cause (λ x. x) result (silent_or_fault number before next) }
 {
     if names_profile(before, next.stage) && !has_silent_profile(&next.policy) {
         drop(next);
@@ -377,7 +378,7 @@ fn silent_or_fault(number: u64, before: Stage, next: Loading) -> Result<Loading,
 /// Does a line that may stand here.
 #[tactic(auto, unfolding(crate::specs::Opening::load_line))]
 fn load_line(alloc: Global, number: u64, state: Loading, text: &[u8]) -> Result<Loading, FormFault>
-    ensures { Gives result (load_line number state text.now) }
+    ensures { Gives form_cause (λ x. x) result (load_line number state text.now) }
 {
     let stage = state.stage;
     let next = stage_at(alloc, number, stage, text)?;
@@ -388,46 +389,26 @@ fn load_line(alloc: Global, number: u64, state: Loading, text: &[u8]) -> Result<
 /// Does all lines of a file that begins at this stage.
 #[tactic(auto, unfolding(crate::specs::Opening::load_lines))]
 fn load_from(alloc: Global, stage: Stage, policy: Policy, text: &[u8]) -> Result<Policy, FormFault>
-    ensures { Gives result (load_from stage policy text.now) }
+    ensures { Gives form_cause (λ x. x) result (load_from stage policy text.now) }
 {
-    let lines = text_lines(alloc, text)?;
     let mut state = Loading {
         stage,
         policy,
         cursor: None,
     };
-    for (place, line) in lines.iter().enumerate() {
-        state = load_line(alloc, place as u64 + 1, state, line.bytes())?;
+    let mut rest = text;
+    let mut number = 1;
+    while let Some((line, after)) = first_line(rest) {
+        state = load_line(alloc, number, state, line)?;
+        rest = after;
+        number += 1;
     }
     if may_end(state.stage) {
         let Loading { policy, .. } = state;
         Ok(policy)
     } else {
-        Err(FormFault::Line(lines.len() as u64 + 1))
+        Err(FormFault::Line(number))
     }
-}
-
-/// Domain `<kernel>` alone.
-fn new_policy(alloc: Global) -> Result<Policy, NoMemory>
-    ensures { IfOk result (λ policy. policy ≡ new_policy) }
-{
-    let mut domains = Seq::new(alloc);
-    domains.push(Domain {
-        name: Seq::from_bytes(alloc, b"<kernel>")?,
-        live: true,
-        profile: 0,
-        groups: Map::new(alloc),
-        quota_exceeded: false,
-        transition_failed: false,
-        entries: Seq::new(alloc),
-    })?;
-    Ok(Policy {
-        namespaces: Seq::new(alloc),
-        domains,
-        by_non_root: false,
-        managers: Seq::new(alloc),
-        opened: false,
-    })
 }
 
 /// Reads `profile`: `PROFILE_VERSION=20150505`, then lines `N-CONFIG={ mode=M grant_log=Y reject_log=Y }` and
@@ -436,9 +417,9 @@ fn new_policy(alloc: Global) -> Result<Policy, NoMemory>
 /// Errors: the first line outside these forms, one past the last where the version is missing, or want of memory.
 #[tactic(auto, unfolding(crate::specs::Opening::profile_opening))]
 pub fn read_profile(alloc: Global, profile: &[u8]) -> Result<Policy, FormFault>
-    ensures { Gives result (profile_opening profile.now) }
+    ensures { Gives form_cause (λ x. x) result (profile_opening profile.now) }
 {
-    let policy = new_policy(alloc)?;
+    let policy = Policy::new(alloc)?;
     load_from(alloc, Stage::Version, policy, profile)
 }
 
@@ -453,7 +434,7 @@ pub fn read_domains(
     policy: Policy,
     domain_policy: &[u8],
 ) -> Result<Policy, FormFault>
-    ensures { Gives result (domain_opening policy domain_policy.now) }
+    ensures { Gives form_cause (λ x. x) result (domain_opening policy domain_policy.now) }
 {
     load_from(alloc, Stage::Kernel, policy, domain_policy)
 }

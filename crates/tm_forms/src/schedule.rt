@@ -1,18 +1,18 @@
 //! Schedules: whose turn it is.
-ghost use Rattle.tm_forms.specs.Lines.{Gives};
+ghost use Rattle.tm_word.specs.Gives.{Gives, GivesNow};
+ghost use Rattle.tm_forms.specs.Lines.{form_cause};
 ghost use Rattle.tm_forms.specs.Schedule.{turn_of_tree, schedule_line, schedule_of};
 
-use crate::lines::{FormFault, text_lines};
+use crate::lines::{FormFault, first_line};
 use crate::numbers::positive_of;
 use std::alloc::Global;
 use tm_list::Seq;
-use tm_rules::bytes_equal;
 use tm_types::step::Turn;
-use tm_word::{Text, normal_words};
+use tm_word::{Text, bytes_equal, normal_words};
 
 /// The turn of the tree with this number, where there are so many trees.
 fn turn_of_tree(trees: u32, line: u64, number: u32) -> Result<Turn, FormFault>
-    ensures { Gives result (turn_of_tree trees line number) }
+    ensures { GivesNow form_cause (λ x. x) result (turn_of_tree trees line number) }
 {
     if trees < number {
         Err(FormFault::Line(line))
@@ -24,7 +24,7 @@ fn turn_of_tree(trees: u32, line: u64, number: u32) -> Result<Turn, FormFault>
 /// Reads `tree N`; a line without words is no turn.
 #[tactic(auto, unfolding(crate::specs::Schedule::schedule_line))]
 fn schedule_line(trees: u32, line: u64, words: &[Text]) -> Result<Option<Turn>, FormFault>
-    ensures { Gives result (schedule_line trees line words.now) }
+    ensures { GivesNow form_cause (λ x. x) result (schedule_line trees line words.now) }
 {
     match words {
         [] => Ok(None),
@@ -46,41 +46,18 @@ fn schedule_line(trees: u32, line: u64, words: &[Text]) -> Result<Option<Turn>, 
 /// Errors: the first line outside this form, or want of memory.
 #[tactic(auto, unfolding(crate::specs::Schedule::schedule_of, crate::specs::Schedule::schedule_lines))]
 pub fn read_schedule(alloc: Global, bytes: &[u8], trees: u32) -> Result<Seq<Turn>, FormFault>
-    ensures { Gives result (schedule_of trees bytes.now) }
+    ensures { Gives form_cause (λ x. x) result (schedule_of trees bytes.now) }
 {
-    let lines = text_lines(alloc, bytes)?;
     let mut turns = Seq::new(alloc);
-    for (place, line) in lines.iter().enumerate() {
-        let words = normal_words(alloc, line.bytes())?;
-        if let Some(turn) = schedule_line(trees, place as u64 + 1, &words)? {
+    let mut rest = bytes;
+    let mut number = 1;
+    while let Some((line, after)) = first_line(rest) {
+        let words = normal_words(alloc, line)?;
+        if let Some(turn) = schedule_line(trees, number, &words)? {
             turns.push(turn)?;
         }
+        rest = after;
+        number += 1;
     }
     Ok(turns)
-}
-
-#[cfg(test)]
-mod tests {
-    use super::*;
-
-    // How many turns a schedule of two trees has.
-    fn turns(alloc: Global, text: &str) -> Result<usize, FormFault> {
-        let schedule = read_schedule(alloc, text.as_bytes(), 2)?;
-        Ok(schedule.len())
-    }
-
-    #[test]
-    fn schedules_and_their_first_lines_outside_the_form(rt: HostRuntime) {
-        for (text, read) in [
-            ("", Ok(0)),
-            ("tree 1\n\ntree 2\ntree 1", Ok(3)),
-            ("tree 3\n", Err(FormFault::Line(1))),
-            ("\ntree 0\n", Err(FormFault::Line(2))),
-            ("tree 1\ntree 0x1\n", Err(FormFault::Line(2))),
-            ("tree 1 2\n", Err(FormFault::Line(1))),
-            ("desk\n", Err(FormFault::Line(1))),
-        ] {
-            assert_eq!(rt; turns(rt.alloc(), text), read, "at {text}");
-        }
-    }
 }

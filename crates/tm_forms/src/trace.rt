@@ -1,21 +1,21 @@
 //! Traces: trees of one process each.
 ghost use Rattle.std.specs.Prelude.{◌≡◌, ◌++◌, Ok, IfOk, option_to_list};
-ghost use Rattle.tm_forms.specs.Lines.{Gives};
+ghost use Rattle.tm_word.specs.Gives.{Gives, GivesNow};
+ghost use Rattle.tm_forms.specs.Lines.{form_cause};
 ghost use Rattle.tm_forms.specs.TraceForms.{EveryTraceIsPlain};
 ghost use Rattle.tm_forms.specs.Trace.{path_request, named_request, perm_of, request_for, with_request, same_pid, tree_line, do_line, Trees, no_trees, HoldsPids, with_tree, with_do, trace_line, trace_of};
 
-use crate::lines::{FormFault, text_lines};
+use crate::lines::{FormFault, first_line};
 use crate::numbers::positive_of;
 use std::alloc::Global;
 use std::collections::BTreeSet;
 use std::marker::Model;
 use tm_list::{NoMemory, Seq};
-use tm_pattern::{literal, spelled_word};
-use tm_rules::bytes_equal;
+use tm_pattern::literal;
 use tm_types::entry::Args;
 use tm_types::request::{Attributes, Item, Request, Trace, Tree};
 use tm_types::unions::NameUnion;
-use tm_word::{Text, Word, normal_words};
+use tm_word::{Text, Word, begins_with, bytes_equal, normal_words, spelled_word};
 
 /// The request for a permission of the row of single paths on this name.
 fn path_request(alloc: Global, perm: u8, name: &Word) -> Result<Request, NoMemory>
@@ -39,20 +39,17 @@ fn named_request(
     perm: u8,
     name: Option<Word>,
 ) -> Result<Request, FormFault>
-    ensures { Gives result (named_request line perm name) }
+    ensures { Gives form_cause (λ x. x) result (named_request line perm name) }
 {
     match name {
         None => Err(FormFault::Line(line)),
-        Some(name) => match name.bytes() {
-            [] => Err(FormFault::Line(line)),
-            [first, ..] => {
-                if *first == b'@' {
-                    Err(FormFault::Line(line))
-                } else {
-                    Ok(path_request(alloc, perm, &name)?)
-                }
+        Some(name) => {
+            if name.is_empty() || begins_with(b'@', name.bytes()) {
+                Err(FormFault::Line(line))
+            } else {
+                Ok(path_request(alloc, perm, &name)?)
             }
-        },
+        }
     }
 }
 
@@ -78,7 +75,7 @@ fn perm_of(word: &[u8]) -> Option<u8>
 
 /// The request of `PERMISSION NAME`.
 fn request_of(alloc: Global, line: u64, perm: &[u8], name: &[u8]) -> Result<Request, FormFault>
-    ensures { Gives result (request_for line (perm_of perm.now) name.now) }
+    ensures { Gives form_cause (λ x. x) result (request_for line (perm_of perm.now) name.now) }
 {
     match perm_of(perm) {
         None => Err(FormFault::Line(line)),
@@ -89,7 +86,7 @@ fn request_of(alloc: Global, line: u64, perm: &[u8], name: &[u8]) -> Result<Requ
 /// Reads what stands behind `tree`: `PID <kernel>`.
 #[tactic(auto, unfolding(crate::specs::Trace::tree_line))]
 fn tree_line(alloc: Global, line: u64, words: &[Text]) -> Result<Tree, FormFault>
-    ensures { Gives result (tree_line line words.now) }
+    ensures { Gives form_cause (λ x. x) result (tree_line line words.now) }
 {
     match words {
         [pid, start] => {
@@ -117,7 +114,7 @@ fn same_pid(
     perm: &[u8],
     name: &[u8],
 ) -> Result<Request, FormFault>
-    ensures { Gives result (same_pid line own pid perm.now name.now) }
+    ensures { Gives form_cause (λ x. x) result (same_pid line own pid perm.now name.now) }
 {
     if pid == own {
         request_of(alloc, line, perm, name)
@@ -129,7 +126,7 @@ fn same_pid(
 /// Reads what stands behind `do`: `PID file PERMISSION NAME`, with the tree's own pid.
 #[tactic(auto, unfolding(crate::specs::Trace::do_line))]
 fn do_line(alloc: Global, line: u64, own: u32, words: &[Text]) -> Result<Request, FormFault>
-    ensures { Gives result (do_line line own words.now) }
+    ensures { Gives form_cause (λ x. x) result (do_line line own words.now) }
 {
     match words {
         [pid, category, perm, name] => {
@@ -204,7 +201,7 @@ impl Reading {
 
     /// One tree more, whose pid no earlier tree has.
     fn with_tree(self, line: u64, tree: Tree) -> Result<Reading, FormFault>
-        ensures { Gives result (with_tree line self tree) }
+        ensures { Gives form_cause (λ x. x) result (with_tree line self tree) }
     {
         let Reading {
             before,
@@ -226,7 +223,7 @@ impl Reading {
     /// One request more of the last tree's process.
     #[tactic(auto, unfolding(crate::specs::Trace::with_do))]
     fn with_do(self, alloc: Global, line: u64, words: &[Text]) -> Result<Reading, FormFault>
-        ensures { Gives result (with_do line self self.last words.now) }
+        ensures { Gives form_cause (λ x. x) result (with_do line self self.last words.now) }
     {
         let Reading { before, last, pids } = self;
         match last {
@@ -252,7 +249,7 @@ fn trace_line(
     trees: Reading,
     words: &[Text],
 ) -> Result<Reading, FormFault>
-    ensures { Gives result (trace_line line trees words.now) }
+    ensures { Gives form_cause (λ x. x) result (trace_line line trees words.now) }
 {
     match words {
         [] => Ok(trees),
@@ -276,13 +273,16 @@ fn trace_line(
 /// Errors: the first line outside these forms, or want of memory.
 #[tactic(auto, unfolding(crate::specs::Trace::trace_of, crate::specs::Trace::trace_lines))]
 pub fn read_trace(alloc: Global, bytes: &[u8]) -> Result<Trace, FormFault>
-    ensures { Gives result (trace_of bytes.now) }
+    ensures { Gives form_cause (λ x. x) result (trace_of bytes.now) }
 {
-    let lines = text_lines(alloc, bytes)?;
     let mut trees = Reading::new(alloc);
-    for (place, line) in lines.iter().enumerate() {
-        let words = normal_words(alloc, line.bytes())?;
-        trees = trace_line(alloc, place as u64 + 1, trees, &words)?;
+    let mut rest = bytes;
+    let mut number = 1;
+    while let Some((line, after)) = first_line(rest) {
+        let words = normal_words(alloc, line)?;
+        trees = trace_line(alloc, number, trees, &words)?;
+        rest = after;
+        number += 1;
     }
     let Reading { before, last, .. } = trees;
     Ok(joined(before, last)?)
@@ -293,50 +293,3 @@ pub fn read_trace(alloc: Global, bytes: &[u8]) -> Result<Trace, FormFault>
 pub fn plain_traces()
     ensures { EveryTraceIsPlain }
 {}
-
-#[cfg(test)]
-mod tests {
-    use super::*;
-
-    // How many trees a trace has.
-    fn trees(alloc: Global, text: &str) -> Result<usize, FormFault> {
-        let trace = read_trace(alloc, text.as_bytes())?;
-        Ok(trace.len())
-    }
-
-    #[test]
-    fn traces_and_their_first_lines_outside_the_forms(rt: HostRuntime) {
-        for (text, read) in [
-            ("", Ok(0)),
-            (
-                "\n\ntree 7 <kernel>\n\ndo 7 file read /a\ntree 8 <kernel>",
-                Ok(2),
-            ),
-            (
-                "tree 7 <kernel>\ndo 7 file append /a\ndo 7 file getattr /b\n",
-                Ok(1),
-            ),
-            ("do 7 file read /a\n", Err(FormFault::Line(1))),
-            (
-                "tree 7 <kernel>\ntree 8 <kernel>\ndo 7 file read /a\n",
-                Err(FormFault::Line(3)),
-            ),
-            (
-                "tree 7 <kernel>\n\ntree 7 <kernel>\n",
-                Err(FormFault::Line(3)),
-            ),
-            (
-                "tree 7 <kernel>\ndo 7 file unlink /a\n",
-                Err(FormFault::Line(2)),
-            ),
-            (
-                "tree 7 <kernel>\ndo 7 file read @a\n",
-                Err(FormFault::Line(2)),
-            ),
-            ("tree 7 <kernel> /s\n", Err(FormFault::Line(1))),
-            ("tree 0 <kernel>\n", Err(FormFault::Line(1))),
-        ] {
-            assert_eq!(rt; trees(rt.alloc(), text), read, "at {text}");
-        }
-    }
-}

@@ -1,14 +1,22 @@
 //! What is learned of a request: its line.
 //! Stands on tm_rules, whose definitions it computes, and on tm_pattern for literal patterns.
-//! Promises that the line is the defined one: literal values, one permission, and the conditions of its kind; and counts permissions.
+//! Promises that the line is the defined one: literal values, one permission, and the conditions of its kind; that it grants its own
+//! request; and counts permissions.
 #![tactic(auto)]
 
-ghost use Rattle.std.specs.Prelude.{◌≡◌, ◌<◌, ◌≤◌, ◌++◌, IfOk, OnOk, slice_get, sum_by};
+ghost use Rattle.std.specs.Prelude.{◌≡◌, ◌<◌, ◌≤◌, ◌++◌, Bool, true, IsSome, IfOk, OnOk, slice_get, sum_by};
 ghost use Rattle.std.specs.Option.{option_copied};
+ghost use Rattle.tm_word.specs.Words.{Text};
 ghost use Rattle.tm_word.specs.Printing.{literal};
 ghost use Rattle.tm_types.specs.declared.entry.Attr.{Attr};
+ghost use Rattle.tm_types.specs.declared.unions.Groups.{Groups};
+ghost use Rattle.tm_types.specs.declared.policy.Namespace.{Namespace};
+ghost use Rattle.tm_types.specs.declared.request.Proc.{Proc};
+ghost use Rattle.tm_types.specs.declared.request.Request.{Request};
 ghost use Rattle.tm_rules.specs.Policy.{permission};
-ghost use Rattle.tm_rules.specs.Learned.{is_word, learned_line};
+ghost use Rattle.tm_rules.specs.Learned.{is_word, learned_line, line_of};
+ghost use Rattle.tm_rules.specs.Requests.{is_request};
+ghost use Rattle.tm_rules.specs.Search.{grants, searched};
 ghost use Rattle.tm_rules.specs.Changes.{count, is_task};
 ghost use Rattle.tm_learn.specs.Counting.{permissions_of};
 ghost use Rattle.tm_rules.specs.Few.{IsShort};
@@ -113,6 +121,14 @@ pub fn learned_line(alloc: Global, request: &Request, name: &Word) -> Result<Ent
     }
 }
 
+/// The line that is learned for a request grants it, whatever the groups and the process: a line without one of its values, or
+/// with a condition that the request doesn't meet, would be no such line.
+pub fn own_request()
+    ensures { (is_path : Text → Bool) (groups : Groups) (process : Proc) (ns : Namespace) (request : Request) →
+        is_request is_path request ≡ true →
+        IsSome (grants groups process (searched ns request) (line_of ns request)) }
+{}
+
 /// Whether the line of these arguments is a `task` line.
 fn is_task(args: &Args) -> bool
     ensures { result ≡ is_task args.now }
@@ -155,82 +171,4 @@ pub fn count(domain: &Domain) -> u64
         permissions += permissions_of(entry);
     }
     permissions
-}
-
-#[cfg(test)]
-mod tests {
-    use super::*;
-    use tm_list::Same;
-    use tm_types::request::Attributes;
-
-    fn attributes(alloc: Global) -> Attributes {
-        Attributes {
-            real_path: None,
-            argv: Seq::new(alloc),
-            envp: Seq::new(alloc),
-            target: None,
-            stats: Seq::new(alloc),
-        }
-    }
-
-    fn path(alloc: Global, name: &[u8]) -> Result<Args, NoMemory> {
-        let name = Seq::from_bytes(alloc, name)?;
-        Ok(Args::Path(NameUnion::One(literal(alloc, &name)?)))
-    }
-
-    #[test]
-    fn an_execute_is_learned_with_its_real_path(rt: HostRuntime) -> Result<(), NoMemory> {
-        let alloc = rt.alloc();
-        let mut recorded = attributes(alloc);
-        recorded.real_path = Some(Seq::from_bytes(alloc, b"/bin/dash")?);
-        recorded.argv.push(Seq::from_bytes(alloc, b"sh")?)?;
-        let request = Request::new(alloc, path(alloc, b"/bin/sh")?, 0, recorded)?;
-        let line = learned_line(alloc, &request, &Seq::from_bytes(alloc, b"/sh")?)?;
-        assert!(rt; line.args.same(&path(alloc, b"/sh")?));
-        assert_eq!(rt; line.perms, Perms { bits: 1 });
-        assert_eq!(rt; line.cond.clauses.len(), 2);
-        Ok(())
-    }
-
-    /// The conditions that are learned of a symlink with this target.
-    fn symlink_conditions(alloc: Global, target: Word) -> Result<Cond, NoMemory> {
-        let mut recorded = attributes(alloc);
-        recorded.target = Some(target);
-        let request = Request::new(alloc, path(alloc, b"/link")?, 8, recorded)?;
-        let line = learned_line(alloc, &request, &Seq::new(alloc))?;
-        Ok(line.cond)
-    }
-
-    #[test]
-    fn a_symlink_is_learned_with_its_target(rt: HostRuntime) -> Result<(), NoMemory> {
-        let target = Seq::from_bytes(rt.alloc(), b"to")?;
-        let cond = symlink_conditions(rt.alloc(), target)?;
-        assert_eq!(rt; cond.clauses.len(), 1);
-        match cond.clauses.get(0) {
-            Some(clause) => assert!(rt; clause.equal && clause.left.same(&Attr::Target)),
-            None => assert!(rt; false, "no target"),
-        }
-        Ok(())
-    }
-
-    #[test]
-    fn permissions_of_a_task_line_do_not_count(rt: HostRuntime) {
-        let alloc = rt.alloc();
-        for (is_task, bits, want) in [(false, 0b111u16, 3u64), (false, 1, 1), (true, 1, 0)] {
-            let args = if is_task {
-                Args::Manual(Seq::new(alloc))
-            } else {
-                Args::Path(NameUnion::Group(Seq::new(alloc)))
-            };
-            let entry = Entry {
-                args,
-                perms: Perms { bits },
-                cond: Cond {
-                    clauses: Seq::new(alloc),
-                    grant_log: None,
-                },
-            };
-            assert_eq!(rt; permissions_of(&entry), want);
-        }
-    }
 }

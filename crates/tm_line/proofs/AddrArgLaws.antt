@@ -10,10 +10,10 @@ use Rattle.tm_number.specs.declared.Base.{Base}
 use Rattle.tm_number.specs.declared.Number.{Number}
 use Rattle.tm_number.specs.declared.text.NumberFault.{NumberFault}
 use Rattle.tm_number.specs.Addresses.{addr_le}
-use Rattle.tm_number.specs.Numbers.{is_numeral, number_of}
-use Rattle.tm_number.proofs.NumberLaws.{value_below}
+use Rattle.tm_number.specs.Numbers.{is_numeral, number_of, plain_of}
+use Rattle.tm_number.proofs.NumberLaws.{plain_small, value_below}
 use Rattle.tm_addr.specs.declared.reading.AddrFault.{AddrFault}
-use Rattle.tm_addr.specs.Reading.{octet_by, octet_in, octet_of, quad_of, v4_at, v4_of, group_of, with_group, with_quad, with_last, last_of, groups_after, few, groups, side_of, gap_at, whole, around, v6_at, v6_of, found_as, addr_of, single, same_family, ends_of, range, range_at, range_of}
+use Rattle.tm_addr.specs.Reading.{octet_of, quad_of, v4_at, v4_of, group_of, with_group, with_quad, with_last, last_of, groups_after, few, groups, side_of, gap_at, whole, around, v6_at, v6_of, found_as, addr_of, single, same_family, ends_of, range, range_at, range_of}
 use Rattle.tm_addr.specs.Printing.{IsAddr, addr_spelling, addr_range_spelling, same_addr}
 use Rattle.tm_addr.proofs.Bounds.{group_fits, raised_fits}
 use Rattle.tm_addr.proofs.Groups.{small_group}
@@ -25,7 +25,8 @@ use Rattle.tm_types.specs.declared.entry.LineKind.{LineKind}
 use Rattle.tm_types.specs.declared.unions.AddrUnion.{AddrUnion}
 use Rattle.tm_line.specs.Arguments.{addr_range_word, one_address, address_word, address_at}
 use Rattle.tm_line.specs.Printing.{address_spelling}
-use Rattle.tm_line.specs.Written.{is_front, is_addr, is_addr_range, is_address}
+use Rattle.tm_line.specs.Written.{is_addr, is_addr_range, is_address}
+use Rattle.tm_word.specs.Texts.{begins_with_byte}
 use Rattle.tm_line.proofs.Steps.{bind_ok, ok_is, kinded_ok, both}
 use Rattle.tm_line.proofs.GroupLaws.{or_again, or_one, or_found}
 
@@ -42,18 +43,8 @@ picked : (b : Bool) (x n : ℕ) → cond b (Some x) None ≡ Some n → (b ≡ t
 picked true x n e = (refl, cc)
 picked false x n e = absurd cc
 
-octet_small : (r : Result Number NumberFault) (n : ℕ) → octet_in r ≡ Some n → n < 256
-octet_small (Err fault) n e = absurd cc
-octet_small (Ok x) n e = by_base x.base e
-  where
-    by_base : (base : Base) → octet_by base x.value ≡ Some n → n < 256
-    by_base Base.Decimal f = let p = picked (nat_lt x.value 256) x.value n f in subst (λ k. k < 256) p.1 (ltb-true _ _ p.0)
-    by_base Base.Octal f = absurd cc
-    by_base Base.Hex f = absurd cc
-
 octet_is : (piece : Text) (n : ℕ) → octet_of piece ≡ Some n → n < 256
-unfolding octet_of
-octet_is piece n e = octet_small (number_of piece) n e
+octet_is piece n e = plain_small 256 n piece e
 
 quad_small : (a b c d n : ℕ) → a < 256 → b < 256 → c < 256 → d < 256 → ((a * 256 + b) * 256 + c) * 256 + d ≡ n → n < 2 ^ 32
 quad_small a b c d n ha hb hc hd e = omega (arith, ha, hb, hc, hd, e)
@@ -174,7 +165,7 @@ addr_by : (colon : Bool) (text : Text) (a : Addr) → cond colon (found_as Addr.
 addr_by true text a e = family_fits Addr.V6 (v6_of text) a (λ n h. lt-ltb _ _ (v6_small text n h)) e
 addr_by false text a e = family_fits Addr.V4 (v4_of text) a (λ n h. lt-ltb _ _ (v4_small text n h)) e
 
-addr_right : (text : Text) (a : Addr) → addr_of text ≡ addr_done a → is_addr a ≡ true
+pub addr_right : (text : Text) (a : Addr) → addr_of text ≡ addr_done a → is_addr a ≡ true
 unfolding addr_of
 addr_right text a e = addr_by (list_any (λ b. b == 58) text) text a e
 
@@ -225,11 +216,11 @@ range_read text r e = range_right text r (kinded_ok LineKind.Address (range_of t
 
 -- ---- a range's text doesn't begin with `@`
 
-free_front : (xs : Text) → Free 64 xs → is_front 64 xs ≡ false
+free_front : (xs : Text) → Free 64 xs → begins_with_byte 64 xs ≡ false
 free_front [] h = refl
 free_front (x ∷ xs) h = h.0
 
-free_before : (xs ys : Text) → Free 64 xs → is_front 64 ys ≡ false → is_front 64 (xs ++ ys) ≡ false
+free_before : (xs ys : Text) → Free 64 xs → begins_with_byte 64 ys ≡ false → begins_with_byte 64 (xs ++ ys) ≡ false
 free_before [] ys h k = k
 free_before (x ∷ xs) ys h k = h.0
 
@@ -241,7 +232,7 @@ no_at : (a : Addr) → IsAddr a → Free 64 (addr_spelling a)
 no_at (Addr.V4 a) h = v4_free 64 a (omega arith) refl h
 no_at (Addr.V6 a) h = v6_free 64 a (omega arith) refl
 
-front_by : (low high : Text) (t : Bool) → Free 64 low → is_front 64 (cond t low (low ++ 45 ∷ high)) ≡ false
+front_by : (low high : Text) (t : Bool) → Free 64 low → begins_with_byte 64 (cond t low (low ++ 45 ∷ high)) ≡ false
 front_by low high true h = free_front low h
 front_by low high false h = free_before low (45 ∷ high) h refl
 

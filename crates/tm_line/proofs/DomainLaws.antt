@@ -2,7 +2,7 @@
 use Rattle.std.proofs.Common.{◌≡◌, suc, ◌-◌, ◌||◌, ◌==◌, nat_le, Bool, true, false, ◌&&◌, List, [], ◌∷◌, ◌++◌, length, take, drop, Result, Ok, Err, refl, sym, ap, subst, ◌∙◌, arith}
 use Rattle.std.specs.Prelude.{codes}
 use Rattle.std.proofs.lemmas.Bool.{eqb-true}
-use Rattle.tm_rules.specs.Equality.{texts_equal}
+use Rattle.tm_word.specs.Texts.{texts_equal, begins_with_byte}
 use Rattle.std.specs.List.{list_all}
 use Rattle.std.proofs.lemmas.List.Splits.{join_with_byte-slice_split}
 use Rattle.tm_word.specs.Words.{Text}
@@ -12,9 +12,9 @@ use Rattle.tm_rules.specs.Words.{DomainName}
 use Rattle.tm_rules.specs.Transition.{is_namespace_word, is_domain_name, root_name}
 use Rattle.tm_pattern.specs.Reading.{pattern_of}
 use Rattle.tm_domain.specs.declared.DomainFault.{DomainFault}
-use Rattle.tm_domain.specs.Names.{begins_with_slash, is_pattern, is_path, is_read, domain_of}
+use Rattle.tm_domain.specs.Names.{is_pattern, is_path, is_read, domain_of}
 use Rattle.tm_domain.proofs.NameLaws.{same_name, right_name}
-use Rattle.tm_addr.proofs.Cuts.{pieces_of}
+use Rattle.tm_word.proofs.Cuts.{pieces_of}
 use Rattle.tm_line.specs.Lines.{spaced}
 use Rattle.tm_line.specs.Arguments.{kinded}
 use Rattle.tm_line.specs.Domains.{domain_words, paths_in, domain_at, domain_to_end}
@@ -24,9 +24,9 @@ use Rattle.tm_line.proofs.Steps.{bind_ok, ok_is, kinded_ok, both, not_true}
 
 -- ---- the words in front that begin with `/`
 
-pub path_begins : (word : Text) → is_path word ≡ true → begins_with_slash word ≡ true
+pub path_begins : (word : Text) → is_path word ≡ true → begins_with_byte 47 word ≡ true
 unfolding is_path
-path_begins word h = (both (begins_with_slash word) (is_pattern (pattern_of word)) h).0
+path_begins word h = (both (begins_with_byte 47 word) (is_pattern (pattern_of word)) h).0
 
 record Front (paths more : List Text) : Type 0 where
   pub taken : take (paths_in (paths ++ more)) (paths ++ more) ≡ paths
@@ -34,13 +34,13 @@ record Front (paths more : List Text) : Type 0 where
 
 front_none : (more : List Text) → ends_domain more ≡ true → Front [] more
 front_none [] h = record { taken = refl; left = refl }
-front_none (word ∷ words) h = let no : begins_with_slash word ≡ false = not_true _ h in record { taken = rw no refl; left = rw no refl }
+front_none (word ∷ words) h = let no : begins_with_byte 47 word ≡ false = not_true _ h in record { taken = rw no refl; left = rw no refl }
 
 front : (paths more : List Text) → list_all is_path paths ≡ true → ends_domain more ≡ true → Front paths more
 front [] more h k = front_none more k
 front (path ∷ paths) more h k =
     let split = both (is_path path) (list_all is_path paths) h in
-    let yes : begins_with_slash path ≡ true = path_begins path split.0 in
+    let yes : begins_with_byte 47 path ≡ true = path_begins path split.0 in
     let next : paths_in (path ∷ (paths ++ more)) ≡ suc (paths_in (paths ++ more)) = rw yes (omega arith) in
     let rest = front paths more split.1 k in
     record {

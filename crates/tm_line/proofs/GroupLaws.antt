@@ -2,20 +2,19 @@
 use Rattle.std.proofs.Common.{◌≡◌, ◌==◌, Bool, true, false, cond, [], ◌∷◌, Option, Some, None, Result, Ok, ◌⊎◌, inl, inr, refl, ap, subst, ◌∙◌}
 use Rattle.std.proofs.lemmas.Bool.{eqb-true}
 use Rattle.tm_word.specs.Words.{Text, Word}
-use Rattle.tm_word.specs.Spelling.{spell}
-use Rattle.tm_pattern.specs.Reading.{word_of}
-use Rattle.tm_pattern.proofs.LexLaws.{word_found}
+use Rattle.tm_word.specs.Spelling.{spell, spelled_word}
+use Rattle.tm_word.proofs.Spelled.{word_found, word_again, word_small}
 use Rattle.tm_types.specs.declared.entry.LineKind.{LineKind}
-use Rattle.tm_line.specs.Lines.{◌>>=◌}
+use Rattle.tm_word.specs.Gives.{◌>>=◌}
 use Rattle.tm_line.specs.Arguments.{not_empty, group_word, group_or}
-use Rattle.tm_line.specs.Written.{is_front, is_group}
+use Rattle.tm_line.specs.Written.{is_group}
+use Rattle.tm_word.specs.Texts.{begins_with_byte}
 use Rattle.tm_line.proofs.Steps.{bind_ok, done, ok_is}
-use Rattle.tm_line.proofs.SpellLaws.{word_again, word_small}
 
 abbrev IsFound : Text → Word → Type 0
 IsFound text g = (text ≡ spell g) × (is_group g ≡ true)
 
-found_from : (text : Text) (o : Option Word) (g : Word) → word_of text ≡ o → not_empty o ≡ done g → IsFound text g
+found_from : (text : Text) (o : Option Word) (g : Word) → spelled_word text ≡ o → not_empty o ≡ done g → IsFound text g
 found_from text None g h e = absurd cc
 found_from text (Some []) g h e = absurd cc
 found_from text (Some (b ∷ word)) g h e = subst (IsFound text) (ok_is (b ∷ word) g e) (word_found text (b ∷ word) h, word_small text (b ∷ word) h)
@@ -23,7 +22,7 @@ found_from text (Some (b ∷ word)) g h e = subst (IsFound text) (ok_is (b ∷ w
 -- a group that is read is spelled so
 pub group_found : (text : Text) (g : Word) → group_word text ≡ Ok g → (text ≡ spell g) × (is_group g ≡ true)
 unfolding group_word
-group_found text g e = found_from text (word_of text) g refl e
+group_found text g e = found_from text (spelled_word text) g refl e
 
 -- a group that is spelled is read
 pub group_again : (g : Word) → is_group g ≡ true → group_word (spell g) ≡ Ok g
@@ -34,13 +33,13 @@ group_again (b ∷ word) h = rw (word_again (b ∷ word) h) refl
 pub or_again : {A : Type 0} (group : Word → A) (one : Text → Result A LineKind) (g : Word) → is_group g ≡ true → group_or group one (64 ∷ spell g) ≡ Ok (group g)
 or_again group one g h = rw (group_again g h) refl
 
-pub or_one : {A : Type 0} (group : Word → A) (one : Text → Result A LineKind) (text : Text) → is_front 64 text ≡ false → group_or group one text ≡ one text
+pub or_one : {A : Type 0} (group : Word → A) (one : Text → Result A LineKind) (text : Text) → begins_with_byte 64 text ≡ false → group_or group one text ≡ one text
 or_one group one [] h = refl
 or_one group one (b ∷ text) h = rw h refl
 
 -- which of both it is
 abbrev pub OneOf : {A : Type 0} → (Word → A) → (Text → Result A LineKind) → Text → A → Type 0
-OneOf group one text x = ((g : Word) × (is_group g ≡ true) × (text ≡ 64 ∷ spell g) × (group g ≡ x)) ⊎ ((is_front 64 text ≡ false) × (one text ≡ Ok x))
+OneOf group one text x = ((g : Word) × (is_group g ≡ true) × (text ≡ 64 ∷ spell g) × (group g ≡ x)) ⊎ ((begins_with_byte 64 text ≡ false) × (one text ≡ Ok x))
 
 pub or_found : {A : Type 0} (group : Word → A) (one : Text → Result A LineKind) (text : Text) (x : A) → group_or group one text ≡ Ok x → OneOf group one text x
 or_found group one [] x e = inr (refl, e)

@@ -1,7 +1,7 @@
 pub mod JoinLaws
 pub mod Steps
-pub mod SpellLaws
 pub mod GroupLaws
+pub mod LineLaws
 pub mod NameArgLaws
 pub mod NumberArgLaws
 pub mod AddrArgLaws
@@ -10,3 +10,5 @@ pub mod DomainLaws
 pub mod WholeLaws
 pub mod RestLaws
 mod LineExamples
+pub mod OkSteps
+pub mod NamespaceLaws

@@ -11,7 +11,8 @@ use Rattle.tm_types.specs.declared.entry.LineKind.{LineKind}
 use Rattle.tm_types.specs.declared.unions.NameUnion.{NameUnion}
 use Rattle.tm_line.specs.Arguments.{pattern_word, one_name, name_word, name_at}
 use Rattle.tm_line.specs.Printing.{name_spelling}
-use Rattle.tm_line.specs.Written.{is_front, begins_name, is_name}
+use Rattle.tm_line.specs.Written.{begins_name, is_name}
+use Rattle.tm_word.specs.Texts.{begins_with_byte}
 use Rattle.tm_line.proofs.Steps.{bind_ok, ok_is, kinded_ok, both, all, not_true, to_not}
 use Rattle.tm_line.proofs.GroupLaws.{or_again, or_one, or_found}
 
@@ -35,7 +36,7 @@ name_again (NameUnion.One p) h =
     one_again (spelled_pattern p) p split.1 (pattern_again p split.0)
 name_again (NameUnion.Group g) h = or_again NameUnion.Group one_name g h
 
-one_read : (text : Text) (n : NameUnion) → is_front 64 text ≡ false → one_name text ≡ Ok n → is_name n ≡ true
+one_read : (text : Text) (n : NameUnion) → begins_with_byte 64 text ≡ false → one_name text ≡ Ok n → is_name n ≡ true
 unfolding is_name
 one_read [] n h e = absurd cc
 one_read (b ∷ text) n h e =

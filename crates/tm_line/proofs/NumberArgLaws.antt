@@ -1,5 +1,5 @@
 -- Number arguments: what is written is read again, and what is read can be written.
-use Rattle.std.proofs.Common.{◌≡◌, ℕ, ◌+◌, ◌<◌, ◌≤◌, ◌^◌, ◌==◌, nat_lt, nat_le, Bool, true, false, cond, ◌&&◌, List, [], ◌∷◌, ◌++◌, take, drop, Option, Some, None, Result, Ok, Err, inl, inr, refl, subst, ◌∙◌, arith}
+use Rattle.std.proofs.Common.{◌≡◌, ℕ, ◌+◌, ◌<◌, ◌≤◌, ◌^◌, ◌==◌, nat_lt, nat_le, Bool, true, false, cond, ◌&&◌, List, [], ◌∷◌, ◌++◌, take, drop, Option, Some, None, Result, Ok, Err, inl, inr, refl, ap, subst, ◌∙◌, arith}
 use Rattle.std.proofs.lemmas.Bool.{ne_eqb, ltb-true, lt-ltb, ltb-false, leb-true, le-leb}
 use Rattle.std.proofs.lemmas.List.{append-nil}
 use Rattle.std.proofs.lemmas.Fmt.{decimal_is_IsNumeral}
@@ -12,15 +12,18 @@ use Rattle.tm_number.specs.declared.Base.{Base}
 use Rattle.tm_number.specs.declared.Number.{Number}
 use Rattle.tm_number.specs.declared.Range.{Range}
 use Rattle.tm_number.specs.declared.text.NumberFault.{NumberFault}
-use Rattle.tm_number.specs.Numbers.{number_of, range, range_of, range_at, ends_of, spelling, range_spelling, same_base}
+use Rattle.tm_number.specs.Numbers.{number_of, range, range_of, range_at, ends_of, spelling, range_spelling, same_base, plain_of}
 use Rattle.tm_number.proofs.NumberLaws.{number_small}
-use Rattle.tm_number.proofs.NumberLaws.{number_again as decimal_again}
+use Rattle.tm_number.proofs.NumberLaws.{plain_small}
+use Rattle.tm_number.proofs.NumberLaws.{plain_again as decimal_again}
 use Rattle.tm_number.proofs.RangeLaws.{range_again}
 use Rattle.tm_types.specs.declared.entry.LineKind.{LineKind}
 use Rattle.tm_types.specs.declared.unions.NumberUnion.{NumberUnion}
-use Rattle.tm_line.specs.Arguments.{range_word, one_number, number_word, number_at, plain, plain_word}
+use Rattle.tm_line.specs.Arguments.{range_word, one_number, number_word, number_at, plain_word}
+use Rattle.tm_line.specs.Lines.{or_kind}
 use Rattle.tm_line.specs.Printing.{number_spelling}
-use Rattle.tm_line.specs.Written.{is_front, is_range, is_number}
+use Rattle.tm_line.specs.Written.{is_range, is_number}
+use Rattle.tm_word.specs.Texts.{begins_with_byte}
 use Rattle.tm_line.proofs.Steps.{bind_ok, ok_is, kinded_ok, chosen, both}
 use Rattle.tm_line.proofs.GroupLaws.{or_again, or_one, or_found}
 
@@ -76,20 +79,20 @@ range_read text r e = range_right text r (kinded_ok LineKind.Number (range_of te
 
 -- ---- a range's text doesn't begin with `@`
 
-digits_front : (xs ys : List ℕ) → IsNumeral 10 xs → is_front 64 (xs ++ ys) ≡ false
+digits_front : (xs ys : List ℕ) → IsNumeral 10 xs → begins_with_byte 64 (xs ++ ys) ≡ false
 digits_front [] ys h = absurd (omega (arith, h.0))
 digits_front (d ∷ xs) ys h = ne_eqb d 64 (λ e. let low : digit_value 64 < 10 = subst (λ k. digit_value k < 10) e h.1.0 in absurd (omega (arith, low)))
 
-spelling_front : (base : Base) (n : ℕ) (ys : List ℕ) → n < 2 ^ 64 → is_front 64 (spelling base n ++ ys) ≡ false
+spelling_front : (base : Base) (n : ℕ) (ys : List ℕ) → n < 2 ^ 64 → begins_with_byte 64 (spelling base n ++ ys) ≡ false
 spelling_front Base.Decimal n ys low = digits_front (decimal n) ys (decimal_is_IsNumeral n low).0
 spelling_front Base.Octal n ys low = refl
 spelling_front Base.Hex n ys low = refl
 
-front_by : (low high : List ℕ) (t : Bool) → ((ys : List ℕ) → is_front 64 (low ++ ys) ≡ false) → is_front 64 (cond t low (low ++ 45 ∷ high)) ≡ false
-front_by low high true h = subst (λ x. is_front 64 x ≡ false) (append-nil low) (h [])
+front_by : (low high : List ℕ) (t : Bool) → ((ys : List ℕ) → begins_with_byte 64 (low ++ ys) ≡ false) → begins_with_byte 64 (cond t low (low ++ 45 ∷ high)) ≡ false
+front_by low high true h = subst (λ x. begins_with_byte 64 x ≡ false) (append-nil low) (h [])
 front_by low high false h = h (45 ∷ high)
 
-pub range_front : (r : Range) → r.low.value < 2 ^ 64 → is_front 64 (range_spelling r) ≡ false
+pub range_front : (r : Range) → r.low.value < 2 ^ 64 → begins_with_byte 64 (range_spelling r) ≡ false
 range_front r low =
     front_by (spelling r.low.base r.low.value) (spelling r.high.base r.high.value) (r.low.value == r.high.value && same_base r.low.base r.high.base) (λ ys. spelling_front r.low.base r.low.value ys low)
 
@@ -127,16 +130,15 @@ number_read text n e =
 
 pub plain_again : (limit n : ℕ) → n < limit → n < 2 ^ 64 → plain_word limit (decimal n) ≡ Ok n
 unfolding plain_word
-plain_again limit n h k = let low : nat_lt n limit ≡ true = lt-ltb _ _ h in rw (decimal_again Base.Decimal n k, low) refl
+plain_again limit n h k = ap (or_kind LineKind.Number) (decimal_again limit n h k)
 
-plain_from : (limit : ℕ) (r : Result Number NumberFault) (n : ℕ) → plain limit r ≡ Ok n → n < limit
-plain_from limit (Ok x) n e = let p = chosen (same_base x.base Base.Decimal && nat_lt x.value limit) x.value n LineKind.Number e in
-    subst (λ i. i < limit) p.1 (ltb-true _ _ (both (same_base x.base Base.Decimal) (nat_lt x.value limit) p.0).1)
-plain_from limit (Err fault) n e = absurd cc
+there : (kind : LineKind) (o : Option ℕ) (n : ℕ) → or_kind kind o ≡ Ok n → o ≡ Some n
+there kind None n e = absurd cc
+there kind (Some m) n e = let same : m ≡ n = cc in ap Some same
 
 pub plain_read : (limit : ℕ) (text : Text) (n : ℕ) → plain_word limit text ≡ Ok n → n < limit
 unfolding plain_word
-plain_read limit text n e = plain_from limit (number_of text) n e
+plain_read limit text n e = plain_small limit n text (there LineKind.Number (plain_of limit text) n e)
 
 pub number_at_again : (n : NumberUnion) (more : List Text) → is_number n ≡ true → number_at (number_spelling n ∷ more) ≡ Ok (n, more)
 unfolding number_at

@@ -7,9 +7,9 @@ use Rattle.tm_types.specs.declared.entry.LineKind.{LineKind}
 use Rattle.tm_types.specs.declared.unions.NameUnion.{NameUnion}
 use Rattle.tm_types.specs.declared.unions.NumberUnion.{NumberUnion}
 use Rattle.tm_types.specs.declared.unions.AddrUnion.{AddrUnion}
-use Rattle.tm_rules.specs.Equality.{texts_equal}
+use Rattle.tm_word.specs.Texts.{texts_equal, begins}
 use Rattle.tm_rules.specs.Words.{DomainName}
-use Rattle.tm_line.specs.Lines.{begins, is_last, keyword_kind, keyword_at, word_at}
+use Rattle.tm_line.specs.Lines.{is_last, keyword_kind, keyword_at, word_at}
 use Rattle.tm_line.specs.Arguments.{name_word, number_word, address_word, name_at, number_at, address_at}
 use Rattle.tm_line.specs.Domains.{domain_words, paths_in, domain_at}
 use Rattle.tm_line.proofs.Steps.{bind_ok, ok_is, chosen}

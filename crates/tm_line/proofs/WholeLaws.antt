@@ -36,10 +36,10 @@ use Rattle.tm_pattern.specs.declared.reading.PatternFault.{PatternFault}
 use Rattle.tm_pattern.specs.Reading.{pattern_of}
 use Rattle.tm_pattern.proofs.LexLaws.{pattern_found}
 use Rattle.tm_pattern.proofs.RightLaws.{read-right}
-use Rattle.tm_rules.specs.Equality.{texts_equal}
+use Rattle.tm_word.specs.Texts.{texts_equal, is_solid, is_word, begins_with_byte}
 use Rattle.tm_rules.specs.Words.{DomainName}
 use Rattle.tm_rules.specs.Transition.{is_namespace_word, is_domain_name, root_name}
-use Rattle.tm_domain.specs.Names.{begins_with_slash, is_path, is_pattern}
+use Rattle.tm_domain.specs.Names.{is_path, is_pattern}
 use Rattle.tm_domain.proofs.NameLaws.{same_texts}
 use Rattle.tm_line.specs.declared.permissions.Row.{Row}
 use Rattle.tm_line.specs.Lines.{spaced}
@@ -48,10 +48,9 @@ use Rattle.tm_line.specs.Arguments.{range_word, addr_range_word, number_word, ad
 use Rattle.tm_line.specs.DomainWords.{domain_parts}
 use Rattle.tm_line.specs.Printing.{name_spelling, number_spelling, address_spelling}
 use Rattle.tm_line.specs.Written.{is_group, begins_name, is_name, is_range, is_number, is_addr_range, is_address, is_set}
-use Rattle.tm_line.specs.WholeWords.{is_solid, is_word}
 use Rattle.tm_line.proofs.Steps.{both, all, not_true}
 use Rattle.tm_line.proofs.JoinLaws.{joined_is}
-use Rattle.tm_line.proofs.SpellLaws.{below, below-at}
+use Rattle.tm_word.proofs.Spelled.{below, below-at}
 use Rattle.tm_line.proofs.NumberArgLaws.{ends, number_again}
 use Rattle.tm_line.proofs.PermLaws.{bits_again}
 use Rattle.tm_line.proofs.DomainLaws.{right_list}
@@ -353,14 +352,14 @@ pattern_text : (text : Text) (r : Result Pattern PatternFault) → pattern_of te
 pattern_text text (Ok p) e h = subst (λ t. is_solid t ≡ true) (sym (pattern_found text p e)) (pattern_solid p (read-right text p e))
 pattern_text text (Err fault) e h = absurd cc
 
-slash_text : (text : Text) → begins_with_slash text ≡ true → is_solid text ≡ true → is_word text ≡ true
+slash_text : (text : Text) → begins_with_byte 47 text ≡ true → is_solid text ≡ true → is_word text ≡ true
 slash_text [] h k = absurd cc
 slash_text (b ∷ text) h k = word_from b text k
 
 pub path_is : (text : Text) → is_path text ≡ true → is_word text ≡ true
 unfolding is_path
 path_is text h =
-    let t = both (begins_with_slash text) (is_pattern (pattern_of text)) h in
+    let t = both (begins_with_byte 47 text) (is_pattern (pattern_of text)) h in
     slash_text text t.0 (pattern_text text (pattern_of text) refl t.1)
 
 paths_are : (paths : List Text) → list_all is_path paths ≡ true → list_all is_word paths ≡ true

@@ -1,20 +1,19 @@
 -- The arguments of lines, each one word.
-use Rattle.std.specs.Prelude.{ℕ, ◌==◌, nat_lt, ◌&&◌, if◌then◌else◌, List, [], ◌∷◌, Option, Some, None, Result, Ok, Err}
+use Rattle.std.specs.Prelude.{ℕ, ◌==◌, if◌then◌else◌, List, [], ◌∷◌, Option, Some, None, Result, Ok, Err}
 use Rattle.tm_word.specs.Words.{Text, Word, Pattern}
-use Rattle.tm_number.specs.declared.Base.{Base}
-use Rattle.tm_number.specs.declared.Number.{Number}
 use Rattle.tm_number.specs.declared.Range.{Range}
 use Rattle.tm_number.specs.declared.AddrRange.{AddrRange}
-use Rattle.tm_number.specs.declared.text.NumberFault.{NumberFault}
-use Rattle.tm_number.specs.Numbers.{same_base, number_of, range_of}
+use Rattle.tm_number.specs.Numbers.{plain_of, range_of}
 use Rattle.tm_addr.specs.Reading.{range_of as addr_range_of}
-use Rattle.tm_pattern.specs.Reading.{pattern_of, word_of}
+use Rattle.tm_pattern.specs.Reading.{pattern_of}
+use Rattle.tm_word.specs.Spelling.{spelled_word}
 use Rattle.tm_types.specs.declared.entry.LineKind.{LineKind}
 use Rattle.tm_types.specs.declared.unions.NameUnion.{NameUnion}
 use Rattle.tm_types.specs.declared.unions.NumberUnion.{NumberUnion}
 use Rattle.tm_types.specs.declared.unions.AddrUnion.{AddrUnion}
 use Rattle.tm_domain.specs.Names.{is_path}
-use Rattle.tm_line.specs.Lines.{◌>>=◌, word_at}
+use Rattle.tm_line.specs.Lines.{or_kind, word_at}
+use Rattle.tm_word.specs.Gives.{◌>>=◌}
 
 -- a value in its grammar, or a fault of this kind
 abbrev pub kinded : {A F : Type 0} → LineKind → Result A F → Result A LineKind
@@ -28,7 +27,7 @@ not_empty (Some []) = Err LineKind.Name
 not_empty (Some (b ∷ word)) = Ok (b ∷ word)
 
 unfoldable pub group_word : Text → Result Word LineKind
-group_word text = not_empty (word_of text)
+group_word text = not_empty (spelled_word text)
 
 -- a pattern, which may begin with `@`
 unfoldable pub pattern_word : Text → Result Pattern LineKind
@@ -75,12 +74,8 @@ unfoldable pub address_word : Text → Result AddrUnion LineKind
 address_word word = group_or AddrUnion.Group one_address word
 
 -- a plain number below a limit
-abbrev pub plain : ℕ → Result Number NumberFault → Result ℕ LineKind
-plain limit (Ok n) = if same_base n.base Base.Decimal && nat_lt n.value limit then Ok n.value else Err LineKind.Number
-plain limit (Err fault) = Err LineKind.Number
-
 unfoldable pub plain_word : ℕ → Text → Result ℕ LineKind
-plain_word limit text = plain limit (number_of text)
+plain_word limit text = or_kind LineKind.Number (plain_of limit text)
 
 -- the same as the first word of a line
 unfoldable pub name_at : List Text → Result (NameUnion × List Text) LineKind

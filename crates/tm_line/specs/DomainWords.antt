@@ -3,7 +3,7 @@ use Rattle.std.specs.Prelude.{◌==◌, Bool, true, not, List, [], ◌∷◌}
 use Rattle.std.specs.List.{slice_split}
 use Rattle.tm_word.specs.Words.{Text}
 use Rattle.tm_rules.specs.Words.{DomainName}
-use Rattle.tm_domain.specs.Names.{begins_with_slash}
+use Rattle.tm_word.specs.Texts.{begins_with_byte}
 
 -- what stands between the spaces of a name
 abbrev pub domain_parts : DomainName → List Text
@@ -12,4 +12,4 @@ domain_parts name = slice_split (λ b. b == 32) name
 -- the first of these words, if there is one, doesn't go on with a domain name
 abbrev pub ends_domain : List Text → Bool
 ends_domain [] = true
-ends_domain (word ∷ words) = not (begins_with_slash word)
+ends_domain (word ∷ words) = not (begins_with_byte 47 word)

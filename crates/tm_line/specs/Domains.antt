@@ -5,8 +5,9 @@ use Rattle.tm_word.specs.Words.{Text}
 use Rattle.tm_word.specs.Spelling.{joined}
 use Rattle.tm_types.specs.declared.entry.LineKind.{LineKind}
 use Rattle.tm_rules.specs.Words.{DomainName}
-use Rattle.tm_domain.specs.Names.{begins_with_slash, domain_of}
-use Rattle.tm_line.specs.Lines.{◌>>=◌}
+use Rattle.tm_domain.specs.Names.{domain_of}
+use Rattle.tm_word.specs.Texts.{begins_with_byte}
+use Rattle.tm_word.specs.Gives.{◌>>=◌}
 use Rattle.tm_line.specs.Arguments.{kinded}
 
 -- the words as one domain name
@@ -15,7 +16,7 @@ domain_words words = kinded LineKind.Domain (domain_of (joined words))
 
 -- how many words in front begin with `/`
 abbrev pub paths_in : List Text → ℕ
-paths_in words = prefix_len begins_with_slash words
+paths_in words = prefix_len (begins_with_byte 47) words
 
 -- a domain name that takes its namespace word and the words after it that begin with `/`
 unfoldable pub domain_at : List Text → Result (DomainName × List Text) LineKind

@@ -5,4 +5,4 @@ pub mod Domains
 pub mod Printing
 pub mod Written
 pub mod DomainWords
-pub mod WholeWords
+pub mod Namespaces

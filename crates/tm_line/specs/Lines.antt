@@ -1,37 +1,31 @@
 -- Reading a line, word by word, up to the first word at which it can't go on: the kind that stands there is the line's.
-use Rattle.std.specs.Prelude.{◌≡◌, ◌==◌, ◌&&◌, if◌then◌else◌, Bool, true, false, List, [], ◌∷◌, Result, Ok, Err}
+use Rattle.std.specs.Prelude.{◌&&◌, if◌then◌else◌, Bool, true, false, List, [], ◌∷◌, Option, Some, None, Result, Ok, Err}
 use Rattle.std.specs.List.{flat_map}
 use Rattle.tm_word.specs.Words.{Text}
 use Rattle.tm_types.specs.declared.entry.LineKind.{LineKind}
 use Rattle.tm_types.specs.declared.step.LineFault.{LineFault}
-use Rattle.tm_rules.specs.Equality.{texts_equal}
+use Rattle.tm_word.specs.Texts.{texts_equal, begins}
+use Rattle.tm_word.specs.Gives.{◌>>=◌}
 
-infixl 10 ◌>>=◌
--- the next step, unless one before it failed
-abbrev pub ◌>>=◌ : {A B : Type 0} → Result A LineKind → (A → Result B LineKind) → Result B LineKind
-(Ok x) >>= f = f x
-(Err kind) >>= f = Err kind
+-- the kind of a fault; want of memory has none
+abbrev pub line_cause : LineFault → Option LineKind
+line_cause LineFault.NoMemory = None
+line_cause (LineFault.Kind kind) = Some kind
 
--- a fault is the kind that reading gives, unless memory ran out
-abbrev pub Fails : {Y : Type 0} → LineFault → Result Y LineKind → Type 0
-Fails LineFault.NoMemory read = Unit {0}
-Fails (LineFault.Kind kind) read = read ≡ Err kind
-
--- what a call returned, seen by view, is what reading gives, unless memory ran out
-abbrev pub Gives : {X Y : Type 0} → (X → Y) → Result X LineFault → Result Y LineKind → Type 0
-Gives view (Ok x) read = read ≡ Ok (view x)
-Gives view (Err fault) read = Fails fault read
-
--- a text is a front of another, or all of it
-abbrev pub begins : Text → Text → Bool
-begins [] whole = true
-begins (a ∷ front) (b ∷ whole) = a == b && begins front whole
-begins (a ∷ front) [] = false
+-- a value that is there, or a fault of this kind
+abbrev pub or_kind : {A : Type 0} → LineKind → Option A → Result A LineKind
+or_kind kind (Some x) = Ok x
+or_kind kind None = Err kind
 
 -- no word comes after
 abbrev pub is_last : List Text → Bool
 is_last [] = true
 is_last (word ∷ words) = false
+
+-- no word may be left
+abbrev pub ended : {A : Type 0} → A → List Text → Result A LineKind
+ended x [] = Ok x
+ended x (word ∷ words) = Err LineKind.Arity
 
 -- what a wrong word is where a keyword must stand: a missing rest where it is an unfinished one, else a wrong keyword
 abbrev pub keyword_kind : Bool → LineKind

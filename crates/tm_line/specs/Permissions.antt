@@ -3,9 +3,9 @@ use Rattle.std.specs.Prelude.{ℕ, ◌*◌, ◌==◌, ◌&&◌, bit_or, bit_and,
 use Rattle.std.specs.List.{slice_split, list_any}
 use Rattle.tm_word.specs.Words.{Text}
 use Rattle.tm_types.specs.declared.entry.LineKind.{LineKind}
-use Rattle.tm_rules.specs.Equality.{texts_equal}
+use Rattle.tm_word.specs.Texts.{texts_equal, begins}
 use Rattle.tm_line.specs.declared.permissions.Row.{Row}
-use Rattle.tm_line.specs.Lines.{begins, keyword_kind}
+use Rattle.tm_line.specs.Lines.{keyword_kind}
 
 -- the permissions of a row, in order
 abbrev pub names : Row → List Text

@@ -14,11 +14,6 @@ use Rattle.tm_types.specs.declared.unions.AddrUnion.{AddrUnion}
 use Rattle.tm_line.specs.declared.permissions.Row.{Row}
 use Rattle.tm_line.specs.Permissions.{names}
 
--- a text that begins with this byte
-abbrev pub is_front : ℕ → Text → Bool
-is_front c [] = false
-is_front c (b ∷ text) = b == c
-
 -- a group's name is a word of bytes, not empty
 abbrev pub is_group : Word → Bool
 is_group [] = false

@@ -1,22 +1,23 @@
 //! Arguments of lines, each one word.
 ghost use Rattle.std.specs.Prelude.{◌≡◌, ◌^◌};
-ghost use Rattle.tm_line.specs.Lines.{Gives};
+ghost use Rattle.tm_word.specs.Gives.{Gives, GivesNow};
+ghost use Rattle.tm_line.specs.Lines.{line_cause};
 ghost use Rattle.tm_line.specs.Arguments.{one_name, one_number, one_address, group_word, pattern_word, path_word, range_word, addr_range_word, name_word, number_word, address_word, plain_word, name_at, number_at, address_at};
 
 use std::alloc::Global;
 use tm_addr::read_addr_range;
 use tm_list::Seq;
-use tm_number::{AddrRange, Base, Range, read_number, read_range};
-use tm_pattern::{PatternFault, read_pattern, spelled_word};
+use tm_number::{AddrRange, Range, read_range};
+use tm_pattern::{PatternFault, read_pattern};
 use tm_types::entry::LineKind;
 use tm_types::step::LineFault;
 use tm_types::unions::{AddrUnion, NameUnion, NumberUnion};
-use tm_word::{Pattern, Text, Word};
+use tm_word::{Pattern, Text, Word, spelled_word};
 
 /// Reads the name of a group, without the `@` in front: a spelled word that is not empty. Errors: `Name`.
 #[tactic(auto, unfolding(crate::specs::Arguments::group_word))]
 pub fn group_word(alloc: Global, text: &[u8]) -> Result<Word, LineFault>
-    ensures { Gives (λ word. word) result (group_word text.now) }
+    ensures { Gives line_cause (λ word. word) result (group_word text.now) }
 {
     match spelled_word(alloc, text) {
         Err(_) => Err(LineFault::NoMemory),
@@ -34,7 +35,7 @@ pub fn group_word(alloc: Global, text: &[u8]) -> Result<Word, LineFault>
 /// Reads a pattern, which may begin with `@`. Errors: `Name`.
 #[tactic(auto, unfolding(crate::specs::Arguments::pattern_word))]
 pub fn pattern_word(alloc: Global, text: &[u8]) -> Result<Pattern, LineFault>
-    ensures { Gives (λ pattern. pattern) result (pattern_word text.now) }
+    ensures { Gives line_cause (λ pattern. pattern) result (pattern_word text.now) }
 {
     match read_pattern(alloc, text) {
         Ok(pattern) => Ok(pattern),
@@ -48,7 +49,7 @@ pub fn pattern_word(alloc: Global, text: &[u8]) -> Result<Pattern, LineFault>
 /// Reads a path, which is a pattern that begins with `/`, and keeps it as it is written. Errors: `Name`.
 #[tactic(auto, unfolding(crate::specs::Arguments::path_word, tm_domain::specs::Names::is_path))]
 pub fn path_word(alloc: Global, text: &[u8]) -> Result<Text, LineFault>
-    ensures { Gives (λ path. path) result (path_word text.now) }
+    ensures { Gives line_cause (λ path. path) result (path_word text.now) }
 {
     match text {
         [] => Err(LineFault::Kind(LineKind::Name)),
@@ -70,7 +71,7 @@ pub fn path_word(alloc: Global, text: &[u8]) -> Result<Text, LineFault>
 /// Reads a range of numbers. Errors: `Number`. Takes no memory.
 #[tactic(auto, unfolding(crate::specs::Arguments::range_word))]
 pub fn range_word(text: &[u8]) -> Result<Range, LineFault>
-    ensures { Gives (λ range. range) result (range_word text.now) }
+    ensures { GivesNow line_cause (λ range. range) result (range_word text.now) }
 {
     match read_range(text) {
         Ok(range) => Ok(range),
@@ -81,7 +82,7 @@ pub fn range_word(text: &[u8]) -> Result<Range, LineFault>
 /// Reads a range of addresses. Errors: `Address`. Takes no memory.
 #[tactic(auto, unfolding(crate::specs::Arguments::addr_range_word))]
 pub fn addr_range_word(text: &[u8]) -> Result<AddrRange, LineFault>
-    ensures { Gives (λ range. range) result (addr_range_word text.now) }
+    ensures { GivesNow line_cause (λ range. range) result (addr_range_word text.now) }
 {
     match read_addr_range(text) {
         Ok(range) => Ok(range),
@@ -90,7 +91,7 @@ pub fn addr_range_word(text: &[u8]) -> Result<AddrRange, LineFault>
 }
 
 fn one_name(alloc: Global, word: &[u8]) -> Result<NameUnion, LineFault>
-    ensures { Gives (λ name. name) result (one_name word.now) }
+    ensures { Gives line_cause (λ name. name) result (one_name word.now) }
 {
     match word {
         [] => Err(LineFault::Kind(LineKind::Name)),
@@ -101,7 +102,7 @@ fn one_name(alloc: Global, word: &[u8]) -> Result<NameUnion, LineFault>
 /// Reads a name argument: `@GROUP`, or a pattern that isn't empty and doesn't begin with `@`. Errors: `Name`.
 #[tactic(auto, unfolding(crate::specs::Arguments::name_word))]
 pub fn name_word(alloc: Global, word: &[u8]) -> Result<NameUnion, LineFault>
-    ensures { Gives (λ name. name) result (name_word word.now) }
+    ensures { Gives line_cause (λ name. name) result (name_word word.now) }
 {
     match word {
         [b'@', group @ ..] => Ok(NameUnion::Group(group_word(alloc, group)?)),
@@ -110,7 +111,7 @@ pub fn name_word(alloc: Global, word: &[u8]) -> Result<NameUnion, LineFault>
 }
 
 fn one_number(word: &[u8]) -> Result<NumberUnion, LineFault>
-    ensures { Gives (λ number. number) result (one_number word.now) }
+    ensures { GivesNow line_cause (λ number. number) result (one_number word.now) }
 {
     Ok(NumberUnion::One(range_word(word)?))
 }
@@ -118,7 +119,7 @@ fn one_number(word: &[u8]) -> Result<NumberUnion, LineFault>
 /// Reads a number argument: `@GROUP` or a range. Errors: `Name` at a wrong group, else `Number`.
 #[tactic(auto, unfolding(crate::specs::Arguments::number_word))]
 pub fn number_word(alloc: Global, word: &[u8]) -> Result<NumberUnion, LineFault>
-    ensures { Gives (λ number. number) result (number_word word.now) }
+    ensures { Gives line_cause (λ number. number) result (number_word word.now) }
 {
     match word {
         [b'@', group @ ..] => Ok(NumberUnion::Group(group_word(alloc, group)?)),
@@ -127,7 +128,7 @@ pub fn number_word(alloc: Global, word: &[u8]) -> Result<NumberUnion, LineFault>
 }
 
 fn one_address(word: &[u8]) -> Result<AddrUnion, LineFault>
-    ensures { Gives (λ address. address) result (one_address word.now) }
+    ensures { GivesNow line_cause (λ address. address) result (one_address word.now) }
 {
     Ok(AddrUnion::One(addr_range_word(word)?))
 }
@@ -135,7 +136,7 @@ fn one_address(word: &[u8]) -> Result<AddrUnion, LineFault>
 /// Reads an address argument: `@GROUP` or a range of addresses. Errors: `Name` at a wrong group, else `Address`.
 #[tactic(auto, unfolding(crate::specs::Arguments::address_word))]
 pub fn address_word(alloc: Global, word: &[u8]) -> Result<AddrUnion, LineFault>
-    ensures { Gives (λ address. address) result (address_word word.now) }
+    ensures { Gives line_cause (λ address. address) result (address_word word.now) }
 {
     match word {
         [b'@', group @ ..] => Ok(AddrUnion::Group(group_word(alloc, group)?)),
@@ -146,49 +147,29 @@ pub fn address_word(alloc: Global, word: &[u8]) -> Result<AddrUnion, LineFault>
 /// Reads a plain number from 0 to 255, as profiles and groups of lines have. Errors: `Number`. Takes no memory.
 #[tactic(auto, unfolding(crate::specs::Arguments::plain_word))]
 pub fn small_number(text: &[u8]) -> Result<u8, LineFault>
-    ensures { Gives (λ n. n) result (plain_word 256 text.now) }
+    ensures { GivesNow line_cause (λ n. n) result (plain_word 256 text.now) }
 {
-    match read_number(text) {
-        Ok(number) => match number.base {
-            Base::Decimal => {
-                if number.value < 256 {
-                    Ok(number.value as u8)
-                } else {
-                    Err(LineFault::Kind(LineKind::Number))
-                }
-            }
-            Base::Octal => Err(LineFault::Kind(LineKind::Number)),
-            Base::Hex => Err(LineFault::Kind(LineKind::Number)),
-        },
-        Err(_) => Err(LineFault::Kind(LineKind::Number)),
+    match tm_number::plain_number(256, text) {
+        Some(number) => Ok(number as u8),
+        None => Err(LineFault::Kind(LineKind::Number)),
     }
 }
 
 /// Reads a plain number below 2^32. Errors: `Number`. Takes no memory.
 #[tactic(auto, unfolding(crate::specs::Arguments::plain_word))]
 pub fn plain_number(text: &[u8]) -> Result<u32, LineFault>
-    ensures { Gives (λ n. n) result (plain_word (2 ^ 32) text.now) }
+    ensures { GivesNow line_cause (λ n. n) result (plain_word (2 ^ 32) text.now) }
 {
-    match read_number(text) {
-        Ok(number) => match number.base {
-            Base::Decimal => {
-                if number.value < 4294967296 {
-                    Ok(number.value as u32)
-                } else {
-                    Err(LineFault::Kind(LineKind::Number))
-                }
-            }
-            Base::Octal => Err(LineFault::Kind(LineKind::Number)),
-            Base::Hex => Err(LineFault::Kind(LineKind::Number)),
-        },
-        Err(_) => Err(LineFault::Kind(LineKind::Number)),
+    match tm_number::plain_number(4_294_967_296, text) {
+        Some(number) => Ok(number as u32),
+        None => Err(LineFault::Kind(LineKind::Number)),
     }
 }
 
 /// Reads a name argument at the front, and answers the words after it. Errors: `Arity` where no word is left, `Name`.
 #[tactic(auto, unfolding(crate::specs::Arguments::name_at))]
 pub fn name_at(alloc: Global, words: &[Text]) -> Result<(NameUnion, &[Text]), LineFault>
-    ensures { Gives (λ x. (x.0, x.1.now)) result (name_at words.now) }
+    ensures { Gives line_cause (λ x. (x.0, x.1.now)) result (name_at words.now) }
 {
     match words {
         [] => Err(LineFault::Kind(LineKind::Arity)),
@@ -200,7 +181,7 @@ pub fn name_at(alloc: Global, words: &[Text]) -> Result<(NameUnion, &[Text]), Li
 /// group, else `Number`.
 #[tactic(auto, unfolding(crate::specs::Arguments::number_at))]
 pub fn number_at(alloc: Global, words: &[Text]) -> Result<(NumberUnion, &[Text]), LineFault>
-    ensures { Gives (λ x. (x.0, x.1.now)) result (number_at words.now) }
+    ensures { Gives line_cause (λ x. (x.0, x.1.now)) result (number_at words.now) }
 {
     match words {
         [] => Err(LineFault::Kind(LineKind::Arity)),
@@ -212,7 +193,7 @@ pub fn number_at(alloc: Global, words: &[Text]) -> Result<(NumberUnion, &[Text])
 /// wrong group, else `Address`.
 #[tactic(auto, unfolding(crate::specs::Arguments::address_at))]
 pub fn address_at(alloc: Global, words: &[Text]) -> Result<(AddrUnion, &[Text]), LineFault>
-    ensures { Gives (λ x. (x.0, x.1.now)) result (address_at words.now) }
+    ensures { Gives line_cause (λ x. (x.0, x.1.now)) result (address_at words.now) }
 {
     match words {
         [] => Err(LineFault::Kind(LineKind::Arity)),

@@ -1,7 +1,8 @@
 //! Domain names in lines.
 ghost use Rattle.std.specs.Prelude.{◌≡◌, ◌≤◌, ◌∷◌, length};
-ghost use Rattle.tm_domain.specs.Names.{begins_with_slash};
-ghost use Rattle.tm_line.specs.Lines.{Gives};
+ghost use Rattle.tm_word.specs.Texts.{begins_with_byte};
+ghost use Rattle.tm_word.specs.Gives.{Gives};
+ghost use Rattle.tm_line.specs.Lines.{line_cause};
 ghost use Rattle.tm_line.specs.Domains.{domain_words, paths_in, domain_at, domain_to_end};
 
 use crate::words::joined_after;
@@ -10,12 +11,12 @@ use tm_domain::{DomainFault, read_domain};
 use tm_types::entry::LineKind;
 use tm_types::step::LineFault;
 use tm_types::unions::DomainName;
-use tm_word::Text;
+use tm_word::{Text, begins_with};
 
 /// Reads these words as one domain name of at most 4,085 bytes. Errors: `Domain`.
 #[tactic(auto, unfolding(crate::specs::Domains::domain_words))]
 fn domain_of_words(alloc: Global, first: &[u8], rest: &[Text]) -> Result<DomainName, LineFault>
-    ensures { Gives (λ name. name) result (domain_words (first.now ∷ rest.now)) }
+    ensures { Gives line_cause (λ name. name) result (domain_words (first.now ∷ rest.now)) }
 {
     let text = joined_after(alloc, first, rest)?;
     match read_domain(alloc, &text) {
@@ -27,23 +28,13 @@ fn domain_of_words(alloc: Global, first: &[u8], rest: &[Text]) -> Result<DomainN
     }
 }
 
-/// Whether a text begins with `/`.
-fn begins_with_slash(text: &[u8]) -> bool
-    ensures { result ≡ begins_with_slash text.now }
-{
-    match text {
-        [] => false,
-        [first, ..] => *first == b'/',
-    }
-}
-
 /// How many words in front begin with `/`.
 fn paths_in(words: &[Text]) -> usize
     ensures value { result ≡ paths_in words.now }
     ensures within { result ≤ length words.now }
 {
     let mut count = 0;
-    while count < words.len() && begins_with_slash(words[count].bytes()) {
+    while count < words.len() && begins_with(b'/', words[count].bytes()) {
         count += 1;
     }
     count
@@ -53,7 +44,7 @@ fn paths_in(words: &[Text]) -> usize
 /// words after it. Errors: `Arity` where no word is left, `Domain`.
 #[tactic(auto, unfolding(crate::specs::Domains::domain_at))]
 pub fn domain_at(alloc: Global, words: &[Text]) -> Result<(DomainName, &[Text]), LineFault>
-    ensures { Gives (λ x. (x.0, x.1.now)) result (domain_at words.now) }
+    ensures { Gives line_cause (λ x. (x.0, x.1.now)) result (domain_at words.now) }
 {
     match words {
         [] => Err(LineFault::Kind(LineKind::Arity)),
@@ -68,7 +59,7 @@ pub fn domain_at(alloc: Global, words: &[Text]) -> Result<(DomainName, &[Text]),
 /// Reads a domain name that runs to the line's end. Errors: `Arity` where no word is left, `Domain`.
 #[tactic(auto, unfolding(crate::specs::Domains::domain_to_end))]
 pub fn domain_to_end(alloc: Global, words: &[Text]) -> Result<DomainName, LineFault>
-    ensures { Gives (λ name. name) result (domain_to_end words.now) }
+    ensures { Gives line_cause (λ name. name) result (domain_to_end words.now) }
 {
     match words {
         [] => Err(LineFault::Kind(LineKind::Arity)),

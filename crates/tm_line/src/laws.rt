@@ -21,7 +21,7 @@ ghost use Rattle.tm_line.specs.Permissions.{perms_of, perms_spelling};
 ghost use Rattle.tm_line.specs.Arguments.{group_word, pattern_word, range_word, addr_range_word, name_word, number_word, address_word, plain_word};
 ghost use Rattle.tm_line.specs.Domains.{domain_at, domain_to_end};
 ghost use Rattle.tm_line.specs.DomainWords.{domain_parts, ends_domain};
-ghost use Rattle.tm_line.specs.WholeWords.{is_solid, is_word};
+ghost use Rattle.tm_word.specs.Texts.{is_solid, is_word};
 ghost use Rattle.tm_line.specs.Printing.{name_spelling, number_spelling, address_spelling};
 ghost use Rattle.tm_line.specs.Written.{is_group, is_name, is_range, is_number, is_addr_range, is_address, is_set};
 

@@ -1,4 +1,4 @@
-//! What the readers and printers of lines share: keywords, lists of permissions, and arguments of one word or of a domain name.
+//! What the readers and printers of lines share: keywords, lists of permissions, arguments of one word or of a domain name, and the namespace word in front.
 //! Stands on the word, number, address, pattern, types, rules and domain crates, whose grammars of single words it cites.
 //! Promises that each step gives what its reading function on words gives, that each printer appends the one text, and that what is printed is read again as the value printed.
 #![tactic(auto)]
@@ -6,6 +6,7 @@
 mod arguments;
 mod domains;
 mod laws;
+mod namespace;
 mod permissions;
 mod printing;
 mod words;
@@ -16,6 +17,7 @@ pub use arguments::{
 };
 pub use domains::{domain_at, domain_to_end};
 pub use laws::{printed_words, round_trip};
+pub use namespace::{namespace_at, namespaces, opens};
 pub use permissions::{Row, mask_in, pieces_of, print_perms, read_perms, starts_in};
 pub use printing::{print_address, print_domain, print_name, print_number};
-pub use words::{begins, joined, joined_after, keyword_at, option_at};
+pub use words::{ended, joined, joined_after, keyword_at, keyword_kind, option_at};

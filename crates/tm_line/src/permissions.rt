@@ -1,18 +1,17 @@
 //! Lists of permissions.
 ghost use Rattle.std.specs.Prelude.{◌≡◌, [], ◌++◌, IfOk, OnOk, OnErr};
-ghost use Rattle.tm_line.specs.Lines.{Gives};
+ghost use Rattle.tm_word.specs.Gives.{Gives};
+ghost use Rattle.tm_line.specs.Lines.{line_cause};
 ghost use Rattle.tm_line.specs.Permissions.{mask_in, starts_in, pieces_of, bits_of, finishes, perms_of, perm_on, perms_spelling};
 
-use crate::words::begins;
+use crate::words::keyword_kind;
 use std::alloc::Global;
 use tm_list::{NoMemory, Seq};
-use tm_rules::bytes_equal;
-use tm_types::entry::LineKind;
 use tm_types::step::LineFault;
-use tm_word::Text;
+use tm_word::{Text, begins, bytes_equal};
 
 /// The rows of permissions: those that one line may have together.
-#[derive(Clone, Copy, PartialEq, Eq, Debug)]
+#[derive(Clone, Copy)]
 pub enum Row {
     /// `file P NAME`.
     Path,
@@ -239,17 +238,17 @@ fn bits_of(acl_row: Row, pieces: &[Text]) -> Option<u16>
 fn finishes(acl_row: Row, pieces: &[Text]) -> bool
     ensures { result ≡ finishes acl_row pieces.now }
 {
-    match pieces {
-        [] => false,
-        [piece] => starts_in(acl_row, piece.bytes()),
-        [piece, rest @ ..] => {
-            if mask_in(acl_row, piece.bytes()).is_some() {
-                finishes(acl_row, rest)
-            } else {
-                false
-            }
+    let mut rest = pieces;
+    while let [piece, more @ ..] = rest {
+        if more.is_empty() {
+            return starts_in(acl_row, piece.bytes());
         }
+        if mask_in(acl_row, piece.bytes()).is_none() {
+            return false;
+        }
+        rest = more;
     }
+    false
 }
 
 /// Reads permissions of a row, joined by `/` in any order and repeated; `last` says whether the word is the line's last one.
@@ -257,17 +256,14 @@ fn finishes(acl_row: Row, pieces: &[Text]) -> bool
 /// Errors: `Arity` where the last word is an unfinished list, else `Keyword` where a piece of the word is no permission of the row.
 #[tactic(auto, unfolding(crate::specs::Permissions::perms_of))]
 pub fn read_perms(alloc: Global, acl_row: Row, word: &[u8], last: bool) -> Result<u16, LineFault>
-    ensures { Gives (λ bits. bits) result (perms_of acl_row word.now last) }
+    ensures { Gives line_cause (λ bits. bits) result (perms_of acl_row word.now last) }
 {
     let pieces = pieces_of(alloc, word)?;
     match bits_of(acl_row, &pieces) {
         Some(bits) => Ok(bits),
         None => {
-            if last && finishes(acl_row, &pieces) {
-                Err(LineFault::Kind(LineKind::Arity))
-            } else {
-                Err(LineFault::Kind(LineKind::Keyword))
-            }
+            let unfinished = last && finishes(acl_row, &pieces);
+            Err(LineFault::Kind(keyword_kind(unfinished)))
         }
     }
 }

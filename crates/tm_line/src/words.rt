@@ -1,25 +1,33 @@
 //! Words of lines.
 ghost use Rattle.std.specs.Prelude.{◌≡◌, ◌∷◌, IfOk};
 ghost use Rattle.tm_word.specs.Spelling.{joined};
-ghost use Rattle.tm_line.specs.Lines.{Gives, begins, keyword_at, option_at};
+ghost use Rattle.tm_word.specs.Gives.{GivesNow};
+ghost use Rattle.tm_line.specs.Lines.{line_cause, ended, keyword_kind, keyword_at, option_at};
 
 use std::alloc::Global;
 use tm_list::NoMemory;
-use tm_rules::bytes_equal;
 use tm_types::entry::LineKind;
 use tm_types::step::LineFault;
-use tm_word::Text;
+use tm_word::{Text, begins, bytes_equal};
 
-/// Whether a text is a front of another or all of it, as an unfinished keyword is.
-pub fn begins(front: &[u8], whole: &[u8]) -> bool
-    ensures { result ≡ begins front.now whole.now }
+/// What a wrong word is where a keyword must stand: `Arity` where it is an unfinished one, else `Keyword`.
+pub fn keyword_kind(unfinished: bool) -> LineKind
+    ensures { result ≡ keyword_kind unfinished }
 {
-    match front {
-        [] => true,
-        [a, front @ ..] => match whole {
-            [] => false,
-            [b, whole @ ..] => *a == *b && begins(front, whole),
-        },
+    if unfinished {
+        LineKind::Arity
+    } else {
+        LineKind::Keyword
+    }
+}
+
+/// The value of a line after which no word may be left. Errors: `Arity` at a word that is left. Takes no memory.
+pub fn ended<T: Drop>(value: T, words: &[Text]) -> Result<T, LineFault>
+    ensures { GivesNow line_cause (λ x. x) result (ended value words.now) }
+{
+    match words {
+        [] => Ok(value),
+        [_, ..] => Err(LineFault::Kind(LineKind::Arity)),
     }
 }
 
@@ -27,17 +35,16 @@ pub fn begins(front: &[u8], whole: &[u8]) -> bool
 ///
 /// Errors: `Arity` where no word is left or the last one is an unfinished keyword, `Keyword` at any other word.
 pub fn keyword_at<'a>(keyword: &[u8], words: &'a [Text]) -> Result<&'a [Text], LineFault>
-    ensures { Gives (λ rest. rest.now) result (keyword_at keyword.now words.now) }
+    ensures { GivesNow line_cause (λ rest. rest.now) result (keyword_at keyword.now words.now) }
 {
     match words {
         [] => Err(LineFault::Kind(LineKind::Arity)),
         [word, rest @ ..] => {
             if bytes_equal(word.bytes(), keyword) {
                 Ok(rest)
-            } else if rest.is_empty() && begins(word.bytes(), keyword) {
-                Err(LineFault::Kind(LineKind::Arity))
             } else {
-                Err(LineFault::Kind(LineKind::Keyword))
+                let unfinished = rest.is_empty() && begins(word.bytes(), keyword);
+                Err(LineFault::Kind(keyword_kind(unfinished)))
             }
         }
     }

@@ -13,12 +13,13 @@ use Rattle.tm_types.specs.declared.entry.Perms.{Perms}
 use Rattle.tm_types.specs.declared.unions.NameUnion.{NameUnion}
 use Rattle.tm_types.specs.declared.unions.NumberUnion.{NumberUnion}
 use Rattle.tm_types.specs.declared.unions.AddrUnion.{AddrUnion}
-use Rattle.tm_rules.specs.Equality.{texts_equal}
+use Rattle.tm_word.specs.Texts.{texts_equal, begins}
 use Rattle.tm_rules.specs.Words.{DomainName}
 use Rattle.tm_rules.specs.Transition.{is_domain_name}
 use Rattle.tm_domain.specs.Names.{is_path}
 use Rattle.tm_line.specs.declared.permissions.Row.{Row}
-use Rattle.tm_line.specs.Lines.{◌>>=◌, begins, is_last, keyword_kind, keyword_at, word_at}
+use Rattle.tm_line.specs.Lines.{is_last, keyword_kind, keyword_at, word_at}
+use Rattle.tm_word.specs.Gives.{◌>>=◌}
 use Rattle.tm_line.specs.Permissions.{perms_of, perms_spelling}
 use Rattle.tm_line.specs.Arguments.{pattern_word, name_at, number_at, address_at}
 use Rattle.tm_line.specs.Domains.{domain_at}

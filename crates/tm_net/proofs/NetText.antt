@@ -15,7 +15,7 @@ use Rattle.tm_line.specs.Permissions.{perms_spelling}
 use Rattle.tm_line.specs.Printing.{name_spelling, number_spelling, address_spelling}
 use Rattle.tm_line.specs.Written.{is_name, is_number, is_address, is_set}
 use Rattle.tm_line.specs.DomainWords.{domain_parts}
-use Rattle.tm_line.specs.WholeWords.{is_solid, is_word}
+use Rattle.tm_word.specs.Texts.{is_solid, is_word}
 use Rattle.tm_line.proofs.Steps.{both, all}
 use Rattle.tm_line.proofs.WholeLaws.{words_again, word_from, pattern_solid, name_is, number_is, address_is, perms_is, parts_are}
 use Rattle.tm_net.specs.NetLines.{inet_permissions, unix_permissions, inet_word, unix_word, is_env, net_words, is_net}

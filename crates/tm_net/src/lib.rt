@@ -12,7 +12,8 @@ ghost use Rattle.tm_rules.specs.Group.{name_in, number_in};
 ghost use Rattle.tm_types.specs.declared.entry.Args.{Args};
 ghost use Rattle.tm_number.specs.declared.Addr.{Addr};
 ghost use Rattle.tm_word.specs.Matching.{matches};
-ghost use Rattle.tm_rules.specs.Equality.{inet_place, unix_place, texts_equal};
+ghost use Rattle.tm_rules.specs.Equality.{inet_place, unix_place};
+ghost use Rattle.tm_word.specs.Texts.{texts_equal};
 ghost use Rattle.tm_rules.specs.Group.{addr_in};
 ghost use Rattle.tm_rules.specs.Search.{number_value, addr_value, args_grant};
 ghost use Rattle.tm_net.specs.Rows.{net_args_grant, env_grant};
@@ -20,16 +21,17 @@ ghost use Rattle.tm_net.specs.Rows.{net_args_grant, env_grant};
 mod lines;
 mod printing;
 
-pub use lines::{net_acl_at, read_net_acl, round_trip};
+pub use lines::{
+    inet_kind, inet_permissions, net_acl_at, read_net_acl, round_trip, unix_kind, unix_permissions,
+};
 pub use printing::print_net_acl;
 use tm_number::Addr;
 use tm_pattern::matches;
-use tm_rules::texts_equal;
 use tm_types::entry::{Args, InetKind, UnixKind};
 use tm_types::request::Request;
 use tm_types::unions::{AddrUnion, DomainName, Groups, NamePlace, NameUnion, NumberUnion};
 use tm_union::{addr_in, name_in, number_in};
-use tm_word::Pattern;
+use tm_word::{Pattern, texts_equal};
 
 // The place in a name argument of the first name of the request.
 fn name_at(groups: &Groups, union: &NameUnion, request: &Request) -> Option<NamePlace>

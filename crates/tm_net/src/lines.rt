@@ -2,24 +2,25 @@
 ghost use Rattle.std.specs.Prelude.{◌≡◌, ◌≤◌, ◌++◌, ◌-◌, ℕ, true, List, Ok, length, drop, IfOk};
 ghost use Rattle.std.specs.List.{list_all};
 ghost use Rattle.tm_word.specs.Spelling.{words_of, joined};
-ghost use Rattle.tm_line.specs.WholeWords.{is_word};
+ghost use Rattle.tm_word.specs.Texts.{is_word};
 ghost use Rattle.tm_word.specs.Words.{Text};
 ghost use Rattle.tm_types.specs.declared.entry.Args.{Args};
 ghost use Rattle.tm_types.specs.declared.entry.Perms.{Perms};
-ghost use Rattle.tm_line.specs.Lines.{Gives, word_at};
-ghost use Rattle.tm_net.specs.NetLines.{inet_kind, starts_inet, unix_kind, starts_unix, inet_permissions, unix_permissions, kind_at, perms_at, inet_line, unix_line, network_line, has_equals, env_word, misc_line, task_line, starts_net, net_line, counted, net_words, is_net, perms};
+ghost use Rattle.tm_word.specs.Gives.{Gives, GivesNow};
+ghost use Rattle.tm_line.specs.Lines.{line_cause, word_at};
+ghost use Rattle.tm_net.specs.NetLines.{inet_kind, starts_inet, unix_kind, starts_unix, inet_permissions, unix_permissions, kind_at, perms_at, inet_line, unix_line, network_line, env_word, misc_line, task_line, starts_net, net_line, counted, net_words, is_net, perms};
 ghost use Rattle.tm_line.specs.DomainWords.{ends_domain};
 
 use std::alloc::Global;
 use tm_line::{
-    Row, address_at, begins, domain_at, keyword_at, name_at, number_at, pattern_word, read_perms,
+    Row, address_at, domain_at, keyword_at, name_at, number_at, pattern_word, read_perms,
 };
-use tm_rules::bytes_equal;
 use tm_types::entry::{Args, InetKind, LineKind, Perms, UnixKind};
 use tm_types::step::LineFault;
-use tm_word::{Pattern, Text};
+use tm_word::{Pattern, Text, begins, bytes_equal, has_byte};
 
-fn inet_kind(word: &[u8]) -> Option<InetKind>
+/// The kind of internet socket with this name.
+pub fn inet_kind(word: &[u8]) -> Option<InetKind>
     ensures { result ≡ inet_kind word.now }
 {
     if bytes_equal(word, b"stream") {
@@ -40,7 +41,8 @@ fn starts_inet(word: &[u8]) -> bool
     begins(word, b"stream") || begins(word, b"dgram") || begins(word, b"raw")
 }
 
-fn unix_kind(word: &[u8]) -> Option<UnixKind>
+/// The kind of local socket with this name.
+pub fn unix_kind(word: &[u8]) -> Option<UnixKind>
     ensures { result ≡ unix_kind word.now }
 {
     if bytes_equal(word, b"stream") {
@@ -62,7 +64,7 @@ fn starts_unix(word: &[u8]) -> bool
 }
 
 /// Which permissions an internet socket of this kind has.
-pub(crate) fn inet_permissions(kind: InetKind) -> Row
+pub fn inet_permissions(kind: InetKind) -> Row
     ensures { result ≡ inet_permissions kind }
 {
     match kind {
@@ -72,7 +74,7 @@ pub(crate) fn inet_permissions(kind: InetKind) -> Row
 }
 
 /// Which permissions a local socket of this kind has.
-pub(crate) fn unix_permissions(kind: UnixKind) -> Row
+pub fn unix_permissions(kind: UnixKind) -> Row
     ensures { result ≡ unix_permissions kind }
 {
     match kind {
@@ -82,7 +84,7 @@ pub(crate) fn unix_permissions(kind: UnixKind) -> Row
 }
 
 fn inet_kind_at(words: &[Text]) -> Result<(InetKind, &[Text]), LineFault>
-    ensures { Gives (λ x. (x.0, x.1.now)) result (kind_at inet_kind starts_inet words.now) }
+    ensures { GivesNow line_cause (λ x. (x.0, x.1.now)) result (kind_at inet_kind starts_inet words.now) }
 {
     match words {
         [] => Err(LineFault::Kind(LineKind::Arity)),
@@ -100,7 +102,7 @@ fn inet_kind_at(words: &[Text]) -> Result<(InetKind, &[Text]), LineFault>
 }
 
 fn unix_kind_at(words: &[Text]) -> Result<(UnixKind, &[Text]), LineFault>
-    ensures { Gives (λ x. (x.0, x.1.now)) result (kind_at unix_kind starts_unix words.now) }
+    ensures { GivesNow line_cause (λ x. (x.0, x.1.now)) result (kind_at unix_kind starts_unix words.now) }
 {
     match words {
         [] => Err(LineFault::Kind(LineKind::Arity)),
@@ -120,7 +122,7 @@ fn unix_kind_at(words: &[Text]) -> Result<(UnixKind, &[Text]), LineFault>
 // The permissions of a row, and the words after them.
 #[tactic(auto, unfolding(crate::specs::NetLines::perms_at))]
 fn perms_at(alloc: Global, row: Row, words: &[Text]) -> Result<(u16, &[Text]), LineFault>
-    ensures { Gives (λ x. (x.0, x.1.now)) result (perms_at row words.now) }
+    ensures { Gives line_cause (λ x. (x.0, x.1.now)) result (perms_at row words.now) }
 {
     match words {
         [] => Err(LineFault::Kind(LineKind::Arity)),
@@ -131,7 +133,7 @@ fn perms_at(alloc: Global, row: Row, words: &[Text]) -> Result<(u16, &[Text]), L
 // What stands after `network inet`.
 #[tactic(auto, unfolding(crate::specs::NetLines::inet_line))]
 fn inet_line(alloc: Global, words: &[Text]) -> Result<(Args, Perms, &[Text]), LineFault>
-    ensures { Gives (λ x. (x.0, x.1, x.2.now)) result (inet_line words.now) }
+    ensures { Gives line_cause (λ x. (x.0, x.1, x.2.now)) result (inet_line words.now) }
 {
     let (kind, rest) = inet_kind_at(words)?;
     let (bits, rest) = perms_at(alloc, inet_permissions(kind), rest)?;
@@ -143,7 +145,7 @@ fn inet_line(alloc: Global, words: &[Text]) -> Result<(Args, Perms, &[Text]), Li
 // What stands after `network unix`.
 #[tactic(auto, unfolding(crate::specs::NetLines::unix_line))]
 fn unix_line(alloc: Global, words: &[Text]) -> Result<(Args, Perms, &[Text]), LineFault>
-    ensures { Gives (λ x. (x.0, x.1, x.2.now)) result (unix_line words.now) }
+    ensures { Gives line_cause (λ x. (x.0, x.1, x.2.now)) result (unix_line words.now) }
 {
     let (kind, rest) = unix_kind_at(words)?;
     let (bits, rest) = perms_at(alloc, unix_permissions(kind), rest)?;
@@ -154,7 +156,7 @@ fn unix_line(alloc: Global, words: &[Text]) -> Result<(Args, Perms, &[Text]), Li
 // What stands after `network`.
 #[tactic(auto, unfolding(crate::specs::NetLines::network_line))]
 fn network_line(alloc: Global, words: &[Text]) -> Result<(Args, Perms, &[Text]), LineFault>
-    ensures { Gives (λ x. (x.0, x.1, x.2.now)) result (network_line words.now) }
+    ensures { Gives line_cause (λ x. (x.0, x.1, x.2.now)) result (network_line words.now) }
 {
     match words {
         [] => Err(LineFault::Kind(LineKind::Arity)),
@@ -173,27 +175,15 @@ fn network_line(alloc: Global, words: &[Text]) -> Result<(Args, Perms, &[Text]),
     }
 }
 
-// Whether an `=` stands in a text.
-fn has_equals(text: &[u8]) -> bool
-    ensures { result ≡ has_equals text.now }
-{
-    for byte in text {
-        if *byte == b'=' {
-            return true;
-        }
-    }
-    false
-}
-
 // The name of an environment variable.
 #[tactic(auto, unfolding(crate::specs::NetLines::env_word))]
 fn env_word(alloc: Global, word: &[u8]) -> Result<Pattern, LineFault>
-    ensures { Gives (λ x. x) result (env_word word.now) }
+    ensures { Gives line_cause (λ x. x) result (env_word word.now) }
 {
     match word {
         [] => Err(LineFault::Kind(LineKind::Name)),
         [_, ..] => {
-            if has_equals(word) {
+            if has_byte(b'=', word) {
                 Err(LineFault::Kind(LineKind::Name))
             } else {
                 pattern_word(alloc, word)
@@ -203,7 +193,7 @@ fn env_word(alloc: Global, word: &[u8]) -> Result<Pattern, LineFault>
 }
 
 fn env_at(alloc: Global, words: &[Text]) -> Result<(Pattern, &[Text]), LineFault>
-    ensures { Gives (λ x. (x.0, x.1.now)) result (word_at env_word words.now) }
+    ensures { Gives line_cause (λ x. (x.0, x.1.now)) result (word_at env_word words.now) }
 {
     match words {
         [] => Err(LineFault::Kind(LineKind::Arity)),
@@ -214,7 +204,7 @@ fn env_at(alloc: Global, words: &[Text]) -> Result<(Pattern, &[Text]), LineFault
 // What stands after `misc`.
 #[tactic(auto, unfolding(crate::specs::NetLines::misc_line))]
 fn misc_line(alloc: Global, words: &[Text]) -> Result<(Args, Perms, &[Text]), LineFault>
-    ensures { Gives (λ x. (x.0, x.1, x.2.now)) result (misc_line words.now) }
+    ensures { Gives line_cause (λ x. (x.0, x.1, x.2.now)) result (misc_line words.now) }
 {
     let rest = keyword_at(b"env", words)?;
     let (name, rest) = env_at(alloc, rest)?;
@@ -224,7 +214,7 @@ fn misc_line(alloc: Global, words: &[Text]) -> Result<(Args, Perms, &[Text]), Li
 // What stands after `task`.
 #[tactic(auto, unfolding(crate::specs::NetLines::task_line))]
 fn task_line(alloc: Global, words: &[Text]) -> Result<(Args, Perms, &[Text]), LineFault>
-    ensures { Gives (λ x. (x.0, x.1, x.2.now)) result (task_line words.now) }
+    ensures { Gives line_cause (λ x. (x.0, x.1, x.2.now)) result (task_line words.now) }
 {
     let rest = keyword_at(b"manual_domain_transition", words)?;
     let (domain, rest) = domain_at(alloc, rest)?;
@@ -243,7 +233,7 @@ fn starts_net(word: &[u8]) -> bool
 /// Errors: the kind of the first word at which the line can't go on, and `Arity` where a word is missing.
 #[tactic(auto, unfolding(crate::specs::NetLines::net_line))]
 pub fn net_acl_at(alloc: Global, words: &[Text]) -> Result<(Args, Perms, &[Text]), LineFault>
-    ensures { Gives (λ x. (x.0, x.1, x.2.now)) result (net_line words.now) }
+    ensures { Gives line_cause (λ x. (x.0, x.1, x.2.now)) result (net_line words.now) }
 {
     match words {
         [] => Err(LineFault::Kind(LineKind::Arity)),
@@ -269,7 +259,7 @@ pub fn net_acl_at(alloc: Global, words: &[Text]) -> Result<(Args, Perms, &[Text]
 ///
 /// Errors: the kind of the first word at which the line can't go on, and `Arity` where a word is missing.
 pub fn read_net_acl(alloc: Global, words: &[Text]) -> Result<(Args, Perms, usize), LineFault>
-    ensures exact { Gives (λ x. x) result (counted (length words.now) (net_line words.now)) }
+    ensures exact { Gives line_cause (λ x. x) result (counted (length words.now) (net_line words.now)) }
     ensures within { IfOk result (λ x. x.2 ≤ length words.now) }
 {
     let (args, perms, rest) = net_acl_at(alloc, words)?;

@@ -8,9 +8,9 @@ use Rattle.tm_types.specs.declared.policy.PolicyLine.{PolicyLine}
 use Rattle.tm_types.specs.declared.policy.ProfileEffect.{ProfileEffect}
 use Rattle.tm_types.specs.declared.policy.DomainRule.{DomainRule}
 use Rattle.tm_types.specs.declared.step.FileKind.{FileKind}
-use Rattle.tm_rules.specs.Equality.{texts_equal}
+use Rattle.tm_word.specs.Texts.{texts_equal}
 use Rattle.tm_rules.specs.Policy.{kernel}
-use Rattle.tm_line.specs.Lines.{◌>>=◌}
+use Rattle.tm_word.specs.Gives.{◌>>=◌}
 use Rattle.tm_entry.specs.Entries.{entry_of}
 use Rattle.tm_policy.specs.Lines.{word_at, keyword_at, at_end, numbered, after_number, mode_word, log_word, setting, count_after, preference_line, numbered_line, profile_number, kernel_profile, config_line, profile_line, entry_line, use_profile_line, domain_line, read_words, read_line, is_built}
 

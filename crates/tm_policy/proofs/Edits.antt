@@ -5,7 +5,7 @@ use Rattle.std.specs.List.{position_from, AllByRecursion}
 use Rattle.tm_word.specs.Words.{Text}
 use Rattle.tm_types.specs.declared.entry.Entry.{Entry}
 use Rattle.tm_types.specs.declared.policy.Namespace.{Namespace}
-use Rattle.tm_rules.specs.Equality.{texts_equal}
+use Rattle.tm_word.specs.Texts.{texts_equal}
 use Rattle.tm_rules.specs.Policy.{changed_at, empty_namespace, adding, same_line}
 use Rattle.tm_rules.specs.Edit.{in_namespace}
 

@@ -41,9 +41,9 @@ module _ (r s : Request) (kind : is_execute r ≡ is_execute s) (attributes : r.
   same_word Attr.Envc = refl
   same_word (Attr.Stat place field) = refl
   same_word (Attr.Kind place) = refl
-  same_word (Attr.Argv n) = rw attributes refl
-  same_word (Attr.Envp n) = rw attributes refl
-  same_word Attr.RealPath = rw attributes refl
+  same_word (Attr.Argv n) = rw (kind, attributes) refl
+  same_word (Attr.Envp n) = rw (kind, attributes) refl
+  same_word Attr.RealPath = rw (kind, attributes) refl
   same_word Attr.Target = rw attributes refl
 
   abbrev clause : Attr → Bool → Right → Clause

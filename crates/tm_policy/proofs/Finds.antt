@@ -10,7 +10,7 @@ use Rattle.tm_types.specs.declared.policy.Policy.{Policy}
 use Rattle.tm_types.specs.declared.verdict.EntryPlace.{EntryPlace}
 use Rattle.tm_types.specs.declared.request.Proc.{Proc}
 use Rattle.tm_types.specs.declared.request.Request.{Request}
-use Rattle.tm_rules.specs.Equality.{texts_equal}
+use Rattle.tm_word.specs.Texts.{texts_equal}
 use Rattle.tm_rules.specs.Condition.{is_execute}
 use Rattle.tm_rules.specs.Policy.{empty_namespace, namespace_word, namespace_named, namespace_of, domain_at}
 use Rattle.tm_rules.specs.Search.{aggregated, path_of, entries_of, placed, first, found, found_of}

@@ -1,11 +1,11 @@
 -- worked examples of lines
 use Rattle.std.proofs.Common.{◌≡◌, ℕ, false, [], None, Ok, Err, refl}
 use Rattle.std.specs.Prelude.{codes}
-use Rattle.tm_word.specs.Spelling.{words_of}
+use Rattle.tm_word.specs.Spelling.{words_of, spelled_word, word_of, head_of}
 use Rattle.tm_word.specs.Printing.{literal}
 use Rattle.tm_number.specs.Numbers.{value_of, number_of}
 use Rattle.tm_pattern.specs.Tokens.{token_at}
-use Rattle.tm_pattern.specs.Reading.{step, ended, parsed, pattern_of, word_of}
+use Rattle.tm_pattern.specs.Reading.{step, ended, parsed, pattern_of}
 use Rattle.tm_types.specs.declared.entry.Args.{Args}
 use Rattle.tm_types.specs.declared.entry.Entry.{Entry}
 use Rattle.tm_types.specs.declared.entry.LineKind.{LineKind}
@@ -64,7 +64,7 @@ file = refl
 
 -- a name of a group
 pub group : read_line FileKind.Domain (codes "file read @a") ≡ Ok (PolicyLine.Domain (DomainRule.Acl false (path_entry (NameUnion.Group (codes "a")) 2)))
-unfolding read_line words_of read_words domain_line entry_line entry_of acl_line file_line perms_line row_line row_of perms_of args_at path_at name_at name_word group_word word_of pattern_of parsed step ended token_at cond_of cond_from
+unfolding read_line words_of read_words domain_line entry_line entry_of acl_line file_line perms_line row_line row_of perms_of args_at path_at name_at name_word group_word spelled_word word_of head_of pattern_of parsed step ended token_at cond_of cond_from
 group = refl
 
 -- a line that begins with no word of the file is judged as an entry: its name is missing
@@ -74,5 +74,5 @@ no_name = refl
 
 -- and what stands after its name is a condition
 pub no_condition : read_line FileKind.Domain (codes "file read @a x") ≡ Err LineKind.Condition
-unfolding read_line words_of read_words domain_line entry_line entry_of acl_line file_line perms_line row_line row_of perms_of args_at path_at name_at name_word group_word word_of pattern_of parsed step ended token_at cond_of cond_from log_word clause_word sides
+unfolding read_line words_of read_words domain_line entry_line entry_of acl_line file_line perms_line row_line row_of perms_of args_at path_at name_at name_word group_word spelled_word word_of head_of pattern_of parsed step ended token_at cond_of cond_from log_word clause_word sides
 no_condition = refl

@@ -7,7 +7,7 @@ use Rattle.tm_types.specs.declared.policy.Namespace.{Namespace}
 use Rattle.tm_types.specs.declared.policy.Domain.{Domain}
 use Rattle.tm_types.specs.declared.policy.Policy.{Policy}
 use Rattle.tm_types.specs.declared.policy.ProfileEffect.{ProfileEffect}
-use Rattle.tm_rules.specs.Equality.{texts_equal}
+use Rattle.tm_word.specs.Texts.{texts_equal}
 use Rattle.tm_rules.specs.Policy.{empty_namespace}
 use Rattle.tm_rules.specs.Edit.{profile_line, in_namespace}
 use Rattle.tm_rules.specs.Few.{IsShort, IsFewHere, IsFew}

@@ -14,9 +14,9 @@ use Rattle.tm_types.specs.declared.policy.PolicyLine.{PolicyLine}
 use Rattle.tm_types.specs.declared.policy.ProfileEffect.{ProfileEffect}
 use Rattle.tm_types.specs.declared.policy.Setting.{Setting}
 use Rattle.tm_types.specs.declared.step.FileKind.{FileKind}
-use Rattle.tm_rules.specs.Equality.{texts_equal}
+use Rattle.tm_word.specs.Texts.{texts_equal}
 use Rattle.tm_rules.specs.Policy.{kernel}
-use Rattle.tm_line.specs.Lines.{◌>>=◌}
+use Rattle.tm_word.specs.Gives.{◌>>=◌}
 use Rattle.tm_entry.specs.Entries.{entry_of}
 
 -- Steps, each with the words that are left

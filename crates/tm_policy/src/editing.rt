@@ -5,7 +5,7 @@ ghost use Rattle.tm_types.specs.declared.policy.Domain.{Domain};
 ghost use Rattle.tm_types.specs.declared.policy.Namespace.{Namespace};
 ghost use Rattle.tm_types.specs.declared.policy.DomainRule.{DomainRule};
 ghost use Rattle.tm_types.specs.declared.policy.ProfileEffect.{ProfileEffect};
-ghost use Rattle.tm_rules.specs.Equality.{texts_equal};
+ghost use Rattle.tm_word.specs.Texts.{texts_equal};
 ghost use Rattle.tm_rules.specs.Few.{IsShort, IsFewHere, IsFew};
 ghost use Rattle.tm_rules.specs.Policy.{at_key, namespace_word, empty_namespace, profile_numbered, live_domain, with_domain, adding, same_line};
 ghost use Rattle.tm_rules.specs.Edit.{Edited, new_domain, new_profile, set_config, profile_line, in_namespace, chosen, domain_line, apply_read, apply_parsed};
@@ -18,7 +18,7 @@ use crate::placing::{add_line, close_quota, put_domain};
 use std::alloc::{AllocError, Global};
 use tm_domain::namespace;
 use tm_list::{Copied, Map, NoMemory, Seq};
-use tm_rules::{bytes_equal, same_line, texts_equal};
+use tm_rules::same_line;
 use tm_types::entry::Entry;
 use tm_types::policy::{
     Config, Cursor, Domain, DomainRule, Logs, Mode, Namespace, Policy, PolicyLine, Profile,
@@ -26,7 +26,7 @@ use tm_types::policy::{
 };
 use tm_types::step::{EditReply, FileKind, LineFault};
 use tm_types::unions::{DomainName, Groups};
-use tm_word::Text;
+use tm_word::{Text, bytes_equal, texts_equal};
 
 // A live domain without flags and entries.
 fn new_domain(alloc: Global, name: DomainName) -> Domain
@@ -43,30 +43,45 @@ fn new_domain(alloc: Global, name: DomainName) -> Domain
     }
 }
 
-/// The policy of which nothing is written yet: the domain `<kernel>` alone, with profile 0, not opened. Errors: want of memory.
-pub fn new_policy(alloc: Global) -> Result<Policy, NoMemory>
-    ensures new { IfOk result (λ policy. policy ≡ new_policy) }
-    ensures few { IfOk result (λ policy. IsFew policy) }
-{
-    let name = Seq::from_bytes(alloc, b"<kernel>")?;
-    let mut domains = Seq::new(alloc);
-    domains.push(new_domain(alloc, name))?;
-    Ok(Policy {
-        namespaces: Seq::new(alloc),
-        domains,
-        by_non_root: false,
-        managers: Seq::new(alloc),
-        opened: false,
-    })
+/// The calls of `Policy` that stand on the rules, beside its type: what it is at first, and how it is opened.
+pub trait PolicyCalls: Sized {
+    ghost can_open: { Self → Type 0 };
+
+    /// The policy of which nothing is written yet. Errors: want of memory.
+    fn new(alloc: Global) -> Result<Self, NoMemory>;
+
+    /// Opens a policy in which each live domain has its profile. Takes no memory.
+    fn set_opened(&mut self)
+        requires { can_open self.old };
 }
 
-/// Opens a policy in which each live domain has its profile. Takes no memory.
-pub fn set_opened(policy: &mut Policy)
-    requires { position_from (wants_profile policy.old) 0 policy.old.domains ≡ None }
-    ensures opened { policy.new ≡ record policy.old { opened = true } }
-    ensures few { IsFew policy.old → IsFew policy.new }
-{
-    policy.opened = true;
+impl PolicyCalls for Policy {
+    ghost can_open = { λ policy. position_from (wants_profile policy) 0 policy.domains ≡ None };
+
+    /// The domain `<kernel>` alone, with profile 0, not opened.
+    fn new(alloc: Global) -> Result<Policy, NoMemory>
+        ensures new { IfOk result (λ policy. policy ≡ new_policy) }
+        ensures few { IfOk result (λ policy. IsFew policy) }
+    {
+        let name = Seq::from_bytes(alloc, b"<kernel>")?;
+        let mut domains = Seq::new(alloc);
+        domains.push(new_domain(alloc, name))?;
+        Ok(Policy {
+            namespaces: Seq::new(alloc),
+            domains,
+            by_non_root: false,
+            managers: Seq::new(alloc),
+            opened: false,
+        })
+    }
+
+    fn set_opened(&mut self)
+        requires { position_from (wants_profile self.old) 0 self.old.domains ≡ None }
+        ensures opened { self.new ≡ record self.old { opened = true } }
+        ensures few { IsFew self.old → IsFew self.new }
+    {
+        self.opened = true;
+    }
 }
 
 // A profile of which nothing was written.

@@ -3,14 +3,14 @@ ghost use Rattle.std.specs.Prelude.{◌≡◌, ◌&&◌, is_some, option_map};
 ghost use Rattle.std.specs.List.{find};
 ghost use Rattle.std.specs.Option.{option_copied};
 ghost use Rattle.tm_types.specs.declared.policy.Namespace.{Namespace};
-ghost use Rattle.tm_rules.specs.Equality.{texts_equal};
+ghost use Rattle.tm_word.specs.Texts.{texts_equal};
 ghost use Rattle.tm_rules.specs.Few.{IsShort};
 ghost use Rattle.tm_rules.specs.Policy.{domain_at, profile_numbered, profile_of, live_domain};
 
 use tm_domain::namespace;
-use tm_rules::{bytes_equal, texts_equal};
 use tm_types::policy::{Domain, Namespace, Policy, Profile};
 use tm_types::unions::DomainName;
+use tm_word::{bytes_equal, texts_equal};
 
 /// The domain of that number, live or dead; None past the last one. Takes no memory.
 pub fn domain_at(policy: &Policy, number: u32) -> Option<&Domain>
@@ -19,8 +19,8 @@ pub fn domain_at(policy: &Policy, number: u32) -> Option<&Domain>
     policy.domains.as_slice().get(number as usize)
 }
 
-// The namespace of that name, where it has a line.
-pub(crate) fn find_namespace<'a>(namespaces: &'a [Namespace], name: &[u8]) -> Option<&'a Namespace>
+/// The namespace of that name among these, where it has a line. Takes no memory.
+pub fn find_namespace<'a>(namespaces: &'a [Namespace], name: &[u8]) -> Option<&'a Namespace>
     ensures { option_copied result ≡ find (λ (ns : Namespace). texts_equal ns.name name.now) namespaces.now }
 {
     for namespace in namespaces {

@@ -13,9 +13,9 @@ mod plain;
 mod rep;
 mod searching;
 
-pub use editing::{apply_line, new_policy, set_opened};
+pub use editing::{PolicyCalls, apply_line};
 pub use few::is_few;
-pub use finding::{domain_at, live_domain, profile_of};
+pub use finding::{domain_at, find_namespace, live_domain, profile_of};
 pub use learning::apply_learn;
 pub use lines::read_line;
 pub use plain::Plain;

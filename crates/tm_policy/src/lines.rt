@@ -1,22 +1,22 @@
 //! Reading a policy line: the forms built so far.
 ghost use Rattle.std.specs.Prelude.{◌≡◌, ◌==◌, ◌∷◌, IfOk};
 ghost use Rattle.std.specs.List.{position};
-ghost use Rattle.tm_line.specs.Lines.{Gives};
+ghost use Rattle.tm_word.specs.Gives.{Gives, GivesNow};
+ghost use Rattle.tm_line.specs.Lines.{line_cause};
 ghost use Rattle.tm_policy.specs.Lines.{word_at, keyword_at, at_end, profile_number, numbered, after_number, mode_word, log_word, kernel_profile, config_line, count_after, preference_line, numbered_line, profile_line, entry_line, use_profile_line, domain_line, read_words, read_line};
 
 use std::alloc::Global;
 use tm_entry::read_entry;
 use tm_list::{NoMemory, Seq};
 use tm_number::{Base, read_number};
-use tm_rules::bytes_equal;
 use tm_types::entry::LineKind;
 use tm_types::policy::{DomainRule, Mode, PolicyLine, ProfileEffect, ProfileLine, Setting};
 use tm_types::step::{FileKind, LineFault};
-use tm_word::{Text, normal_words};
+use tm_word::{Text, bytes_equal, normal_words};
 
 // The words after a keyword.
 fn keyword_at<'a>(keyword: &[u8], words: &'a [Text]) -> Result<&'a [Text], LineFault>
-    ensures { Gives (λ rest. rest.now) result (keyword_at keyword.now words.now) }
+    ensures { GivesNow line_cause (λ rest. rest.now) result (keyword_at keyword.now words.now) }
 {
     match words {
         [] => Err(LineFault::Kind(LineKind::Keyword)),
@@ -32,7 +32,7 @@ fn keyword_at<'a>(keyword: &[u8], words: &'a [Text]) -> Result<&'a [Text], LineF
 
 // The line, where no word is left.
 fn at_end(line: PolicyLine, words: &[Text]) -> Result<PolicyLine, LineFault>
-    ensures { Gives (λ x. x) result (at_end line words.now) }
+    ensures { GivesNow line_cause (λ x. x) result (at_end line words.now) }
 {
     match words {
         [] => Ok(line),
@@ -42,7 +42,7 @@ fn at_end(line: PolicyLine, words: &[Text]) -> Result<PolicyLine, LineFault>
 
 // The number of a profile.
 fn profile_number(word: &[u8]) -> Result<u8, LineFault>
-    ensures { Gives (λ x. x) result (profile_number word.now) }
+    ensures { GivesNow line_cause (λ x. x) result (profile_number word.now) }
 {
     match read_number(word) {
         Ok(number) => match number.base {
@@ -80,7 +80,7 @@ fn after_number(word: &[u8]) -> &[u8]
 
 // The number before these bytes, which begin with the first `-`.
 fn numbered(key: &[u8], word: &[u8]) -> Result<u8, LineFault>
-    ensures { Gives (λ x. x) result (numbered key.now word.now) }
+    ensures { GivesNow line_cause (λ x. x) result (numbered key.now word.now) }
 {
     match cut_of(word) {
         Some(place) => {
@@ -95,7 +95,7 @@ fn numbered(key: &[u8], word: &[u8]) -> Result<u8, LineFault>
 }
 
 fn numbered_at<'a>(key: &[u8], words: &'a [Text]) -> Result<(u8, &'a [Text]), LineFault>
-    ensures { Gives (λ x. (x.0, x.1.now)) result (word_at (numbered key.now) words.now) }
+    ensures { GivesNow line_cause (λ x. (x.0, x.1.now)) result (word_at (numbered key.now) words.now) }
 {
     match words {
         [] => Err(LineFault::Kind(LineKind::Keyword)),
@@ -104,7 +104,7 @@ fn numbered_at<'a>(key: &[u8], words: &'a [Text]) -> Result<(u8, &'a [Text]), Li
 }
 
 fn profile_number_at(words: &[Text]) -> Result<(u8, &[Text]), LineFault>
-    ensures { Gives (λ x. (x.0, x.1.now)) result (word_at profile_number words.now) }
+    ensures { GivesNow line_cause (λ x. (x.0, x.1.now)) result (word_at profile_number words.now) }
 {
     match words {
         [] => Err(LineFault::Kind(LineKind::Keyword)),
@@ -113,7 +113,7 @@ fn profile_number_at(words: &[Text]) -> Result<(u8, &[Text]), LineFault>
 }
 
 fn mode_word(word: &[u8]) -> Result<Mode, LineFault>
-    ensures { Gives (λ x. x) result (mode_word word.now) }
+    ensures { GivesNow line_cause (λ x. x) result (mode_word word.now) }
 {
     if bytes_equal(word, b"mode=disabled") {
         return Ok(Mode::Disabled);
@@ -131,7 +131,7 @@ fn mode_word(word: &[u8]) -> Result<Mode, LineFault>
 }
 
 fn mode_at(words: &[Text]) -> Result<(Mode, &[Text]), LineFault>
-    ensures { Gives (λ x. (x.0, x.1.now)) result (word_at mode_word words.now) }
+    ensures { GivesNow line_cause (λ x. (x.0, x.1.now)) result (word_at mode_word words.now) }
 {
     match words {
         [] => Err(LineFault::Kind(LineKind::Keyword)),
@@ -141,7 +141,7 @@ fn mode_at(words: &[Text]) -> Result<(Mode, &[Text]), LineFault>
 
 // The log that one of two words writes: the first one no, the second one yes.
 fn log_at<'a>(off: &[u8], on: &[u8], words: &'a [Text]) -> Result<(bool, &'a [Text]), LineFault>
-    ensures { Gives (λ x. (x.0, x.1.now)) result (word_at (log_word off.now on.now) words.now) }
+    ensures { GivesNow line_cause (λ x. (x.0, x.1.now)) result (word_at (log_word off.now on.now) words.now) }
 {
     match words {
         [] => Err(LineFault::Kind(LineKind::Keyword)),
@@ -159,7 +159,7 @@ fn log_at<'a>(off: &[u8], on: &[u8], words: &'a [Text]) -> Result<(bool, &'a [Te
 
 // The plain number below 2^32 after these bytes.
 fn count_after(key: &[u8], word: &[u8]) -> Result<u32, LineFault>
-    ensures { Gives (λ x. x) result (count_after key.now word.now) }
+    ensures { GivesNow line_cause (λ x. x) result (count_after key.now word.now) }
 {
     if word.len() < key.len() || !bytes_equal(&word[..key.len()], key) {
         return Err(LineFault::Kind(LineKind::Keyword));
@@ -181,7 +181,7 @@ fn count_after(key: &[u8], word: &[u8]) -> Result<u32, LineFault>
 }
 
 fn count_at<'a>(key: &[u8], words: &'a [Text]) -> Result<(u32, &'a [Text]), LineFault>
-    ensures { Gives (λ x. (x.0, x.1.now)) result (word_at (count_after key.now) words.now) }
+    ensures { GivesNow line_cause (λ x. (x.0, x.1.now)) result (word_at (count_after key.now) words.now) }
 {
     match words {
         [] => Err(LineFault::Kind(LineKind::Keyword)),
@@ -199,7 +199,7 @@ fn kernel_profile(alloc: Global, effect: ProfileEffect) -> Result<PolicyLine, No
 
 #[tactic(auto, unfolding(crate::specs::Lines::config_line))]
 fn config_line(alloc: Global, words: &[Text]) -> Result<PolicyLine, LineFault>
-    ensures { Gives (λ x. x) result (config_line words.now) }
+    ensures { Gives line_cause (λ x. x) result (config_line words.now) }
 {
     let (number, rest) = numbered_at(b"-CONFIG={", words)?;
     let (mode, rest) = mode_at(rest)?;
@@ -219,7 +219,7 @@ fn config_line(alloc: Global, words: &[Text]) -> Result<PolicyLine, LineFault>
 
 #[tactic(auto, unfolding(crate::specs::Lines::preference_line))]
 fn preference_line(alloc: Global, words: &[Text]) -> Result<PolicyLine, LineFault>
-    ensures { Gives (λ x. x) result (preference_line words.now) }
+    ensures { Gives line_cause (λ x. x) result (preference_line words.now) }
 {
     let (number, rest) = numbered_at(b"-PREFERENCE={", words)?;
     let (audit, rest) = count_at(b"max_audit_log=", rest)?;
@@ -236,7 +236,7 @@ fn preference_line(alloc: Global, words: &[Text]) -> Result<PolicyLine, LineFaul
 
 #[tactic(auto, unfolding(crate::specs::Lines::numbered_line))]
 fn numbered_line(alloc: Global, word: &[u8], words: &[Text]) -> Result<PolicyLine, LineFault>
-    ensures { Gives (λ x. x) result (numbered_line word.now words.now) }
+    ensures { Gives line_cause (λ x. x) result (numbered_line word.now words.now) }
 {
     if bytes_equal(after_number(word), b"-PREFERENCE={") {
         preference_line(alloc, words)
@@ -253,7 +253,7 @@ fn profile_line(
     words: &[Text],
 ) -> Result<PolicyLine, LineFault>
     requires { words.now ≡ word.now ∷ rest.now }
-    ensures { Gives (λ x. x) result (profile_line word.now rest.now) }
+    ensures { Gives line_cause (λ x. x) result (profile_line word.now rest.now) }
 {
     if bytes_equal(word, b"PROFILE_VERSION=20150505") {
         at_end(kernel_profile(alloc, ProfileEffect::Version)?, rest)
@@ -265,7 +265,7 @@ fn profile_line(
 // The line of an entry with its conditions, which is added.
 #[tactic(auto, unfolding(crate::specs::Lines::entry_line))]
 fn entry_line(alloc: Global, words: &[Text]) -> Result<PolicyLine, LineFault>
-    ensures { Gives (λ x. x) result (entry_line words.now) }
+    ensures { Gives line_cause (λ x. x) result (entry_line words.now) }
 {
     let entry = read_entry(alloc, words)?;
     Ok(PolicyLine::Domain(DomainRule::Acl(false, entry)))
@@ -273,7 +273,7 @@ fn entry_line(alloc: Global, words: &[Text]) -> Result<PolicyLine, LineFault>
 
 #[tactic(auto, unfolding(crate::specs::Lines::use_profile_line))]
 fn use_profile_line(words: &[Text]) -> Result<PolicyLine, LineFault>
-    ensures { Gives (λ x. x) result (use_profile_line words.now) }
+    ensures { GivesNow line_cause (λ x. x) result (use_profile_line words.now) }
 {
     let (number, rest) = profile_number_at(words)?;
     at_end(PolicyLine::Domain(DomainRule::UseProfile(number)), rest)
@@ -287,7 +287,7 @@ fn domain_line(
     words: &[Text],
 ) -> Result<PolicyLine, LineFault>
     requires { words.now ≡ word.now ∷ rest.now }
-    ensures { Gives (λ x. x) result (domain_line word.now rest.now) }
+    ensures { Gives line_cause (λ x. x) result (domain_line word.now rest.now) }
 {
     if bytes_equal(word, b"<kernel>") {
         let name = Seq::from_bytes(alloc, b"<kernel>")?;
@@ -304,7 +304,7 @@ fn domain_line(
 
 #[tactic(auto, unfolding(crate::specs::Lines::read_words))]
 fn read_words(alloc: Global, file: FileKind, words: &[Text]) -> Result<PolicyLine, LineFault>
-    ensures { Gives (λ x. x) result (read_words file words.now) }
+    ensures { Gives line_cause (λ x. x) result (read_words file words.now) }
 {
     match words {
         [] => Ok(PolicyLine::Nothing),
@@ -326,7 +326,7 @@ fn read_words(alloc: Global, file: FileKind, words: &[Text]) -> Result<PolicyLin
 /// every other line outside the forms; or want of memory.
 #[tactic(auto, unfolding(crate::specs::Lines::read_line))]
 pub fn read_line(alloc: Global, file: FileKind, line: &[u8]) -> Result<PolicyLine, LineFault>
-    ensures { Gives (λ x. x) result (read_line file line.now) }
+    ensures { Gives line_cause (λ x. x) result (read_line file line.now) }
 {
     let words = normal_words(alloc, line)?;
     read_words(alloc, file, words.as_slice())

@@ -16,7 +16,7 @@ use tm_types::entry::Entry;
 use tm_types::policy::{Domain, Policy};
 
 /// How many permissions an entry had before a line joined it, none where the line went last, and how many it has afterwards.
-#[derive(Clone, Copy, PartialEq, Eq, Debug)]
+#[derive(Clone, Copy)]
 pub(crate) struct Change {
     pub before: u64,
     pub after: u64,

@@ -4,7 +4,7 @@ ghost use Rattle.std.specs.Option.{option_copied, option_or};
 ghost use Rattle.std.specs.List.{AllByRecursion, find};
 ghost use Rattle.tm_types.specs.declared.entry.Entry.{Entry};
 ghost use Rattle.tm_types.specs.declared.policy.Namespace.{Namespace};
-ghost use Rattle.tm_rules.specs.Equality.{texts_equal};
+ghost use Rattle.tm_word.specs.Texts.{texts_equal};
 ghost use Rattle.tm_rules.specs.Few.{IsShort, IsFewHere, IsFew};
 ghost use Rattle.tm_rules.specs.Condition.{is_execute, holds};
 ghost use Rattle.tm_rules.specs.Policy.{at_key, has_permission, namespace_word, namespace_of, empty_namespace};
@@ -18,13 +18,13 @@ use tm_except::aggregated;
 use tm_file::{file_args_match, path_args_match};
 use tm_list::{Map, Seq};
 use tm_net::net_args_match;
-use tm_rules::{bytes_equal, is_execute};
+use tm_rules::is_execute;
 use tm_types::entry::{Args, Entry};
 use tm_types::policy::{Domain, Namespace, Policy};
 use tm_types::request::{Proc, Request};
 use tm_types::unions::{Groups, NamePlace};
 use tm_types::verdict::{EntryPlace, Found};
-use tm_word::Word;
+use tm_word::{Word, bytes_equal};
 
 // Whether the permission at a place, from 0, of its row is among these.
 pub(crate) fn has_permission(bits: u16, place: u8) -> bool

@@ -1,27 +1,24 @@
 -- What is read from words fits a profile.
-use Rattle.std.proofs.Common.{◌≡◌, ℕ, zero, suc, ◌+◌, ◌<◌, ◌^◌, ◌==◌, nat_lt, Bool, true, false, ◌&&◌, ◌||◌, not, List, [], ◌∷◌, length, take, drop, Some, None, Result, Ok, Err, refl, arith}
+use Rattle.std.proofs.Common.{◌≡◌, ℕ, zero, suc, ◌+◌, ◌<◌, ◌^◌, ◌==◌, Bool, true, false, ◌||◌, not, List, [], ◌∷◌, length, take, drop, Some, None, Result, Ok, Err, refl, arith}
 use Rattle.std.specs.Prelude.{Option, codes, if◌then◌else◌}
 use Rattle.std.specs.List.{list_all, position}
-use Rattle.std.proofs.lemmas.Bool.{ltb-true, ne_eqb}
+use Rattle.std.proofs.lemmas.Bool.{ne_eqb}
 use Rattle.tm_word.specs.Words.{Text}
 use Rattle.tm_word.specs.Spelling.{is_separator}
-use Rattle.tm_number.specs.declared.Base.{Base}
-use Rattle.tm_number.specs.declared.Number.{Number}
-use Rattle.tm_number.specs.declared.text.NumberFault.{NumberFault}
-use Rattle.tm_number.specs.Numbers.{number_of, same_base}
+use Rattle.tm_number.specs.Numbers.{plain_of}
+use Rattle.tm_number.proofs.NumberLaws.{plain_small}
 use Rattle.tm_types.specs.declared.entry.LineKind.{LineKind}
 use Rattle.tm_types.specs.declared.policy.SlotName.{SlotName}
 use Rattle.tm_types.specs.declared.policy.ProfileEffect.{ProfileEffect}
 use Rattle.tm_types.specs.declared.policy.ProfileLine.{ProfileLine}
-use Rattle.tm_rules.specs.Equality.{texts_equal}
+use Rattle.tm_word.specs.Texts.{texts_equal, after, is_solid, is_word}
 use Rattle.tm_rules.proofs.EqualityLaws.{both}
-use Rattle.tm_line.specs.Lines.{is_last}
-use Rattle.tm_namespace.specs.Namespaces.{opens, namespace_of, namespace_at}
-use Rattle.tm_namespace.proofs.Steps.{OkIs, then_ok, then_any, if_ok, ok_of}
+use Rattle.tm_line.specs.Lines.{or_kind, is_last}
+use Rattle.tm_line.specs.Namespaces.{opens, namespace_of, namespace_at}
+use Rattle.tm_line.proofs.OkSteps.{OkIs, then_ok, then_any, if_ok, ok_of}
 use Rattle.tm_profile.specs.declared.reading.Limits.{Limits}
-use Rattle.tm_profile.specs.Lines.{after, or_kind}
-use Rattle.tm_profile.specs.Reading.{at_end, plain_by, plain, comment_of, unseen, setting_after, unlimited, limit_of, once, learning_by, limits_by, limits_with, limits_after, preference, slot_of, slot_by, comment_by, numbered, numbered_by, version_by, effect_by, effect_at, line, line_of}
-use Rattle.tm_profile.specs.Texts.{proper, is_word, IsComment, IsLimit, IsEffect}
+use Rattle.tm_profile.specs.Reading.{at_end, comment_of, unseen, setting_after, unlimited, limit_of, once, learning_by, limits_by, limits_with, limits_after, preference, slot_of, slot_by, comment_by, numbered, numbered_by, version_by, effect_by, effect_at, line_of}
+use Rattle.tm_profile.specs.Texts.{IsComment, IsLimit, IsEffect}
 
 abbrev SomeIs : {A : Type 0} → (A → Type 0) → Option A → Type 0
 SomeIs P (Some x) = P x
@@ -33,38 +30,37 @@ end_ok P x (word ∷ words) h = tt
 
 -- Numbers
 
-number_ok : (limit : ℕ) (n : Number) (b : Bool) → (same_base n.base Base.Decimal && nat_lt n.value limit) ≡ b → OkIs (λ k. k < limit) (or_kind LineKind.Profile (if b then Some n.value else None))
-number_ok limit n true h = ltb-true n.value limit (both (same_base n.base Base.Decimal) (nat_lt n.value limit) h).1
-number_ok limit n false h = tt
+number_ok : (limit : ℕ) (o : Option ℕ) → ((n : ℕ) → o ≡ Some n → n < limit) → OkIs (λ k. k < limit) (or_kind LineKind.Profile o)
+number_ok limit (Some n) h = h n refl
+number_ok limit None h = tt
 
-plain_ok : (limit : ℕ) (r : Result Number NumberFault) → OkIs (λ k. k < limit) (or_kind LineKind.Profile (plain_by limit r))
-plain_ok limit (Ok n) = number_ok limit n (same_base n.base Base.Decimal && nat_lt n.value limit) refl
-plain_ok limit (Err fault) = tt
+plain_ok : (limit : ℕ) (text : Text) → OkIs (λ k. k < limit) (or_kind LineKind.Profile (plain_of limit text))
+plain_ok limit text = number_ok limit (plain_of limit text) (λ n e. plain_small limit n text e)
 
 -- Parts of words
 
-after_proper : (front word : Text) → proper word ≡ true → SomeIs (λ rest. proper rest ≡ true) (after front word)
+after_proper : (front word : Text) → is_solid word ≡ true → SomeIs (λ rest. is_solid rest ≡ true) (after front word)
 after_proper [] word h = h
 after_proper (a ∷ front) [] h = tt
-after_proper (a ∷ front) (b ∷ word) h = by_test (a == b) (after front word) (after_proper front word (both (not (is_separator b)) (proper word) h).1)
+after_proper (a ∷ front) (b ∷ word) h = by_test (a == b) (after front word) (after_proper front word (both (not (is_separator b)) (is_solid word) h).1)
   where
-    by_test : (b : Bool) (o : Option Text) → SomeIs (λ rest. proper rest ≡ true) o → SomeIs (λ rest. proper rest ≡ true) (if b then o else None)
+    by_test : (b : Bool) (o : Option Text) → SomeIs (λ rest. is_solid rest ≡ true) o → SomeIs (λ rest. is_solid rest ≡ true) (if b then o else None)
     by_test true o h = h
     by_test false o h = tt
 
-drop_proper : (k : ℕ) (word : Text) → proper word ≡ true → proper (drop k word) ≡ true
+drop_proper : (k : ℕ) (word : Text) → is_solid word ≡ true → is_solid (drop k word) ≡ true
 drop_proper zero word h = h
 drop_proper (suc k) [] h = refl
-drop_proper (suc k) (b ∷ word) h = drop_proper k word (both (not (is_separator b)) (proper word) h).1
+drop_proper (suc k) (b ∷ word) h = drop_proper k word (both (not (is_separator b)) (is_solid word) h).1
 
-comment_is : (first : Text) (words : List Text) → proper first ≡ true → list_all is_word words ≡ true → IsComment (comment_of first words)
+comment_is : (first : Text) (words : List Text) → is_solid first ≡ true → list_all is_word words ≡ true → IsComment (comment_of first words)
 comment_is [] words h k = (words, k, refl)
 comment_is (b ∷ first) words h k = ((b ∷ first) ∷ words, all (length_is b first) h k, refl)
   where
     length_is : (b : ℕ) (first : Text) → not (length (b ∷ first) == 0) ≡ true
     length_is b first = let no : (length (b ∷ first) == 0) ≡ false = ne_eqb _ _ (λ e. absurd (omega (arith, e))) in rw no refl
 
-    all : not (length (b ∷ first) == 0) ≡ true → proper (b ∷ first) ≡ true → list_all is_word words ≡ true → list_all is_word ((b ∷ first) ∷ words) ≡ true
+    all : not (length (b ∷ first) == 0) ≡ true → is_solid (b ∷ first) ≡ true → list_all is_word words ≡ true → list_all is_word ((b ∷ first) ∷ words) ≡ true
     all l h k = rw (l, h) k
 
 -- Limits
@@ -78,7 +74,7 @@ once_ok P (Some n) r h = tt
 
 limit_ok : (text : Text) (last : Bool) → OkIs (λ k. k < 2 ^ 32) (limit_of text last)
 limit_ok [] last = tt
-limit_ok (b ∷ text) last = plain_ok (2 ^ 32) (number_of (b ∷ text))
+limit_ok (b ∷ text) last = plain_ok (2 ^ 32) (b ∷ text)
 
 learning_ok : (o : Option Text) (limits : Limits) (word : Text) (last : Bool) → AreLimits limits → OkIs AreLimits (learning_by o limits word last)
 learning_ok (Some text) limits word last h =
@@ -111,19 +107,19 @@ slot_ok n (Some (slot, true)) word words h = then_any IsEffect (setting_after un
 slot_ok n (Some (slot, false)) word words h = end_ok IsEffect (ProfileEffect.Slot n slot None) words h
 slot_ok n None word words h = tt
 
-comment_ok : (n : ℕ) (o : Option Text) (word : Text) (words : List Text) → n < 256 → SomeIs (λ rest. proper rest ≡ true) o → list_all is_word words ≡ true → OkIs IsEffect (comment_by n o word words)
+comment_ok : (n : ℕ) (o : Option Text) (word : Text) (words : List Text) → n < 256 → SomeIs (λ rest. is_solid rest ≡ true) o → list_all is_word words ≡ true → OkIs IsEffect (comment_by n o word words)
 comment_ok n (Some first) word words h k all = (h, comment_is first words k all)
 comment_ok n None word words h k all =
     if_ok IsEffect (texts_equal word (codes "PREFERENCE={")) _ _ (preference_ok n words h)
     (if_ok IsEffect (texts_equal word (codes "CONFIG={")) _ _ (then_any IsEffect (setting_after unseen words) _ (λ setting. h)) (slot_ok n (slot_of word) word words h))
 
-numbered_ok : (n : ℕ) (word : Text) (words : List Text) → n < 256 → proper word ≡ true → list_all is_word words ≡ true → OkIs IsEffect (numbered n word words)
+numbered_ok : (n : ℕ) (word : Text) (words : List Text) → n < 256 → is_solid word ≡ true → list_all is_word words ≡ true → OkIs IsEffect (numbered n word words)
 unfolding numbered
 numbered_ok n word words h k all = comment_ok n (after (codes "COMMENT=") word) word words h (after_proper (codes "COMMENT=") word k) all
 
-cut_ok : (o : Option ℕ) (word : Text) (words : List Text) → proper word ≡ true → list_all is_word words ≡ true → OkIs IsEffect (numbered_by o word words)
+cut_ok : (o : Option ℕ) (word : Text) (words : List Text) → is_solid word ≡ true → list_all is_word words ≡ true → OkIs IsEffect (numbered_by o word words)
 cut_ok (Some place) word words k all =
-    then_ok (λ n. n < 256) IsEffect (or_kind LineKind.Profile (plain 256 (take place word))) _ (plain_ok 256 (number_of (take place word)))
+    then_ok (λ n. n < 256) IsEffect (or_kind LineKind.Profile (plain_of 256 (take place word))) _ (plain_ok 256 (take place word))
     (λ n less. numbered_ok n (drop (place + 1) word) words less (drop_proper (place + 1) word k) all)
 cut_ok None word words k all = tt
 
@@ -134,7 +130,7 @@ version_ok (b ∷ text) words =
     (end_ok IsEffect ProfileEffect.Version words tt)
     tt
 
-by_ok : (o : Option Text) (word : Text) (words : List Text) → proper word ≡ true → list_all is_word words ≡ true → OkIs IsEffect (effect_by o word words)
+by_ok : (o : Option Text) (word : Text) (words : List Text) → is_solid word ≡ true → list_all is_word words ≡ true → OkIs IsEffect (effect_by o word words)
 by_ok (Some text) word words k all = version_ok text words
 by_ok None word words k all = cut_ok (position (λ b. b == 45) word) word words k all
 
@@ -143,7 +139,7 @@ unfolding effect_at
 effect_ok [] all = tt
 effect_ok (word ∷ words) all =
     let t = both (is_word word) (list_all is_word words) all in
-    by_ok (after (codes "PROFILE_VERSION=") word) word words (both (not (length word == 0)) (proper word) t.0).1 t.1
+    by_ok (after (codes "PROFILE_VERSION=") word) word words (both (not (length word == 0)) (is_solid word) t.0).1 t.1
 
 abbrev Rest : Text × List Text → Type 0
 Rest found = list_all is_word found.1 ≡ true

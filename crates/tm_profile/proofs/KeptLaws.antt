@@ -16,7 +16,8 @@ use Rattle.tm_types.specs.Slot.{slot_rank}
 use Rattle.tm_rules.specs.Policy.{at_key}
 use Rattle.tm_rules.specs.Edit.{new_profile, on_profile, set_config, set_slot, profile_line}
 use Rattle.tm_profile.specs.Reading.{line_of}
-use Rattle.tm_profile.specs.Texts.{is_word, IsLimit, IsEffect, IsProfile, AreProfiles, IsWritten}
+use Rattle.tm_profile.specs.Texts.{IsLimit, IsEffect, IsProfile, AreProfiles, IsWritten}
+use Rattle.tm_word.specs.Texts.{is_word}
 use Rattle.tm_profile.proofs.FitLaws.{line_fits}
 
 put_all : (n : ℕ) (p : Profile) (xs : List (ℕ × Profile)) → IsProfile (n, p) → AreProfiles xs → AreProfiles (put (λ k. k) n p xs)
@@ -53,7 +54,7 @@ slot_kept : (n : ℕ) (slot : SlotName) (setting : Option Setting) (p : Profile)
 slot_kept n slot None p h = (h.0, h.1, h.2, h.3, Rises-without slot_rank (slot_rank slot) p.slots h.4)
 slot_kept n slot (Some setting) p h = (h.0, h.1, h.2, h.3, Rises-put slot_rank slot _ p.slots h.4)
 
-effect_kept : (e : ProfileEffect) (ns : Namespace) → IsEffect e → IsWritten ns.profiles → IsWritten (profile_line e ns).profiles
+pub effect_kept : (e : ProfileEffect) (ns : Namespace) → IsEffect e → IsWritten ns.profiles → IsWritten (profile_line e ns).profiles
 unfolding profile_line
 effect_kept ProfileEffect.Version ns h k = k
 effect_kept (ProfileEffect.Comment n comment) ns h k = changed n (λ (p : Profile). record p { comment = comment }) ns h.0 (λ p fits. (fits.0, fits.1, fits.2, h.1, fits.4)) k

@@ -1,5 +1,4 @@
 pub mod MapEnds
-pub mod LineLaws
 pub mod WordLaws
 pub mod EffectLaws
 pub mod TextLaws

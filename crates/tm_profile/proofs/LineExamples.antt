@@ -2,7 +2,7 @@
 use Rattle.std.proofs.Common.{◌≡◌, false, [], Some, None, Ok, Err, refl}
 use Rattle.std.specs.Prelude.{codes}
 use Rattle.tm_word.specs.Spelling.{words_of}
-use Rattle.tm_number.specs.Numbers.{number_of, value_of}
+use Rattle.tm_number.specs.Numbers.{number_of, value_of, plain_of}
 use Rattle.tm_pattern.specs.Tokens.{token_at}
 use Rattle.tm_pattern.specs.Reading.{step, ended, parsed, pattern_of}
 use Rattle.tm_domain.specs.Names.{is_path, domain_of}
@@ -12,13 +12,13 @@ use Rattle.tm_types.specs.declared.policy.Function.{Function}
 use Rattle.tm_types.specs.declared.policy.SlotName.{SlotName}
 use Rattle.tm_types.specs.declared.policy.ProfileEffect.{ProfileEffect}
 use Rattle.tm_rules.specs.Policy.{kernel}
-use Rattle.tm_namespace.specs.Namespaces.{namespace_of, namespace_at}
+use Rattle.tm_line.specs.Namespaces.{namespace_of, namespace_at}
 use Rattle.tm_profile.specs.Slots.{function_text, slot_text}
 use Rattle.tm_profile.specs.Reading.{line, key_of, seen_after, closed, setting_after, limits_with, limits_after, slot_of, begins_some_slot, begins_effect, numbered, effect_at, line_of}
 
 -- the definitions that a line's reading goes through
 unfoldable computed : Unit {0}
-unfolding words_of number_of value_of token_at step ended parsed pattern_of is_path domain_of function_text slot_text namespace_of namespace_at key_of seen_after closed setting_after limits_with limits_after slot_of begins_some_slot begins_effect numbered effect_at line_of
+unfolding words_of number_of value_of plain_of token_at step ended parsed pattern_of is_path domain_of function_text slot_text namespace_of namespace_at key_of seen_after closed setting_after limits_with limits_after slot_of begins_some_slot begins_effect numbered effect_at line_of
 computed = tt
 
 pub a_comment : line_of (words_of (codes "<kernel> 0-COMMENT=ab")) ≡ Ok (line kernel (ProfileEffect.Comment 0 (codes "ab")))

@@ -14,18 +14,18 @@ use Rattle.tm_types.specs.declared.policy.Profile.{Profile}
 use Rattle.tm_types.specs.declared.policy.Namespace.{Namespace}
 use Rattle.tm_types.specs.declared.policy.ProfileEffect.{ProfileEffect}
 use Rattle.tm_rules.specs.Edit.{profile_line}
-use Rattle.tm_rules.specs.Load.{lines_of}
+use Rattle.tm_word.specs.Texts.{lines_of, is_solid, is_word}
 use Rattle.tm_rules.proofs.EqualityLaws.{both}
 use Rattle.tm_domain.proofs.NameLaws.{texts_same}
 use Rattle.tm_line.specs.Lines.{spaced}
 use Rattle.tm_line.proofs.JoinLaws.{joined_is}
 use Rattle.tm_profile.specs.Slots.{slot_text}
-use Rattle.tm_namespace.proofs.NamespaceLaws.{named as named_at}
+use Rattle.tm_line.proofs.NamespaceLaws.{named as named_at}
 use Rattle.tm_profile.specs.Reading.{effect_at, line, line_of}
-use Rattle.tm_namespace.specs.Namespaces.{line_text}
+use Rattle.tm_line.specs.Namespaces.{line_text}
 use Rattle.tm_profile.specs.Printing.{headed, comment_words, preference_words, config_words, slot_line, profile_text, profiles_text}
-use Rattle.tm_profile.specs.Texts.{proper, is_word, IsNamespaceWord, IsComment, IsProfile, AreProfiles, IsWritten, line_done, words_into, lines_into}
-use Rattle.tm_profile.proofs.LineLaws.{words_again, line_first}
+use Rattle.tm_profile.specs.Texts.{IsNamespaceWord, IsComment, IsProfile, AreProfiles, IsWritten, line_done, words_into, lines_into}
+use Rattle.tm_line.proofs.LineLaws.{words_again, line_first}
 use Rattle.tm_profile.proofs.EffectLaws.{applied, setting_of, slot_effect, effects_of, with_profiles, SlotsRise, profiles_made}
 use Rattle.tm_profile.proofs.WordLaws.{headed_word, audit_word, learning_word, version_again, comment_again, preference_again, setting_proper, config_again, slot_again, slot_proper}
 
@@ -68,7 +68,7 @@ comment_words_written name n [] h k = one_written name (headed n (codes "COMMENT
 comment_words_written name n ([] ∷ ws) h k = absurd cc
 comment_words_written name n ((b ∷ w) ∷ ws) h k =
     let t = both (is_word (b ∷ w)) (list_all is_word ws) k in
-    let p = both (not (length (b ∷ w) == 0)) (proper (b ∷ w)) t.0 in
+    let p = both (not (length (b ∷ w) == 0)) (is_solid (b ∷ w)) t.0 in
     let head = headed n (codes "COMMENT=" ++ (b ∷ w)) in
     let word : list_all is_word (head ∷ ws) ≡ true = rw (headed_word n (codes "COMMENT=" ++ (b ∷ w)) h p.1) t.1 in
     let text : line_text name (comment_words n (joined ((b ∷ w) ∷ ws))) ≡ line_text name (head ∷ ws) =
@@ -125,11 +125,11 @@ profiles_written name (e ∷ es) h =
 -- Lines that are read one by one
 
 -- a line that begins with its namespace word
-named : (name : Text) (ws : List Text) (e : ProfileEffect) → IsNamespaceWord name → effect_at ws ≡ Ok e → line_of (name ∷ ws) ≡ Ok (line name e)
+pub named : (name : Text) (ws : List Text) (e : ProfileEffect) → IsNamespaceWord name → effect_at ws ≡ Ok e → line_of (name ∷ ws) ≡ Ok (line name e)
 unfolding line_of
 named name ws e h k = rw (named_at name ws h.1, k) refl
 
-same_name : (e : ProfileEffect) (ns : Namespace) → (profile_line e ns).name ≡ ns.name
+pub same_name : (e : ProfileEffect) (ns : Namespace) → (profile_line e ns).name ≡ ns.name
 unfolding profile_line
 same_name ProfileEffect.Version ns = refl
 same_name (ProfileEffect.Comment n text) ns = refl
@@ -168,15 +168,26 @@ all_made : (ns : Namespace) (all : List (ℕ × Profile)) → ns.profiles ≡ []
 unfolding profile_line
 all_made ns all none k = ap (λ (ps : List (ℕ × Profile)). applied (flat_map effects_of all) (with_profiles ns ps)) none ∙ profiles_made ns [] all k.0 (slots_rise all k.1)
 
--- what was printed is read again, into a namespace without profiles
-pub profiles_again : (ns : Namespace) (profiles : List (ℕ × Profile)) → IsNamespaceWord ns.name → ns.profiles ≡ [] → IsWritten profiles
-    → lines_into (lines_of (profiles_text ns.name profiles)) ns ≡ Some (record ns { profiles = profiles })
-unfolding profiles_text words_of
-profiles_again ns [] h none k = ap (λ (ps : List (ℕ × Profile)). Some (with_profiles ns ps)) none
-profiles_again ns (p ∷ ps) h none k =
+-- the words of the printed lines of profiles, and what they say, which makes these profiles of none
+pub record AreLines (ns : Namespace) (profiles : List (ℕ × Profile)) : Type 0 where
+  pub lines : List (List Text)
+  pub effects : List ProfileEffect
+  pub text : profiles_text ns.name profiles ≡ flat_map (line_text ns.name) lines
+  pub reads : Reads lines effects
+  pub made : applied effects ns ≡ with_profiles ns profiles
+
+pub profile_lines : (ns : Namespace) (profiles : List (ℕ × Profile)) → ns.profiles ≡ [] → IsWritten profiles → AreLines ns profiles
+unfolding profiles_text
+profile_lines ns [] none k = record { lines = []; effects = []; text = refl; reads = tt; made = ap (λ (ps : List (ℕ × Profile)). with_profiles ns ps) none }
+profile_lines ns (p ∷ ps) none k =
     let all = p ∷ ps in
     let version = one_written ns.name (codes "PROFILE_VERSION=20150505" ∷ []) ProfileEffect.Version refl version_again in
     let text = both_written ns.name _ _ _ _ version (profiles_written ns.name all k.1) in
-    ap (λ (t : Text). lines_into (lines_of t) ns) text.1
-    ∙ lines_read text.0 (ProfileEffect.Version ∷ flat_map effects_of all) ns h text.2
-    ∙ ap Some (all_made ns all none k)
+    record { lines = text.0; effects = ProfileEffect.Version ∷ flat_map effects_of all; text = text.1; reads = text.2; made = all_made ns all none k }
+
+-- what was printed is read again, into a namespace without profiles
+pub profiles_again : (ns : Namespace) (profiles : List (ℕ × Profile)) → IsNamespaceWord ns.name → ns.profiles ≡ [] → IsWritten profiles
+    → lines_into (lines_of (profiles_text ns.name profiles)) ns ≡ Some (record ns { profiles = profiles })
+profiles_again ns profiles h none k =
+    let are = profile_lines ns profiles none k in
+    ap (λ (t : Text). lines_into (lines_of t) ns) are.text ∙ lines_read are.lines are.effects ns h are.reads ∙ ap Some are.made

@@ -7,15 +7,15 @@ use Rattle.std.specs.Str.Parse.{AllDigits}
 use Rattle.std.specs.Fmt.{decimal}
 use Rattle.std.proofs.lemmas.Fmt.{decimal_is_IsNumeral}
 use Rattle.std.proofs.lemmas.Str.Parse.{digit_from_value}
-use Rattle.std.proofs.lemmas.Bool.{lt-ltb, ne_eqb}
+use Rattle.std.proofs.lemmas.Bool.{ne_eqb}
 use Rattle.std.proofs.lemmas.Bool.Decides.{nat_tests}
 use Rattle.std.proofs.lemmas.List.{take_at}
 use Rattle.std.proofs.lemmas.List.Folds.{list_all-append}
 use Rattle.std.proofs.Math.Seq.{drop-append-add}
 use Rattle.tm_word.specs.Words.{Text}
 use Rattle.tm_word.specs.Spelling.{is_separator}
-use Rattle.tm_number.specs.declared.Base.{Base}
-use Rattle.tm_number.proofs.NumberLaws.{number_again}
+use Rattle.tm_number.specs.Numbers.{plain_of}
+use Rattle.tm_number.proofs.NumberLaws.{plain_again}
 use Rattle.tm_addr.proofs.Free.{Free, free_digits, place_at}
 use Rattle.tm_types.specs.declared.entry.LineKind.{LineKind}
 use Rattle.tm_types.specs.declared.policy.Mode.{Mode}
@@ -24,13 +24,13 @@ use Rattle.tm_types.specs.declared.policy.SlotName.{SlotName}
 use Rattle.tm_types.specs.declared.policy.Config.{Config}
 use Rattle.tm_types.specs.declared.policy.Setting.{Setting}
 use Rattle.tm_types.specs.declared.policy.ProfileEffect.{ProfileEffect}
-use Rattle.tm_line.specs.Lines.{◌>>=◌, is_last}
+use Rattle.tm_line.specs.Lines.{or_kind, is_last}
+use Rattle.tm_word.specs.Gives.{◌>>=◌}
 use Rattle.tm_profile.specs.declared.reading.Limits.{Limits}
-use Rattle.tm_profile.specs.Lines.{after, or_kind}
-use Rattle.tm_profile.specs.Slots.{function_text, slot_text}
-use Rattle.tm_profile.specs.Reading.{plain_by, plain, comment_of, key_of, unseen, seen_after, closed, setting_after, unlimited, limit_of, limits_with, limits_after, slot_of, numbered, numbered_by, effect_by, effect_at}
-use Rattle.tm_profile.specs.Printing.{headed, mode_text, grant_text, reject_text, setting_words, audit_text, learning_text, limit_words}
-use Rattle.tm_profile.specs.Texts.{proper, is_word}
+use Rattle.tm_word.specs.Texts.{after, is_solid, is_word}
+use Rattle.tm_profile.specs.Slots.{function_text, slot_text, mode_word}
+use Rattle.tm_profile.specs.Reading.{comment_of, key_of, unseen, seen_after, closed, setting_after, unlimited, limit_of, limits_with, limits_after, slot_of, numbered, numbered_by, effect_by, effect_at}
+use Rattle.tm_profile.specs.Printing.{headed, grant_text, reject_text, setting_words, audit_text, learning_text, limit_words}
 use Rattle.tm_profile.proofs.EffectLaws.{setting_of}
 
 -- Decimals
@@ -38,14 +38,14 @@ use Rattle.tm_profile.proofs.EffectLaws.{setting_of}
 digit_inner : (c : ℕ) → digit_value c < 10 → is_separator c ≡ false
 digit_inner c h = let r = digit_from_value c h in search (rules, nat_tests)
 
-digits_proper : (ds : Text) → AllDigits 10 ds → proper ds ≡ true
+digits_proper : (ds : Text) → AllDigits 10 ds → is_solid ds ≡ true
 digits_proper [] h = refl
 digits_proper (d ∷ ds) h = rw (digit_inner d h.0) (digits_proper ds h.1)
 
 small : (n : ℕ) → n < 2 ^ 32 → n < 2 ^ 64
 small n h = omega (arith, h)
 
-decimal_proper : (n : ℕ) → n < 2 ^ 32 → proper (decimal n) ≡ true
+decimal_proper : (n : ℕ) → n < 2 ^ 32 → is_solid (decimal n) ≡ true
 decimal_proper n h = digits_proper (decimal n) (decimal_is_IsNumeral n (small n h)).0.1
 
 decimal_long : (n : ℕ) → n < 2 ^ 32 → 0 < length (decimal n)
@@ -53,9 +53,6 @@ decimal_long n h = (decimal_is_IsNumeral n (small n h)).0.0
 
 decimal_free : (c n : ℕ) → 10 ≤ digit_value c → n < 2 ^ 32 → Free c (decimal n)
 decimal_free c n h k = free_digits c 10 (decimal n) h (decimal_is_IsNumeral n (small n k)).0.1
-
-plain_again : (limit n : ℕ) → n < limit → n < 2 ^ 32 → plain limit (decimal n) ≡ Some n
-plain_again limit n h k = ap (plain_by limit) (number_again Base.Decimal n (small n k)) ∙ rw (lt-ltb n limit h) refl
 
 -- The head of a line
 
@@ -75,24 +72,24 @@ headed_is n word ws h =
     let back : drop (length ds + 1) (ds ++ 45 ∷ word) ≡ word = drop-append-add ds (45 ∷ word) 1 in
     ap (λ o. effect_by o (ds ++ 45 ∷ word) ws) (no_version ds (45 ∷ word) (decimal_long n less) (decimal_free 80 n (omega arith) less))
     ∙ ap (λ o. numbered_by o (ds ++ 45 ∷ word) ws) (place_at 45 ds word refl (decimal_free 45 n (omega arith) less))
-    ∙ ap (λ (t : Text). or_kind LineKind.Profile (plain 256 t) >>= λ k. numbered k (drop (length ds + 1) (ds ++ 45 ∷ word)) ws) front
-    ∙ ap (λ (t : Text). or_kind LineKind.Profile (plain 256 ds) >>= λ k. numbered k t ws) back
-    ∙ ap (λ o. or_kind LineKind.Profile o >>= λ k. numbered k word ws) (plain_again 256 n h less)
+    ∙ ap (λ (t : Text). or_kind LineKind.Profile (plain_of 256 t) >>= λ k. numbered k (drop (length ds + 1) (ds ++ 45 ∷ word)) ws) front
+    ∙ ap (λ (t : Text). or_kind LineKind.Profile (plain_of 256 ds) >>= λ k. numbered k t ws) back
+    ∙ ap (λ o. or_kind LineKind.Profile o >>= λ k. numbered k word ws) (plain_again 256 n h (small n less))
 
-joined_proper : (x y : Text) → proper x ≡ true → proper y ≡ true → proper (x ++ y) ≡ true
+joined_proper : (x y : Text) → is_solid x ≡ true → is_solid y ≡ true → is_solid (x ++ y) ≡ true
 joined_proper x y h k = list_all-append (λ b. not (is_separator b)) x y ∙ rw h k
 
 longer : (x y : Text) → 0 < length x → not (length (x ++ y) == 0) ≡ true
 longer [] y h = absurd (omega (arith, h))
 longer (b ∷ x) y h = let no : (length (b ∷ (x ++ y)) == 0) ≡ false = ne_eqb _ _ (λ e. absurd (omega (arith, e))) in rw no refl
 
-word_of_two : (x y : Text) → 0 < length x → proper x ≡ true → proper y ≡ true → is_word (x ++ y) ≡ true
+word_of_two : (x y : Text) → 0 < length x → is_solid x ≡ true → is_solid y ≡ true → is_word (x ++ y) ≡ true
 word_of_two x y h k l = rw (longer x y h) (joined_proper x y k l)
 
-pub headed_word : (n : ℕ) (word : Text) → n < 256 → proper word ≡ true → is_word (headed n word) ≡ true
+pub headed_word : (n : ℕ) (word : Text) → n < 256 → is_solid word ≡ true → is_word (headed n word) ≡ true
 headed_word n word h k =
     let less : n < 2 ^ 32 = omega (arith, h) in
-    let tail : proper (45 ∷ word) ≡ true = k in
+    let tail : is_solid (45 ∷ word) ≡ true = k in
     word_of_two (decimal n) (45 ∷ word) (decimal_long n less) (decimal_proper n less) tail
 
 pub audit_word : (n : ℕ) → n < 2 ^ 32 → is_word (audit_text n) ≡ true
@@ -113,12 +110,12 @@ pub comment_again : (n : ℕ) (w : Text) (ws : List Text) → n < 256 → effect
 unfolding numbered
 comment_again n w ws h = headed_is n (codes "COMMENT=" ++ w) ws h
 
-limit_digits : (ds : Text) (last : Bool) → 0 < length ds → limit_of ds last ≡ or_kind LineKind.Profile (plain (2 ^ 32) ds)
+limit_digits : (ds : Text) (last : Bool) → 0 < length ds → limit_of ds last ≡ or_kind LineKind.Profile (plain_of (2 ^ 32) ds)
 limit_digits [] last h = absurd (omega (arith, h))
 limit_digits (d ∷ ds) last h = refl
 
 limit_again : (n : ℕ) (last : Bool) → n < 2 ^ 32 → limit_of (decimal n) last ≡ Ok n
-limit_again n last h = limit_digits (decimal n) last (decimal_long n h) ∙ ap (or_kind LineKind.Profile) (plain_again (2 ^ 32) n h h)
+limit_again n last h = limit_digits (decimal n) last (decimal_long n h) ∙ ap (or_kind LineKind.Profile) (plain_again (2 ^ 32) n h (small n h))
 
 audit_again : (n : ℕ) → n < 2 ^ 32 → limits_with unlimited (audit_text n) false ≡ Ok (record { audit = Some n; learning = None })
 unfolding limits_with audit_text
@@ -153,7 +150,7 @@ preference_again n a l h i k =
     headed_is n (codes "PREFERENCE={") (limit_words a l) h
     ∙ ap (λ (r : Result Limits LineKind). r >>= λ limits. Ok (ProfileEffect.Preference n limits.audit limits.learning)) (limits_again a l i k)
 
-setting_made : (mode : Mode) (grant reject : Bool) → setting_after unseen (mode_text mode ∷ grant_text grant ∷ reject_text reject ∷ codes "}" ∷ []) ≡ Ok (record { mode = mode; grant = Some grant; reject = Some reject })
+setting_made : (mode : Mode) (grant reject : Bool) → setting_after unseen (mode_word mode ∷ grant_text grant ∷ reject_text reject ∷ codes "}" ∷ []) ≡ Ok (record { mode = mode; grant = Some grant; reject = Some reject })
 unfolding setting_after seen_after key_of closed
 setting_made Mode.Disabled true true = refl
 setting_made Mode.Disabled true false = refl
@@ -176,13 +173,13 @@ pub setting_again : (c : Config) → setting_after unseen (setting_words c) ≡ 
 setting_again c = setting_made c.mode c.logs.grant c.logs.reject
 
 pub setting_proper : (c : Config) → list_all is_word (setting_words c) ≡ true
-setting_proper c = rw (mode_word c.mode, grant_word c.logs.grant, reject_word c.logs.reject) refl
+setting_proper c = rw (mode_is c.mode, grant_word c.logs.grant, reject_word c.logs.reject) refl
   where
-    mode_word : (m : Mode) → is_word (mode_text m) ≡ true
-    mode_word Mode.Disabled = refl
-    mode_word Mode.Learning = refl
-    mode_word Mode.Permissive = refl
-    mode_word Mode.Enforcing = refl
+    mode_is : (m : Mode) → is_word (mode_word m) ≡ true
+    mode_is Mode.Disabled = refl
+    mode_is Mode.Learning = refl
+    mode_is Mode.Permissive = refl
+    mode_is Mode.Enforcing = refl
 
     grant_word : (b : Bool) → is_word (grant_text b) ≡ true
     grant_word true = refl
@@ -249,7 +246,7 @@ slot_again n s c h =
     ∙ slot_head n s (setting_words c)
     ∙ ap (λ (r : Result Setting LineKind). r >>= λ setting. Ok (ProfileEffect.Slot n s (Some setting))) (setting_again c)
 
-pub slot_proper : (s : SlotName) → proper (slot_text s ++ codes "={") ≡ true
+pub slot_proper : (s : SlotName) → is_solid (slot_text s ++ codes "={") ≡ true
 unfolding slot_text function_text
 slot_proper SlotName.File = refl
 slot_proper SlotName.Network = refl

@@ -3,24 +3,17 @@ use Rattle.std.specs.Prelude.{ℕ, Bool, true, false, List, [], ◌∷◌, ◌++
 use Rattle.std.specs.List.{flat_map}
 use Rattle.std.specs.Fmt.{decimal}
 use Rattle.tm_word.specs.Words.{Text}
-use Rattle.tm_types.specs.declared.policy.Mode.{Mode}
 use Rattle.tm_types.specs.declared.policy.Config.{Config}
 use Rattle.tm_types.specs.declared.policy.SlotName.{SlotName}
 use Rattle.tm_types.specs.declared.policy.Profile.{Profile}
-use Rattle.tm_namespace.specs.Namespaces.{line_text}
-use Rattle.tm_profile.specs.Slots.{slot_text}
+use Rattle.tm_line.specs.Namespaces.{line_text}
+use Rattle.tm_profile.specs.Slots.{slot_text, mode_word}
 
 -- `N-` and a word
 abbrev pub headed : ℕ → Text → Text
 headed n word = decimal n ++ 45 ∷ word
 
--- the words of a setting, in the order of its keys
-abbrev pub mode_text : Mode → Text
-mode_text Mode.Disabled = codes "mode=disabled"
-mode_text Mode.Learning = codes "mode=learning"
-mode_text Mode.Permissive = codes "mode=permissive"
-mode_text Mode.Enforcing = codes "mode=enforcing"
-
+-- the words of the logs
 abbrev pub grant_text : Bool → Text
 grant_text true = codes "grant_log=yes"
 grant_text false = codes "grant_log=no"
@@ -29,8 +22,9 @@ abbrev pub reject_text : Bool → Text
 reject_text true = codes "reject_log=yes"
 reject_text false = codes "reject_log=no"
 
+-- the words of a setting, in the order of its keys
 abbrev pub setting_words : Config → List Text
-setting_words config = mode_text config.mode ∷ grant_text config.logs.grant ∷ reject_text config.logs.reject ∷ codes "}" ∷ []
+setting_words config = mode_word config.mode ∷ grant_text config.logs.grant ∷ reject_text config.logs.reject ∷ codes "}" ∷ []
 
 -- the limits, each with its key
 unfoldable pub audit_text : ℕ → Text

@@ -1,13 +1,10 @@
 -- Profile lines: what each word gives, and the kind of the first one at which the line can't go on.
-use Rattle.std.specs.Prelude.{ℕ, ◌+◌, ◌^◌, ◌==◌, nat_lt, ◌&&◌, ◌||◌, if◌then◌else◌, Bool, true, false, List, [], ◌∷◌, ◌++◌, take, drop, Option, Some, None, is_none, is_some, Result, Ok, Err, codes}
-use Rattle.std.specs.List.{position, list_any}
+use Rattle.std.specs.Prelude.{ℕ, ◌+◌, ◌^◌, ◌==◌, ◌&&◌, ◌||◌, if◌then◌else◌, Bool, true, false, List, [], ◌∷◌, ◌++◌, take, drop, Option, Some, None, is_none, is_some, option_map, Result, Ok, Err, codes}
+use Rattle.std.specs.List.{find, position, list_any}
 use Rattle.std.specs.Option.{option_or}
 use Rattle.tm_word.specs.Words.{Text}
 use Rattle.tm_word.specs.Spelling.{joined}
-use Rattle.tm_number.specs.declared.Base.{Base}
-use Rattle.tm_number.specs.declared.Number.{Number}
-use Rattle.tm_number.specs.declared.text.NumberFault.{NumberFault}
-use Rattle.tm_number.specs.Numbers.{number_of, same_base}
+use Rattle.tm_number.specs.Numbers.{plain_of}
 use Rattle.tm_types.specs.declared.entry.LineKind.{LineKind}
 use Rattle.tm_types.specs.declared.policy.Mode.{Mode}
 use Rattle.tm_types.specs.declared.policy.SlotName.{SlotName}
@@ -15,14 +12,14 @@ use Rattle.tm_types.specs.declared.policy.Setting.{Setting}
 use Rattle.tm_types.specs.declared.policy.ProfileEffect.{ProfileEffect}
 use Rattle.tm_types.specs.declared.policy.ProfileLine.{ProfileLine}
 use Rattle.tm_types.specs.Slot.{all_slots}
-use Rattle.tm_rules.specs.Equality.{texts_equal}
-use Rattle.tm_namespace.specs.Namespaces.{namespace_at}
+use Rattle.tm_word.specs.Texts.{texts_equal, begins, after}
+use Rattle.tm_line.specs.Namespaces.{namespace_at}
 use Rattle.tm_profile.specs.declared.reading.Key.{Key}
 use Rattle.tm_profile.specs.declared.reading.Seen.{Seen}
 use Rattle.tm_profile.specs.declared.reading.Limits.{Limits}
-use Rattle.tm_line.specs.Lines.{◌>>=◌, begins, is_last}
-use Rattle.tm_profile.specs.Lines.{after, or_kind}
-use Rattle.tm_profile.specs.Slots.{slot_text}
+use Rattle.tm_line.specs.Lines.{or_kind, is_last}
+use Rattle.tm_word.specs.Gives.{◌>>=◌}
+use Rattle.tm_profile.specs.Slots.{slot_text, all_modes, mode_word}
 
 -- an unfinished word at the end is a missing one, any other wrong word is the profile's
 abbrev pub wrong : Bool → LineKind
@@ -33,14 +30,6 @@ abbrev pub at_end : {A : Type 0} → A → List Text → Result A LineKind
 at_end x [] = Ok x
 at_end x (word ∷ words) = Err LineKind.Profile
 
--- a decimal without leading zeros, below a limit
-abbrev pub plain_by : ℕ → Result Number NumberFault → Option ℕ
-plain_by limit (Ok n) = if same_base n.base Base.Decimal && nat_lt n.value limit then Some n.value else None
-plain_by limit (Err fault) = None
-
-abbrev pub plain : ℕ → Text → Option ℕ
-plain limit text = plain_by limit (number_of text)
-
 -- COMMENT
 
 -- the words after `COMMENT=`, joined by one space and with none in front
@@ -50,18 +39,14 @@ comment_of (b ∷ first) words = joined ((b ∷ first) ∷ words)
 
 -- CONFIG
 
--- what the words of a setting say
-unfoldable pub key_of : Text → Option Key
-key_of word =
-    if texts_equal word (codes "mode=disabled")
-    then Some (Key.Mode Mode.Disabled)
-    else if texts_equal word (codes "mode=learning")
-    then Some (Key.Mode Mode.Learning)
-    else if texts_equal word (codes "mode=permissive")
-    then Some (Key.Mode Mode.Permissive)
-    else if texts_equal word (codes "mode=enforcing")
-    then Some (Key.Mode Mode.Enforcing)
-    else if texts_equal word (codes "grant_log=yes")
+-- the mode whose word this is
+abbrev pub word_mode : Text → Option Mode
+word_mode word = find (λ mode. texts_equal word (mode_word mode)) all_modes
+
+-- what a word says of a log
+abbrev pub log_key : Text → Option Key
+log_key word =
+    if texts_equal word (codes "grant_log=yes")
     then Some (Key.Grant true)
     else if texts_equal word (codes "grant_log=no")
     then Some (Key.Grant false)
@@ -70,6 +55,10 @@ key_of word =
     else if texts_equal word (codes "reject_log=no")
     then Some (Key.Reject false)
     else None
+
+-- what the words of a setting say
+unfoldable pub key_of : Text → Option Key
+key_of word = option_or (option_map Key.Mode (word_mode word)) (log_key word)
 
 -- nothing was written yet
 abbrev pub unseen : Seen
@@ -83,7 +72,7 @@ with_key seen (Key.Reject log) = if is_none seen.reject then Some (record seen {
 
 -- a word of a mode begins so
 abbrev pub begins_mode : Text → Bool
-begins_mode word = begins word (codes "mode=disabled") || begins word (codes "mode=learning") || begins word (codes "mode=permissive") || begins word (codes "mode=enforcing")
+begins_mode word = list_any (λ mode. begins word (mode_word mode)) all_modes
 
 -- a word of the grant log begins so
 abbrev pub begins_grant : Text → Bool
@@ -125,10 +114,10 @@ setting_after seen (word ∷ words) = if texts_equal word (codes "}") then close
 abbrev pub unlimited : Limits
 unlimited = record { audit = None; learning = None }
 
--- a decimal without leading zeros, below 2^32
+-- a plain number below 2^32
 abbrev pub limit_of : Text → Bool → Result ℕ LineKind
 limit_of [] last = Err (wrong last)
-limit_of (b ∷ text) last = or_kind LineKind.Profile (plain (2 ^ 32) (b ∷ text))
+limit_of (b ∷ text) last = or_kind LineKind.Profile (plain_of (2 ^ 32) (b ∷ text))
 
 -- each limit may be written once
 abbrev pub once : {A : Type 0} → Option ℕ → Result A LineKind → Result A LineKind
@@ -212,10 +201,10 @@ numbered n word words = comment_by n (after (codes "COMMENT=") word) word words
 
 -- a line's first word may go on after this one, which has no `-`
 abbrev pub begins_line : Text → Bool
-begins_line word = begins word (codes "PROFILE_VERSION=") || is_some (plain 256 word)
+begins_line word = begins word (codes "PROFILE_VERSION=") || is_some (plain_of 256 word)
 
 abbrev pub numbered_by : Option ℕ → Text → List Text → Result ProfileEffect LineKind
-numbered_by (Some place) word words = or_kind LineKind.Profile (plain 256 (take place word)) >>= λ n. numbered n (drop (place + 1) word) words
+numbered_by (Some place) word words = or_kind LineKind.Profile (plain_of 256 (take place word)) >>= λ n. numbered n (drop (place + 1) word) words
 numbered_by None word words = Err (wrong (is_last words && begins_line word))
 
 -- the two versions that are read alike; without a number the word is unfinished

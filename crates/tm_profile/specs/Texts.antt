@@ -1,28 +1,20 @@
 -- Profiles as text: which ones a text can write, and what its lines give when they are read.
-use Rattle.std.specs.Prelude.{◌≡◌, ℕ, ◌<◌, ◌^◌, ◌==◌, Bool, true, ◌&&◌, not, if◌then◌else◌, List, [], ◌∷◌, length, Option, Some, None, Result, Ok, Err}
+use Rattle.std.specs.Prelude.{◌≡◌, ℕ, ◌<◌, ◌^◌, true, if◌then◌else◌, List, [], ◌∷◌, Option, Some, None, Result, Ok, Err}
 use Rattle.std.specs.List.{list_all}
 use Rattle.std.specs.Option.{option_and_then}
 use Rattle.tm_list.specs.Map.{Rises}
 use Rattle.tm_word.specs.Words.{Text}
-use Rattle.tm_word.specs.Spelling.{is_separator, words_of, joined}
+use Rattle.tm_word.specs.Spelling.{words_of, joined}
 use Rattle.tm_types.specs.declared.entry.LineKind.{LineKind}
 use Rattle.tm_types.specs.declared.policy.Profile.{Profile}
 use Rattle.tm_types.specs.declared.policy.Namespace.{Namespace}
 use Rattle.tm_types.specs.declared.policy.ProfileEffect.{ProfileEffect}
 use Rattle.tm_types.specs.declared.policy.ProfileLine.{ProfileLine}
 use Rattle.tm_types.specs.Slot.{slot_rank}
-use Rattle.tm_rules.specs.Equality.{texts_equal}
+use Rattle.tm_word.specs.Texts.{texts_equal, is_word}
 use Rattle.tm_rules.specs.Edit.{profile_line}
-use Rattle.tm_namespace.specs.Namespaces.{IsNamespace}
+use Rattle.tm_line.specs.Namespaces.{IsNamespace}
 use Rattle.tm_profile.specs.Reading.{line_of}
-
--- no byte separates words
-abbrev pub proper : Text → Bool
-proper text = list_all (λ b. not (is_separator b)) text
-
--- a word of a line
-abbrev pub is_word : Text → Bool
-is_word text = not (length text == 0) && proper text
 
 -- a word that names a namespace
 abbrev pub IsNamespaceWord : Text → Type 0

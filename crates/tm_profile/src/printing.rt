@@ -7,12 +7,13 @@ ghost use Rattle.tm_types.specs.declared.policy.Namespace.{Namespace};
 ghost use Rattle.tm_types.specs.declared.policy.ProfileLine.{ProfileLine};
 ghost use Rattle.tm_word.specs.Words.{Text};
 ghost use Rattle.tm_rules.specs.Edit.{profile_line};
-ghost use Rattle.tm_rules.specs.Load.{lines_of};
+ghost use Rattle.tm_word.specs.Texts.{lines_of, is_word};
 ghost use Rattle.tm_line.specs.Lines.{spaced};
-ghost use Rattle.tm_namespace.specs.Namespaces.{line_text};
-ghost use Rattle.tm_profile.specs.Printing.{headed, mode_text, grant_text, reject_text, setting_words, audit_text, learning_text, limit_words, comment_words, preference_words, config_words, slot_line, profile_text, profiles_text};
+ghost use Rattle.tm_line.specs.Namespaces.{line_text};
+ghost use Rattle.tm_profile.specs.Slots.{mode_word};
+ghost use Rattle.tm_profile.specs.Printing.{headed, grant_text, reject_text, setting_words, audit_text, learning_text, limit_words, comment_words, preference_words, config_words, slot_line, profile_text, profiles_text};
 ghost use Rattle.tm_profile.specs.Reading.{line_of};
-ghost use Rattle.tm_profile.specs.Texts.{is_word, IsNamespaceWord, IsWritten, lines_into};
+ghost use Rattle.tm_profile.specs.Texts.{IsNamespaceWord, IsWritten, lines_into};
 
 use crate::slots::slot_text;
 use std::alloc::Global;
@@ -20,18 +21,6 @@ use tm_list::NoMemory;
 use tm_number::write_decimal;
 use tm_types::policy::{Config, Mode, Profile, Profiles, SlotName};
 use tm_word::Text;
-
-/// The word of a mode.
-fn mode_text(mode: Mode) -> &'static [u8]
-    ensures { result.now ≡ mode_text mode }
-{
-    match mode {
-        Mode::Disabled => b"mode=disabled",
-        Mode::Learning => b"mode=learning",
-        Mode::Permissive => b"mode=permissive",
-        Mode::Enforcing => b"mode=enforcing",
-    }
-}
 
 /// The word of the log of grants.
 fn grant_text(log: bool) -> &'static [u8]
@@ -80,6 +69,14 @@ fn push_word(word: &[u8], out: &mut Vec<u8>) -> Result<(), NoMemory>
     out.extend_from_slice(word)
 }
 
+/// Appends the word of a mode after a space, or a part of it.
+fn push_mode(mode: Mode, out: &mut Vec<u8>) -> Result<(), NoMemory>
+    ensures { OnOk result (out.new.items ≡ out.old.items ++ 32 ∷ mode_word mode) }
+{
+    push_word(b"mode=", out)?;
+    out.extend_from_slice(mode.text().as_bytes())
+}
+
 /// Appends a limit with its key after a space, or a part of it.
 fn push_limit(alloc: Global, word: &[u8], limit: u32, out: &mut Vec<u8>) -> Result<(), NoMemory>
     ensures { OnOk result (out.new.items ≡ out.old.items ++ 32 ∷ (word.now ++ decimal limit)) }
@@ -117,7 +114,7 @@ fn push_limits(alloc: Global, audit: u32, learning: u32, out: &mut Vec<u8>) -> R
 fn push_setting(config: Config, out: &mut Vec<u8>) -> Result<(), NoMemory>
     ensures { OnOk result (out.new.items ≡ out.old.items ++ (spaced (setting_words config) ++ 10 ∷ [])) }
 {
-    push_word(mode_text(config.mode), out)?;
+    push_mode(config.mode, out)?;
     push_word(grant_text(config.logs.grant), out)?;
     push_word(reject_text(config.logs.reject), out)?;
     out.extend_from_slice(b" }\n")
@@ -148,7 +145,8 @@ fn push_preference(
     learning: u32,
     out: &mut Vec<u8>,
 ) -> Result<(), NoMemory>
-    ensures { OnOk result (out.new.items ≡ out.old.items ++ line_text ns.now (preference_words number audit learning)) }
+    ensures { OnOk result
+        (out.new.items ≡ out.old.items ++ line_text ns.now (preference_words number audit learning)) }
 {
     push_head(alloc, ns, number, b"PREFERENCE={", out)?;
     push_limits(alloc, audit, learning, out)
@@ -261,6 +259,9 @@ pub fn print_profiles(
 /// A law, nothing to run: the printed text of profiles, read line by line into a namespace without profiles, gives these profiles;
 /// and a line that was read from words keeps profiles that a text can write.
 pub fn round_trip()
-    ensures again { (ns : Namespace) (profiles : List (ℕ × Profile)) → IsNamespaceWord ns.name → ns.profiles ≡ [] → IsWritten profiles → lines_into (lines_of (profiles_text ns.name profiles)) ns ≡ Some (record ns { profiles = profiles }) }
-    ensures kept { (words : List Text) (line : ProfileLine) (ns : Namespace) → list_all is_word words ≡ true → line_of words ≡ Ok line → IsWritten ns.profiles → IsWritten (profile_line line.effect ns).profiles }
+    ensures again { (ns : Namespace) (profiles : List (ℕ × Profile)) → IsNamespaceWord ns.name → ns.profiles ≡ []
+        → IsWritten profiles
+        → lines_into (lines_of (profiles_text ns.name profiles)) ns ≡ Some (record ns { profiles = profiles }) }
+    ensures kept { (words : List Text) (line : ProfileLine) (ns : Namespace) → list_all is_word words ≡ true
+        → line_of words ≡ Ok line → IsWritten ns.profiles → IsWritten (profile_line line.effect ns).profiles }
 {}

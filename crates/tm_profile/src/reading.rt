@@ -1,26 +1,25 @@
 //! Reading profile lines.
-ghost use Rattle.std.specs.Prelude.{◌≡◌, ◌<◌, ◌==◌, ◌∷◌, ◌++◌, ◌^◌, ℕ, Some, None, IfOk, IfSome, is_some, codes};
+ghost use Rattle.std.specs.Prelude.{◌≡◌, ◌==◌, ◌∷◌, ◌++◌, ◌^◌, ℕ, Some, None, IfOk, is_some, codes};
 ghost use Rattle.std.specs.List.{position};
-ghost use Rattle.tm_line.specs.Lines.{Gives, begins};
-ghost use Rattle.tm_namespace.specs.Namespaces.{namespace_at};
-ghost use Rattle.tm_profile.specs.Lines.{or_kind, after};
-ghost use Rattle.tm_profile.specs.Reading.{wrong, at_end, plain, comment_of, key_of, unseen, with_key, begins_mode, begins_grant, begins_reject, begins_key, seen_by, seen_after, setting_by, closed, setting_after, unlimited, limit_of, once, begins_limit, learning_by, limits_by, limits_with, limits_after, preference, begins_line, begins_some_slot, begins_effect, slot_of, slot_by, comment_by, numbered, numbered_by, version_by, effect_by, effect_at, line_of};
+ghost use Rattle.tm_word.specs.Gives.{Gives, GivesNow};
+ghost use Rattle.tm_number.specs.Numbers.{plain_of};
+ghost use Rattle.tm_line.specs.Lines.{line_cause, or_kind};
+ghost use Rattle.tm_word.specs.Texts.{begins, after};
+ghost use Rattle.tm_line.specs.Namespaces.{namespace_at};
+ghost use Rattle.tm_profile.specs.Reading.{wrong, at_end, comment_of, log_key, key_of, unseen, with_key, begins_grant, begins_reject, begins_key, seen_by, seen_after, setting_by, closed, setting_after, unlimited, limit_of, once, begins_limit, learning_by, limits_by, limits_with, limits_after, preference, begins_line, begins_some_slot, begins_effect, slot_of, slot_by, comment_by, numbered, numbered_by, version_by, effect_by, effect_at, line_of};
 
-use crate::slots::{begins_some_slot, slot_of};
-use crate::words::{after, is_last};
+use crate::slots::{begins_mode, begins_some_slot, slot_of, word_mode};
 use std::alloc::Global;
-use tm_line::{begins, joined, joined_after};
+use tm_line::{joined, joined_after, namespace_at};
 use tm_list::{NoMemory, Seq};
-use tm_namespace::namespace_at;
-use tm_number::{Base, read_number};
-use tm_rules::bytes_equal;
+use tm_number::plain_number;
 use tm_types::entry::LineKind;
 use tm_types::policy::{Mode, ProfileEffect, ProfileLine, Setting};
 use tm_types::step::LineFault;
-use tm_word::Text;
+use tm_word::{Text, after, begins, bytes_equal, place_of};
 
 /// What one word of a setting says.
-#[derive(Clone, Copy, PartialEq, Eq, Debug)]
+#[derive(Clone, Copy)]
 enum Key {
     Mode(Mode),
     Grant(bool),
@@ -28,7 +27,7 @@ enum Key {
 }
 
 /// What the words of a setting have said so far.
-#[derive(Clone, Copy, PartialEq, Eq, Debug)]
+#[derive(Clone, Copy)]
 struct Seen {
     mode: Option<Mode>,
     grant: Option<bool>,
@@ -36,7 +35,7 @@ struct Seen {
 }
 
 /// What the words of a preference have said so far, in lines and in entries.
-#[derive(Clone, Copy, PartialEq, Eq, Debug)]
+#[derive(Clone, Copy)]
 struct Limits {
     audit: Option<u32>,
     learning: Option<u32>,
@@ -55,7 +54,7 @@ fn wrong(unfinished: bool) -> LineKind
 
 /// Whether no word is left.
 fn ends(words: &[Text]) -> Result<(), LineFault>
-    ensures { Gives (λ x. x) result (at_end tt words.now) }
+    ensures { GivesNow line_cause (λ x. x) result (at_end tt words.now) }
 {
     match words {
         [] => Ok(()),
@@ -63,32 +62,11 @@ fn ends(words: &[Text]) -> Result<(), LineFault>
     }
 }
 
-/// A decimal without leading zeros, below a limit.
-fn plain(limit: u64, text: &[u8]) -> Option<u64>
-    ensures exact { result ≡ plain limit text.now }
-    ensures below { IfSome result (λ n. n < limit) }
-{
-    match read_number(text) {
-        Ok(number) => match number.base {
-            Base::Decimal => {
-                if number.value < limit {
-                    Some(number.value)
-                } else {
-                    None
-                }
-            }
-            Base::Octal => None,
-            Base::Hex => None,
-        },
-        Err(_) => None,
-    }
-}
-
 /// The number of a profile.
 fn profile_number(text: &[u8]) -> Option<u8>
-    ensures { result ≡ plain 256 text.now }
+    ensures { result ≡ plain_of 256 text.now }
 {
-    match plain(256, text) {
+    match plain_number(256, text) {
         Some(number) => Some(number as u8),
         None => None,
     }
@@ -96,9 +74,9 @@ fn profile_number(text: &[u8]) -> Option<u8>
 
 /// A number below 2^32.
 fn amount(text: &[u8]) -> Option<u32>
-    ensures { result ≡ plain (2 ^ 32) text.now }
+    ensures { result ≡ plain_of (2 ^ 32) text.now }
 {
-    match plain(4294967296, text) {
+    match plain_number(4_294_967_296, text) {
         Some(number) => Some(number as u32),
         None => None,
     }
@@ -115,23 +93,10 @@ fn comment_of(alloc: Global, first: &[u8], words: &[Text]) -> Result<Text, NoMem
     Ok(Seq::from_vec(text))
 }
 
-/// What a word of a setting says.
-#[tactic(auto, unfolding(crate::specs::Reading::key_of))]
-fn key_of(word: &[u8]) -> Option<Key>
-    ensures { result ≡ key_of word.now }
+/// What a word says of a log.
+fn log_key(word: &[u8]) -> Option<Key>
+    ensures { result ≡ log_key word.now }
 {
-    if bytes_equal(word, b"mode=disabled") {
-        return Some(Key::Mode(Mode::Disabled));
-    }
-    if bytes_equal(word, b"mode=learning") {
-        return Some(Key::Mode(Mode::Learning));
-    }
-    if bytes_equal(word, b"mode=permissive") {
-        return Some(Key::Mode(Mode::Permissive));
-    }
-    if bytes_equal(word, b"mode=enforcing") {
-        return Some(Key::Mode(Mode::Enforcing));
-    }
     if bytes_equal(word, b"grant_log=yes") {
         return Some(Key::Grant(true));
     }
@@ -145,6 +110,17 @@ fn key_of(word: &[u8]) -> Option<Key>
         return Some(Key::Reject(false));
     }
     None
+}
+
+/// What a word of a setting says.
+#[tactic(auto, unfolding(crate::specs::Reading::key_of))]
+fn key_of(word: &[u8]) -> Option<Key>
+    ensures { result ≡ key_of word.now }
+{
+    match word_mode(word) {
+        Some(mode) => Some(Key::Mode(mode)),
+        None => log_key(word),
+    }
 }
 
 /// What has been said with one key more; a key that was written already may not stand again.
@@ -174,16 +150,6 @@ fn with_key(seen: Seen, key: Key) -> Option<Seen>
             Some(_) => None,
         },
     }
-}
-
-/// Whether a word of a mode begins so.
-fn begins_mode(word: &[u8]) -> bool
-    ensures { result ≡ begins_mode word.now }
-{
-    begins(word, b"mode=disabled")
-        || begins(word, b"mode=learning")
-        || begins(word, b"mode=permissive")
-        || begins(word, b"mode=enforcing")
 }
 
 /// Whether a word of the grant log begins so.
@@ -216,7 +182,7 @@ fn begins_key(seen: Seen, word: &[u8]) -> bool
 /// What has been said with one word more.
 #[tactic(auto, unfolding(crate::specs::Reading::seen_after))]
 fn seen_after(seen: Seen, word: &[u8], last: bool) -> Result<Seen, LineFault>
-    ensures { Gives (λ x. x) result (seen_after seen word.now last) }
+    ensures { GivesNow line_cause (λ x. x) result (seen_after seen word.now last) }
 {
     match key_of(word) {
         Some(key) => match with_key(seen, key) {
@@ -230,7 +196,7 @@ fn seen_after(seen: Seen, word: &[u8], last: bool) -> Result<Seen, LineFault>
 /// The setting that was written, which has its mode and ends here.
 #[tactic(auto, unfolding(crate::specs::Reading::closed))]
 fn closed(seen: Seen, words: &[Text]) -> Result<Setting, LineFault>
-    ensures { Gives (λ x. x) result (closed seen words.now) }
+    ensures { GivesNow line_cause (λ x. x) result (closed seen words.now) }
 {
     match seen.mode {
         Some(mode) => {
@@ -248,7 +214,7 @@ fn closed(seen: Seen, words: &[Text]) -> Result<Setting, LineFault>
 /// The setting that stands up to `}`.
 #[tactic(auto, unfolding(crate::specs::Reading::setting_after))]
 fn setting_after(seen: Seen, words: &[Text]) -> Result<Setting, LineFault>
-    ensures { Gives (λ x. x) result (setting_after seen words.now) }
+    ensures { GivesNow line_cause (λ x. x) result (setting_after seen words.now) }
 {
     match words {
         [] => Err(LineFault::Kind(LineKind::Arity)),
@@ -256,7 +222,7 @@ fn setting_after(seen: Seen, words: &[Text]) -> Result<Setting, LineFault>
             if bytes_equal(word.bytes(), b"}") {
                 closed(seen, rest)
             } else {
-                let more = seen_after(seen, word.bytes(), is_last(rest))?;
+                let more = seen_after(seen, word.bytes(), rest.is_empty())?;
                 setting_after(more, rest)
             }
         }
@@ -265,7 +231,7 @@ fn setting_after(seen: Seen, words: &[Text]) -> Result<Setting, LineFault>
 
 /// A limit's number.
 fn limit_of(text: &[u8], last: bool) -> Result<u32, LineFault>
-    ensures { Gives (λ x. x) result (limit_of text.now last) }
+    ensures { GivesNow line_cause (λ x. x) result (limit_of text.now last) }
 {
     match text {
         [] => Err(LineFault::Kind(wrong(last))),
@@ -286,7 +252,7 @@ fn begins_limit(limits: Limits, word: &[u8]) -> bool
 
 /// The limits with that of audit logs.
 fn with_audit(limits: Limits, text: &[u8], last: bool) -> Result<Limits, LineFault>
-    ensures { Gives (λ x. x) result (limits_by (Some text.now) limits text.now last) }
+    ensures { GivesNow line_cause (λ x. x) result (limits_by (Some text.now) limits text.now last) }
 {
     match limits.audit {
         None => {
@@ -302,7 +268,7 @@ fn with_audit(limits: Limits, text: &[u8], last: bool) -> Result<Limits, LineFau
 
 /// The limits with that of learned entries.
 fn with_learning(limits: Limits, text: &[u8], last: bool) -> Result<Limits, LineFault>
-    ensures { Gives (λ x. x) result (learning_by (Some text.now) limits text.now last) }
+    ensures { GivesNow line_cause (λ x. x) result (learning_by (Some text.now) limits text.now last) }
 {
     match limits.learning {
         None => {
@@ -319,7 +285,7 @@ fn with_learning(limits: Limits, text: &[u8], last: bool) -> Result<Limits, Line
 /// The limits with one word more.
 #[tactic(auto, unfolding(crate::specs::Reading::limits_with))]
 fn limits_with(limits: Limits, word: &[u8], last: bool) -> Result<Limits, LineFault>
-    ensures { Gives (λ x. x) result (limits_with limits word.now last) }
+    ensures { GivesNow line_cause (λ x. x) result (limits_with limits word.now last) }
 {
     match after(b"max_audit_log=", word) {
         Some(text) => with_audit(limits, text, last),
@@ -333,7 +299,7 @@ fn limits_with(limits: Limits, word: &[u8], last: bool) -> Result<Limits, LineFa
 /// The limits that stand up to `}`.
 #[tactic(auto, unfolding(crate::specs::Reading::limits_after))]
 fn limits_after(limits: Limits, words: &[Text]) -> Result<Limits, LineFault>
-    ensures { Gives (λ x. x) result (limits_after limits words.now) }
+    ensures { GivesNow line_cause (λ x. x) result (limits_after limits words.now) }
 {
     match words {
         [] => Err(LineFault::Kind(LineKind::Arity)),
@@ -342,7 +308,7 @@ fn limits_after(limits: Limits, words: &[Text]) -> Result<Limits, LineFault>
                 ends(rest)?;
                 Ok(limits)
             } else {
-                let more = limits_with(limits, word.bytes(), is_last(rest))?;
+                let more = limits_with(limits, word.bytes(), rest.is_empty())?;
                 limits_after(more, rest)
             }
         }
@@ -371,7 +337,7 @@ const NOTHING_SEEN: Seen = Seen {
 
 /// What a line says of a slot of this profile.
 fn slot_line(number: u8, word: &[u8], words: &[Text]) -> Result<ProfileEffect, LineFault>
-    ensures { Gives (λ x. x) result (slot_by number (slot_of word.now) word.now words.now) }
+    ensures { GivesNow line_cause (λ x. x) result (slot_by number (slot_of word.now) word.now words.now) }
 {
     match slot_of(word) {
         Some((slot, true)) => {
@@ -382,13 +348,13 @@ fn slot_line(number: u8, word: &[u8], words: &[Text]) -> Result<ProfileEffect, L
             ends(words)?;
             Ok(ProfileEffect::Slot(number, slot, None))
         }
-        None => Err(LineFault::Kind(wrong(is_last(words) && begins_effect(word)))),
+        None => Err(LineFault::Kind(wrong(words.is_empty() && begins_effect(word)))),
     }
 }
 
 /// What a line says of the limits of this profile.
 fn preference_line(number: u8, words: &[Text]) -> Result<ProfileEffect, LineFault>
-    ensures { Gives (λ x. x) result (preference number words.now) }
+    ensures { GivesNow line_cause (λ x. x) result (preference number words.now) }
 {
     let none = Limits {
         audit: None,
@@ -406,7 +372,7 @@ fn numbered(
     word: &[u8],
     words: &[Text],
 ) -> Result<ProfileEffect, LineFault>
-    ensures { Gives (λ x. x) result (numbered number word.now words.now) }
+    ensures { Gives line_cause (λ x. x) result (numbered number word.now words.now) }
 {
     match after(b"COMMENT=", word) {
         Some(first) => {
@@ -426,23 +392,16 @@ fn numbered(
     }
 }
 
-/// Where the first `-` stands.
-fn cut_of(word: &[u8]) -> Option<usize>
-    ensures { result ≡ position (λ b. b == 45) word.now }
-{
-    word.iter().position(|byte| *byte == b'-')
-}
-
 /// What a line says of the profile whose number its word begins with.
 fn numbered_line(alloc: Global, word: &[u8], words: &[Text]) -> Result<ProfileEffect, LineFault>
-    ensures { Gives (λ x. x) result (numbered_by (position (λ b. b == 45) word.now) word.now words.now) }
+    ensures { Gives line_cause (λ x. x) result (numbered_by (position (λ b. b == 45) word.now) word.now words.now) }
 {
-    match cut_of(word) {
+    match place_of(b'-', word) {
         Some(place) => match profile_number(&word[..place]) {
             Some(number) => numbered(alloc, number, &word[place + 1..], words),
             None => Err(LineFault::Kind(LineKind::Profile)),
         },
-        None => Err(LineFault::Kind(wrong(is_last(words) && begins_line(word)))),
+        None => Err(LineFault::Kind(wrong(words.is_empty() && begins_line(word)))),
     }
 }
 
@@ -461,11 +420,11 @@ fn begins_line(word: &[u8]) -> bool
 
 /// What stands after `PROFILE_VERSION=`.
 fn version_of(text: &[u8], words: &[Text]) -> Result<ProfileEffect, LineFault>
-    ensures { Gives (λ x. x) result (version_by text.now words.now) }
+    ensures { GivesNow line_cause (λ x. x) result (version_by text.now words.now) }
 {
     match text {
         [] => {
-            if is_last(words) {
+            if words.is_empty() {
                 Err(LineFault::Kind(LineKind::Arity))
             } else {
                 Err(LineFault::Kind(LineKind::Version))
@@ -485,7 +444,7 @@ fn version_of(text: &[u8], words: &[Text]) -> Result<ProfileEffect, LineFault>
 /// What a line says, without its namespace word.
 #[tactic(auto, unfolding(crate::specs::Reading::effect_at))]
 fn effect_at(alloc: Global, words: &[Text]) -> Result<ProfileEffect, LineFault>
-    ensures { Gives (λ x. x) result (effect_at words.now) }
+    ensures { Gives line_cause (λ x. x) result (effect_at words.now) }
 {
     match words {
         [] => Err(LineFault::Kind(LineKind::Arity)),
@@ -504,7 +463,7 @@ fn effect_at(alloc: Global, words: &[Text]) -> Result<ProfileEffect, LineFault>
 /// `Version` another version, `Arity` a missing word or an unfinished one at the end, `Profile` every other wrong word.
 #[tactic(auto, unfolding(crate::specs::Reading::line_of))]
 pub fn read_profile_line(alloc: Global, words: &[Text]) -> Result<ProfileLine, LineFault>
-    ensures { Gives (λ x. x) result (line_of words.now) }
+    ensures { Gives line_cause (λ x. x) result (line_of words.now) }
 {
     let (namespace, rest) = namespace_at(alloc, words)?;
     let effect = effect_at(alloc, rest)?;

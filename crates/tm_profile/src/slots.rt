@@ -1,12 +1,64 @@
-//! The words of `CONFIG` lines, and the slot that a word sets.
+//! The words of `CONFIG` lines: the slot that a word sets, and the mode that it gives.
 ghost use Rattle.std.specs.Prelude.{◌≡◌, ◌++◌};
-ghost use Rattle.std.specs.List.{list_any};
+ghost use Rattle.std.specs.List.{find, list_any};
 ghost use Rattle.tm_types.specs.Slot.{all_slots};
-ghost use Rattle.tm_profile.specs.Slots.{function_text, slot_text};
-ghost use Rattle.tm_profile.specs.Reading.{begins_slot, begins_some_slot, slot_word, slot_in, slot_of};
+ghost use Rattle.tm_types.specs.declared.policy.Mode.{Mode};
+ghost use Rattle.tm_word.specs.Texts.{texts_equal, begins};
+ghost use Rattle.tm_profile.specs.Slots.{function_text, slot_text, mode_word, all_modes};
+ghost use Rattle.tm_profile.specs.Reading.{word_mode, begins_mode, begins_slot, begins_some_slot, slot_word, slot_in, slot_of};
 
 use crate::words::{begins_joined, is_joined};
-use tm_types::policy::{Function, SlotName};
+use tm_types::policy::{Function, Mode, SlotName};
+
+/// All modes.
+fn all_modes() -> &'static [Mode]
+    ensures { result.now ≡ all_modes }
+{
+    &[
+        Mode::Disabled,
+        Mode::Learning,
+        Mode::Permissive,
+        Mode::Enforcing,
+    ]
+}
+
+/// The first of these modes whose word this is.
+fn mode_in(modes: &[Mode], word: &[u8]) -> Option<Mode>
+    ensures { result ≡ find (λ mode. texts_equal word.now (mode_word mode)) modes.now }
+{
+    for mode in modes {
+        if is_joined(word, b"mode=", mode.text().as_bytes()) {
+            return Some(*mode);
+        }
+    }
+    None
+}
+
+/// The mode whose word this is.
+pub(crate) fn word_mode(word: &[u8]) -> Option<Mode>
+    ensures { result ≡ word_mode word.now }
+{
+    mode_in(all_modes(), word)
+}
+
+/// Whether the word of one of these modes begins so.
+fn begins_mode_in(modes: &[Mode], word: &[u8]) -> bool
+    ensures { result ≡ list_any (λ mode. begins word.now (mode_word mode)) modes.now }
+{
+    for mode in modes {
+        if begins_joined(word, b"mode=", mode.text().as_bytes()) {
+            return true;
+        }
+    }
+    false
+}
+
+/// Whether the word of a mode begins so.
+pub(crate) fn begins_mode(word: &[u8]) -> bool
+    ensures { result ≡ begins_mode word.now }
+{
+    begins_mode_in(all_modes(), word)
+}
 
 /// The word of a function: its category's, and then its own.
 #[tactic(auto, unfolding(crate::specs::Slots::function_text))]

@@ -28,7 +28,10 @@ use Rattle.tm_types.specs.declared.entry.Attr.{Attr}
 use Rattle.tm_types.specs.declared.entry.Right.{Right}
 use Rattle.tm_types.specs.declared.entry.Clause.{Clause}
 use Rattle.tm_types.specs.declared.entry.Cond.{Cond}
-use Rattle.tm_rules.specs.Equality.{lists_equal, options_equal, texts_equal, element_place, base_place, inet_place, unix_place, id_place, stat_place, field_place, kind_place, repeat_place, parts_equal, components_equal, patterns_equal, numbers_equal, ranges_equal, addrs_equal, names_equal, number_unions_equal, addr_unions_equal, prefers_equal, args_equal, attrs_equal, rights_equal, clauses_equal, conds_equal}
+use Rattle.tm_types.specs.declared.entry.Entry.{Entry}
+use Rattle.tm_rules.specs.Equality.{options_equal, element_place, base_place, inet_place, unix_place, id_place, stat_place, field_place, kind_place, repeat_place, parts_equal, components_equal, patterns_equal, numbers_equal, ranges_equal, addrs_equal, names_equal, number_unions_equal, addr_unions_equal, prefers_equal, args_equal, attrs_equal, rights_equal, clauses_equal, conds_equal}
+use Rattle.tm_word.specs.Texts.{lists_equal, texts_equal}
+use Rattle.tm_rules.specs.Policy.{same_line}
 
 -- Tests joined by `&&`
 
@@ -796,11 +799,21 @@ is_test test decides false x y h = go (test x y) refl
     go false e = sym e
     go true e = let q : IsTrue false = h.1 (decides.sound x y e) in absurd cc
 
-pub texts_are_same : (r : Bool) (x y : Text) → IsTrue r ↔ (x ≡ y) → r ≡ texts_equal x y
-texts_are_same r x y h = is_test texts_equal same_texts r x y h
-
 pub args_are_same : (r : Bool) (x y : Args) → IsTrue r ↔ (x ≡ y) → r ≡ args_equal x y
 args_are_same r x y h = is_test args_equal same_args r x y h
 
 pub conds_are_same : (r : Bool) (x y : Cond) → IsTrue r ↔ (x ≡ y) → r ≡ conds_equal x y
 conds_are_same r x y h = is_test conds_equal same_conds r x y h
+
+-- two lines share one entry exactly where arguments and conditions are equal
+pub lines_are_same : (x y : Entry) → IsTrue (same_line x y) ↔ ((x.args ≡ y.args) × (x.cond ≡ y.cond))
+lines_are_same x y = (sound, full)
+  where
+    sound : IsTrue (same_line x y) → (x.args ≡ y.args) × (x.cond ≡ y.cond)
+    sound h = let parts = both (args_equal x.args y.args) (conds_equal x.cond y.cond) h in (same_args.sound x.args y.args parts.0, same_conds.sound x.cond y.cond parts.1)
+
+    full : (x.args ≡ y.args) × (x.cond ≡ y.cond) → IsTrue (same_line x y)
+    full h =
+        all (args_equal x.args y.args) (conds_equal x.cond y.cond)
+        (subst (λ z. args_equal x.args z ≡ true) h.0 (same_args.full x.args))
+        (subst (λ z. conds_equal x.cond z ≡ true) h.1 (same_conds.full x.cond))

@@ -21,7 +21,7 @@ use Rattle.tm_types.specs.declared.step.Take.{Take}
 use Rattle.tm_types.specs.declared.step.Run.{Run}
 use Rattle.tm_types.specs.declared.policy.DomainRule.{DomainRule}
 use Rattle.tm_types.specs.declared.policy.PolicyLine.{PolicyLine}
-use Rattle.tm_rules.specs.Equality.{texts_equal}
+use Rattle.tm_word.specs.Texts.{texts_equal, begins_with_byte}
 use Rattle.tm_word.specs.Spelling.{words_of}
 use Rattle.tm_rules.specs.Policy.{has_permission}
 
@@ -79,15 +79,10 @@ abbrev pub is_quiet_group : List Text → Bool
 is_quiet_group (word ∷ group ∷ line) = texts_equal word (codes "acl_group") && is_quiet_acl line
 is_quiet_group _ = false
 
--- the first byte of a text
-abbrev pub begins_with : ℕ → Text → Bool
-begins_with b [] = false
-begins_with b (c ∷ cs) = c == b
-
 -- one word that begins with `<` may stand before `acl_group`
 abbrev pub without_namespace : List Text → List Text
 without_namespace [] = []
-without_namespace (word ∷ rest) = if begins_with 60 word then rest else word ∷ rest
+without_namespace (word ∷ rest) = if begins_with_byte 60 word then rest else word ∷ rest
 
 -- an edit that cannot change where an execute leads or what a mode is, by the words of its line alone
 abbrev pub is_quiet_line : FileKind → List Text → Bool

@@ -1,26 +1,13 @@
 //! The tests of equality of the definitions, as they are computed.
-ghost use Rattle.std.specs.Prelude.{◌≡◌};
-ghost use Rattle.tm_rules.specs.Equality.{texts_equal, args_equal, conds_equal};
+ghost use Rattle.std.specs.Prelude.{◌≡◌, ◌↔◌, IsTrue};
+ghost use Rattle.tm_types.specs.declared.entry.Entry.{Entry};
+ghost use Rattle.tm_rules.specs.Equality.{args_equal, conds_equal};
+ghost use Rattle.tm_word.specs.Texts.{texts_equal};
 ghost use Rattle.tm_rules.specs.Policy.{same_line};
 
 use tm_list::Same;
 use tm_types::entry::{Args, Cond, Entry};
 use tm_word::Text;
-
-/// Whether two texts are equal, byte by byte.
-#[tactic(auto, using(crate::proofs::EqualityLaws::texts_are_same))]
-pub fn bytes_equal(left: &[u8], right: &[u8]) -> bool
-    ensures { result ≡ texts_equal left.now right.now }
-{
-    left == right
-}
-
-/// Whether two texts are equal, byte by byte.
-pub fn texts_equal(left: &Text, right: &Text) -> bool
-    ensures { result ≡ texts_equal left.now right.now }
-{
-    bytes_equal(left.bytes(), right.bytes())
-}
 
 fn args_equal(left: &Args, right: &Args) -> bool
     ensures { result ≡ args_equal left.now right.now }
@@ -41,3 +28,9 @@ pub fn same_line(left: &Entry, right: &Entry) -> bool
 {
     args_equal(&left.args, &right.args) && conds_equal(&left.cond, &right.cond)
 }
+
+/// Two lines share one entry where their arguments are equal and their conditions are equal, and nowhere else: the test of the
+/// definitions is equality.
+pub fn same_line_is_equality()
+    ensures { (left right : Entry) → IsTrue (same_line left right) ↔ ((left.args ≡ right.args) × (left.cond ≡ right.cond)) }
+{}

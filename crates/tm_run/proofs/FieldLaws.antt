@@ -1,5 +1,5 @@
 -- The fields of lines: what is printed is a word, and is read again; what is read is in its range.
-use Rattle.std.proofs.Common.{◌≡◌, ℕ, ◌<◌, ◌≤◌, ◌^◌, ◌==◌, nat_lt, nat_le, Bool, true, false, cond, List, [], ◌∷◌, ◌++◌, length, map, Option, Some, None, Result, Ok, Err, refl, ap, ◌∙◌, arith, rules, eq-eqb}
+use Rattle.std.proofs.Common.{◌≡◌, ℕ, ◌<◌, ◌≤◌, ◌^◌, ◌==◌, nat_lt, nat_le, Bool, true, false, cond, List, [], ◌∷◌, ◌++◌, length, map, Option, Some, None, refl, ap, ◌∙◌, arith, rules, eq-eqb}
 use Rattle.std.specs.Prelude.{codes, decimal}
 use Rattle.std.specs.List.{list_all, flat_map, slice_split}
 use Rattle.std.specs.Char.{digit_value}
@@ -12,7 +12,6 @@ use Rattle.tm_number.specs.declared.Base.{Base}
 use Rattle.tm_number.specs.declared.Range.{Range}
 use Rattle.tm_number.specs.Numbers.{number}
 use Rattle.tm_addr.proofs.Free.{Free, free_digits, split_free, split_at}
-use Rattle.tm_types.specs.declared.entry.LineKind.{LineKind}
 use Rattle.tm_types.specs.declared.unions.NumberUnion.{NumberUnion}
 use Rattle.tm_types.specs.declared.policy.Mode.{Mode}
 use Rattle.tm_types.specs.declared.verdict.EntryPlace.{EntryPlace}
@@ -21,18 +20,17 @@ use Rattle.tm_types.specs.declared.verdict.Move.{Move}
 use Rattle.tm_types.specs.declared.step.Answered.{Answered}
 use Rattle.tm_types.specs.declared.step.Heard.{Heard}
 use Rattle.tm_types.specs.declared.step.LearnReply.{LearnReply}
-use Rattle.tm_rules.specs.Equality.{texts_equal}
+use Rattle.tm_word.specs.Texts.{texts_equal, is_solid, is_word, pieces}
 use Rattle.tm_domain.proofs.NameLaws.{same_texts}
-use Rattle.tm_line.specs.Arguments.{plain_word}
+use Rattle.tm_number.specs.Numbers.{plain_of}
 use Rattle.tm_line.specs.Printing.{number_spelling}
 use Rattle.tm_line.specs.Written.{is_number}
-use Rattle.tm_line.specs.WholeWords.{is_solid, is_word}
 use Rattle.tm_line.proofs.Steps.{both, all}
 use Rattle.tm_line.proofs.WholeLaws.{solid_append, word_from, number_is}
-use Rattle.tm_line.proofs.NumberArgLaws.{plain_again, plain_read}
-use Rattle.tm_run.specs.Steps.{learn_text}
-use Rattle.tm_run.specs.RunText.{mode_text, place_text, reason_text, move_text, numbers_text, answer_text, heard_text}
-use Rattle.tm_run.specs.Fields.{or_zero, number_of, small_of, plain_of, wide_of, pieces_at, mode_of, case_of, reason_in, reason_of, way_of, move_in, move_of, numbers_of, answer_of, heard_in, heard_of, reply_of}
+use Rattle.tm_number.proofs.NumberLaws.{plain_again, plain_small}
+use Rattle.tm_types.specs.Texts.{learn_text}
+use Rattle.tm_run.specs.RunText.{mode_word, place_text, reason_text, move_text, numbers_text, answer_text, heard_text}
+use Rattle.tm_run.specs.Fields.{or_zero, number_of, u8_of, u32_of, u64_of, mode_of, case_of, reason_in, reason_of, way_of, move_in, move_of, numbers_of, answer_of, heard_in, heard_of, reply_of}
 use Rattle.tm_run.specs.Written.{is_plain, is_wide, is_place, is_reason, is_move, is_heard}
 use Rattle.tm_run.proofs.TextLaws.{word_solid, free_by}
 
@@ -63,30 +61,30 @@ number_again : (limit n : ℕ) → nat_lt n limit ≡ true → is_wide n ≡ tru
 unfolding number_of
 number_again limit n h k = ap or_zero (plain_again limit n (ltb-true n limit h) (ltb-true n (2 ^ 64) k))
 
-pub plain_is : (n : ℕ) → is_plain n ≡ true → plain_of (decimal n) ≡ n
+pub plain_is : (n : ℕ) → is_plain n ≡ true → u32_of (decimal n) ≡ n
 plain_is n h = number_again (2 ^ 32) n h (plain_wide n h)
 
-pub wide_is : (n : ℕ) → is_wide n ≡ true → wide_of (decimal n) ≡ n
+pub wide_is : (n : ℕ) → is_wide n ≡ true → u64_of (decimal n) ≡ n
 wide_is n h = number_again (2 ^ 64) n h h
 
-small_is : (n : ℕ) → nat_lt n 256 ≡ true → small_of (decimal n) ≡ n
+small_is : (n : ℕ) → nat_lt n 256 ≡ true → u8_of (decimal n) ≡ n
 small_is n h = number_again 256 n h (small_wide n h)
 
-number_by : (limit : ℕ) (word : Text) (r : Result ℕ LineKind) → plain_word limit word ≡ r → nat_lt 0 limit ≡ true → nat_lt (or_zero r) limit ≡ true
-number_by limit word (Ok n) e h = lt-ltb n limit (plain_read limit word n e)
-number_by limit word (Err kind) e h = h
+number_by : (limit : ℕ) (word : Text) (r : Option ℕ) → plain_of limit word ≡ r → nat_lt 0 limit ≡ true → nat_lt (or_zero r) limit ≡ true
+number_by limit word (Some n) e h = lt-ltb n limit (plain_small limit n word e)
+number_by limit word None e h = h
 
 number_below : (limit : ℕ) (word : Text) → nat_lt 0 limit ≡ true → nat_lt (number_of limit word) limit ≡ true
 unfolding number_of
-number_below limit word h = number_by limit word (plain_word limit word) refl h
+number_below limit word h = number_by limit word (plain_of limit word) refl h
 
-pub plain_below : (word : Text) → is_plain (plain_of word) ≡ true
+pub plain_below : (word : Text) → is_plain (u32_of word) ≡ true
 plain_below word = number_below (2 ^ 32) word refl
 
-pub wide_below : (word : Text) → is_wide (wide_of word) ≡ true
+pub wide_below : (word : Text) → is_wide (u64_of word) ≡ true
 wide_below word = number_below (2 ^ 64) word refl
 
-small_below : (word : Text) → nat_lt (small_of word) 256 ≡ true
+small_below : (word : Text) → nat_lt (u8_of word) 256 ≡ true
 small_below word = number_below 256 word refl
 
 -- ---- words
@@ -95,7 +93,7 @@ front_word : (front text : Text) → is_word front ≡ true → is_solid text �
 front_word [] text h k = absurd cc
 front_word (b ∷ front) text h k = word_from b (front ++ text) (solid_append (b ∷ front) text (word_solid (b ∷ front) h) k)
 
-pub mode_is : (mode : Option Mode) → is_word (mode_text mode) ≡ true
+pub mode_is : (mode : Option Mode) → is_word (mode_word mode) ≡ true
 mode_is None = refl
 mode_is (Some Mode.Disabled) = refl
 mode_is (Some Mode.Learning) = refl
@@ -156,7 +154,7 @@ heard_is (Some heard) h = front_word (answer_text heard.answer) (64 ∷ decimal 
 
 -- ---- what is printed is read again
 
-pub mode_again : (mode : Option Mode) → mode_of (mode_text mode) ≡ mode
+pub mode_again : (mode : Option Mode) → mode_of (mode_word mode) ≡ mode
 unfolding mode_of
 mode_again None = refl
 mode_again (Some Mode.Disabled) = refl
@@ -178,15 +176,15 @@ one_piece c n h k = split_free c (decimal n) (decimal_free c n h k)
 cut_front : (c : ℕ) (front text : Text) → Free c front → slice_split (λ b. b == c) (front ++ c ∷ text) ≡ front ∷ slice_split (λ b. b == c) text
 cut_front c front text h = split_at c front text (eq-eqb c c refl) h
 
-place_again : (place : EntryPlace) → is_place place ≡ true → reason_in (pieces_at 58 (place_text place)) ≡ Reason.Entry place
+place_again : (place : EntryPlace) → is_place place ≡ true → reason_in (pieces 58 (place_text place)) ≡ Reason.Entry place
 place_again (EntryPlace.Own place) h =
-    let cut : pieces_at 58 (codes "entry:" ++ decimal place) ≡ codes "entry" ∷ decimal place ∷ [] = cut_front 58 (codes "entry") (decimal place) (free_by 58 (codes "entry") refl) ∙ ap (λ (ps : List Text). codes "entry" ∷ ps) (one_piece 58 place (omega arith) (plain_wide place h)) in
+    let cut : pieces 58 (codes "entry:" ++ decimal place) ≡ codes "entry" ∷ decimal place ∷ [] = cut_front 58 (codes "entry") (decimal place) (free_by 58 (codes "entry") refl) ∙ ap (λ (ps : List Text). codes "entry" ∷ ps) (one_piece 58 place (omega arith) (plain_wide place h)) in
     ap reason_in cut ∙ ap (λ n. Reason.Entry (EntryPlace.Own n)) (plain_is place h)
 place_again (EntryPlace.Acl group place) h =
     let t = both (nat_lt group 256) (is_plain place) h in
-    let second : pieces_at 58 (decimal group ++ 58 ∷ decimal place) ≡ decimal group ∷ decimal place ∷ [] = cut_front 58 (decimal group) (decimal place) (decimal_free 58 group (omega arith) (small_wide group t.0)) ∙ ap (λ (ps : List Text). decimal group ∷ ps) (one_piece 58 place (omega arith) (plain_wide place t.1)) in
-    let cut : pieces_at 58 (codes "group:" ++ decimal group ++ 58 ∷ decimal place) ≡ codes "group" ∷ decimal group ∷ decimal place ∷ [] = cut_front 58 (codes "group") (decimal group ++ 58 ∷ decimal place) (free_by 58 (codes "group") refl) ∙ ap (λ (ps : List Text). codes "group" ∷ ps) second in
-    ap reason_in cut ∙ ap (λ g. Reason.Entry (EntryPlace.Acl g (plain_of (decimal place)))) (small_is group t.0) ∙ ap (λ n. Reason.Entry (EntryPlace.Acl group n)) (plain_is place t.1)
+    let second : pieces 58 (decimal group ++ 58 ∷ decimal place) ≡ decimal group ∷ decimal place ∷ [] = cut_front 58 (decimal group) (decimal place) (decimal_free 58 group (omega arith) (small_wide group t.0)) ∙ ap (λ (ps : List Text). decimal group ∷ ps) (one_piece 58 place (omega arith) (plain_wide place t.1)) in
+    let cut : pieces 58 (codes "group:" ++ decimal group ++ 58 ∷ decimal place) ≡ codes "group" ∷ decimal group ∷ decimal place ∷ [] = cut_front 58 (codes "group") (decimal group ++ 58 ∷ decimal place) (free_by 58 (codes "group") refl) ∙ ap (λ (ps : List Text). codes "group" ∷ ps) second in
+    ap reason_in cut ∙ ap (λ g. Reason.Entry (EntryPlace.Acl g (u32_of (decimal place)))) (small_is group t.0) ∙ ap (λ n. Reason.Entry (EntryPlace.Acl group n)) (plain_is place t.1)
 
 pub reason_again : (reason : Reason) → is_reason reason ≡ true → reason_of (reason_text reason) ≡ reason
 unfolding reason_of case_of
@@ -200,9 +198,9 @@ reason_again Reason.NoEntry h = refl
 reason_again Reason.NotReady h = refl
 reason_again Reason.NoManual h = refl
 
-enter_again : (domain : ℕ) → is_plain domain ≡ true → move_in (pieces_at 58 (codes "enter:" ++ decimal domain)) ≡ Move.Enter domain
+enter_again : (domain : ℕ) → is_plain domain ≡ true → move_in (pieces 58 (codes "enter:" ++ decimal domain)) ≡ Move.Enter domain
 enter_again domain h =
-    let cut : pieces_at 58 (codes "enter:" ++ decimal domain) ≡ codes "enter" ∷ decimal domain ∷ [] = cut_front 58 (codes "enter") (decimal domain) (free_by 58 (codes "enter") refl) ∙ ap (λ (ps : List Text). codes "enter" ∷ ps) (one_piece 58 domain (omega arith) (plain_wide domain h)) in
+    let cut : pieces 58 (codes "enter:" ++ decimal domain) ≡ codes "enter" ∷ decimal domain ∷ [] = cut_front 58 (codes "enter") (decimal domain) (free_by 58 (codes "enter") refl) ∙ ap (λ (ps : List Text). codes "enter" ∷ ps) (one_piece 58 domain (omega arith) (plain_wide domain h)) in
     ap move_in cut ∙ ap Move.Enter (plain_is domain h)
 
 pub move_again : (move : Move) → is_move move ≡ true → move_of (move_text move) ≡ move
@@ -213,17 +211,17 @@ move_again Move.Make h = refl
 move_again Move.Fail h = refl
 
 -- the numbers after the first, each after a comma
-listed : (n : ℕ) (numbers : List ℕ) → is_wide n ≡ true → list_all is_wide numbers ≡ true → pieces_at 44 (decimal n ++ flat_map (λ other. 44 ∷ decimal other) numbers) ≡ decimal n ∷ map decimal numbers
-listed n [] h k = ap (pieces_at 44) (append-nil (decimal n)) ∙ one_piece 44 n (omega arith) h
+listed : (n : ℕ) (numbers : List ℕ) → is_wide n ≡ true → list_all is_wide numbers ≡ true → pieces 44 (decimal n ++ flat_map (λ other. 44 ∷ decimal other) numbers) ≡ decimal n ∷ map decimal numbers
+listed n [] h k = ap (pieces 44) (append-nil (decimal n)) ∙ one_piece 44 n (omega arith) h
 listed n (m ∷ numbers) h k =
     let t = both (is_wide m) (list_all is_wide numbers) k in
     cut_front 44 (decimal n) (decimal m ++ flat_map (λ other. 44 ∷ decimal other) numbers) (decimal_free 44 n (omega arith) h) ∙ ap (λ (ps : List Text). decimal n ∷ ps) (listed m numbers t.0 t.1)
 
-each_again : (numbers : List ℕ) → list_all is_wide numbers ≡ true → map wide_of (map decimal numbers) ≡ numbers
+each_again : (numbers : List ℕ) → list_all is_wide numbers ≡ true → map u64_of (map decimal numbers) ≡ numbers
 each_again [] h = refl
 each_again (n ∷ numbers) h =
     let t = both (is_wide n) (list_all is_wide numbers) h in
-    ap (λ m. m ∷ map wide_of (map decimal numbers)) (wide_is n t.0) ∙ ap (λ (ns : List ℕ). n ∷ ns) (each_again numbers t.1)
+    ap (λ m. m ∷ map u64_of (map decimal numbers)) (wide_is n t.0) ∙ ap (λ (ns : List ℕ). n ∷ ns) (each_again numbers t.1)
 
 -- a text that begins with another byte isn't `-`
 begins_else : (text more : Text) → 0 < length text → Free 45 text → ¬ (text ++ more ≡ codes "-")
@@ -241,7 +239,7 @@ numbers_again (n ∷ numbers) h =
     let t = both (is_wide n) (list_all is_wide numbers) h in
     let text = decimal n ++ flat_map (λ other. 44 ∷ decimal other) numbers in
     let other : texts_equal text (codes "-") ≡ false = not_dash text _ refl (begins_else (decimal n) (flat_map (λ other. 44 ∷ decimal other) numbers) (decimal_nonempty n (ltb-true n (2 ^ 64) t.0)) (decimal_free 45 n (omega arith) t.0)) in
-    rw other (ap (map wide_of) (listed n numbers t.0 t.1) ∙ each_again (n ∷ numbers) h)
+    rw other (ap (map u64_of) (listed n numbers t.0 t.1) ∙ each_again (n ∷ numbers) h)
 
 answer_again : (answer : Option Answered) → answer_of (answer_text answer) ≡ answer
 unfolding answer_of
@@ -265,8 +263,8 @@ pub heard_again : (heard : Option Heard) → is_heard heard ≡ true → heard_o
 unfolding heard_of heard_by
 heard_again None h = refl
 heard_again (Some heard) h =
-    let cut : pieces_at 64 (answer_text heard.answer ++ 64 ∷ decimal heard.version) ≡ answer_text heard.answer ∷ decimal heard.version ∷ [] = cut_front 64 (answer_text heard.answer) (decimal heard.version) (answer_free heard.answer) ∙ ap (λ (ps : List Text). answer_text heard.answer ∷ ps) (one_piece 64 heard.version (omega arith) h) in
-    ap heard_in cut ∙ ap (λ (a : Option Answered). heard_by a (wide_of (decimal heard.version))) (answer_again heard.answer) ∙ ap (heard_by heard.answer) (wide_is heard.version h)
+    let cut : pieces 64 (answer_text heard.answer ++ 64 ∷ decimal heard.version) ≡ answer_text heard.answer ∷ decimal heard.version ∷ [] = cut_front 64 (answer_text heard.answer) (decimal heard.version) (answer_free heard.answer) ∙ ap (λ (ps : List Text). answer_text heard.answer ∷ ps) (one_piece 64 heard.version (omega arith) h) in
+    ap heard_in cut ∙ ap (λ (a : Option Answered). heard_by a (u64_of (decimal heard.version))) (answer_again heard.answer) ∙ ap (heard_by heard.answer) (wide_is heard.version h)
 
 -- ---- what is read is in its range
 
@@ -294,7 +292,7 @@ reason_in_below (word ∷ group ∷ place ∷ other ∷ others) = refl
 
 pub reason_below : (word : Text) → is_reason (reason_of word) ≡ true
 unfolding reason_of
-reason_below word = reason_in_below (pieces_at 58 word)
+reason_below word = reason_in_below (pieces 58 word)
 
 any_way : (a b : Bool) → is_move (cond a Move.Stay (cond b Move.Make Move.Fail)) ≡ true
 any_way true b = refl
@@ -313,9 +311,9 @@ move_in_below (word ∷ domain ∷ other ∷ others) = refl
 
 pub move_below : (word : Text) → is_move (move_of word) ≡ true
 unfolding move_of
-move_below word = move_in_below (pieces_at 58 word)
+move_below word = move_in_below (pieces 58 word)
 
-each_below : (words : List Text) → list_all is_wide (map wide_of words) ≡ true
+each_below : (words : List Text) → list_all is_wide (map u64_of words) ≡ true
 each_below [] = refl
 each_below (word ∷ words) = all _ _ (wide_below word) (each_below words)
 
@@ -325,7 +323,7 @@ if_numbers false xs h = h
 
 pub numbers_below : (word : Text) → list_all is_wide (numbers_of word) ≡ true
 unfolding numbers_of
-numbers_below word = if_numbers (texts_equal word (codes "-")) (map wide_of (pieces_at 44 word)) (each_below (pieces_at 44 word))
+numbers_below word = if_numbers (texts_equal word (codes "-")) (map u64_of (pieces 44 word)) (each_below (pieces 44 word))
 
 heard_in_below : (words : List Text) → is_heard (heard_in words) ≡ true
 heard_in_below [] = refl
@@ -335,4 +333,4 @@ heard_in_below (answer ∷ version ∷ other ∷ others) = refl
 
 pub heard_below : (word : Text) → is_heard (heard_of word) ≡ true
 unfolding heard_of
-heard_below word = heard_in_below (pieces_at 64 word)
+heard_below word = heard_in_below (pieces 64 word)

@@ -3,28 +3,27 @@ use Rattle.std.proofs.Common.{◌≡◌, ℕ, ◌+◌, ◌/◌, ◌%◌, ◌==�
 use Rattle.std.specs.Prelude.{codes, decimal}
 use Rattle.std.specs.List.{list_all}
 use Rattle.tm_word.specs.Words.{Text}
-use Rattle.tm_word.specs.Spelling.{joined, spelling_of, spell}
-use Rattle.tm_pattern.specs.Reading.{word_of}
+use Rattle.tm_word.specs.Spelling.{joined, spelling_of, spell, spelled_word}
 use Rattle.tm_types.specs.declared.entry.Entry.{Entry}
 use Rattle.tm_types.specs.declared.step.Step.{Step}
 use Rattle.tm_types.specs.declared.step.LearnReply.{LearnReply}
 use Rattle.tm_types.specs.declared.step.Reply.{Reply}
 use Rattle.tm_types.specs.declared.step.Look.{Look}
 use Rattle.tm_types.specs.declared.step.Take.{Take}
-use Rattle.tm_rules.specs.Equality.{texts_equal}
+use Rattle.tm_word.specs.Texts.{texts_equal, is_solid, is_word}
 use Rattle.tm_domain.proofs.NameLaws.{same_texts}
-use Rattle.tm_line.specs.WholeWords.{is_solid, is_word}
 use Rattle.tm_line.proofs.Steps.{both, not_true}
-use Rattle.tm_line.proofs.SpellLaws.{word_again}
+use Rattle.tm_word.proofs.Spelled.{word_again}
 use Rattle.tm_line.proofs.WholeLaws.{word_from, spell_solid}
 use Rattle.tm_entry.specs.Entries.{entry_words, is_entry}
 use Rattle.tm_entry.proofs.EntryLaws.{entry_again}
 use Rattle.tm_entry.proofs.EntryText.{entry_are}
-use Rattle.tm_run.specs.Steps.{learn_text, step_text, step_line}
-use Rattle.tm_run.specs.RunText.{mode_text, reason_text, move_text, numbers_text, heard_text, verdict_text, learned_text, look_text, granted_text, domains_text, audit_word, audit_line, take_line}
+use Rattle.tm_run.specs.Steps.{step_text, step_line}
+use Rattle.tm_types.specs.Texts.{learn_text}
+use Rattle.tm_run.specs.RunText.{mode_word, reason_text, move_text, numbers_text, heard_text, verdict_text, learned_text, look_text, granted_text, domains_text, audit_word, audit_line, take_line}
 use Rattle.tm_run.specs.Reading.{step_of, take_begun, take_of, look_of, audit_of}
 use Rattle.tm_run.specs.Written.{is_plain, is_wide, is_step, is_reason, is_move, is_heard, is_look, is_audit}
-use Rattle.tm_run.proofs.TextLaws.{one_word, spells_more, spells_end, spells_joined, Line, last}
+use Rattle.tm_run.proofs.TextLaws.{one_word, spells_more, spells_joined, Line, last}
 use Rattle.tm_run.proofs.FieldLaws.{plain_wide, decimal_is, plain_is, wide_is, mode_is, reply_is, reason_is, move_is, numbers_are, heard_is, mode_again, reply_again, reason_again, move_again, numbers_again, heard_again}
 
 -- ---- steps
@@ -119,7 +118,7 @@ take_again number t a b c = rw (plain_is t.pid a, plain_is t.before b, plain_is 
 -- ---- looks
 
 unfoldable pub look_words : Look → List Text
-look_words look = decimal look.version ∷ mode_text look.mode ∷ reason_text look.reason ∷ move_text look.step ∷ numbers_text look.own ∷ heard_text look.heard ∷ []
+look_words look = decimal look.version ∷ mode_word look.mode ∷ reason_text look.reason ∷ move_text look.step ∷ numbers_text look.own ∷ heard_text look.heard ∷ []
 
 -- what a look that can be written has
 pub record LookParts (look : Look) : Type 0 where
@@ -141,17 +140,17 @@ pub look_line : (look : Look) → is_look look ≡ true → Line (look_text look
 unfolding look_words
 look_line look h =
     let p = look_parts look h in
-    let mode = one_word (mode_text look.mode) (mode_is look.mode) in
+    let mode = one_word (mode_word look.mode) (mode_is look.mode) in
     let reason = one_word (reason_text look.reason) (reason_is look.reason p.reason) in
     let move = one_word (move_text look.step) (move_is look.step p.move) in
     let own = one_word (numbers_text look.own) (numbers_are look.own p.own) in
     let heard = one_word (heard_text look.heard) (heard_is look.heard p.heard) in
-    let case = spells_more (mode_text look.mode) (reason_text look.reason) (mode_text look.mode ∷ []) (reason_text look.reason ∷ []) mode reason in
-    let verdict = spells_more (mode_text look.mode ++ 32 ∷ reason_text look.reason) (move_text look.step) (mode_text look.mode ∷ reason_text look.reason ∷ []) (move_text look.step ∷ []) case move in
+    let case = spells_more (mode_word look.mode) (reason_text look.reason) (mode_word look.mode ∷ []) (reason_text look.reason ∷ []) mode reason in
+    let verdict = spells_more (mode_word look.mode ++ 32 ∷ reason_text look.reason) (move_text look.step) (mode_word look.mode ∷ reason_text look.reason ∷ []) (move_text look.step ∷ []) case move in
     let made = spells_more (numbers_text look.own) (heard_text look.heard) (numbers_text look.own ∷ []) (heard_text look.heard ∷ []) own heard in
     let front = spells_more (codes "look") (decimal look.version) (codes "look" ∷ []) (decimal look.version ∷ []) (one_word (codes "look") refl) (one_word (decimal look.version) (decimal_is look.version p.version)) in
-    let most = spells_more (codes "look " ++ decimal look.version) (verdict_text look) (codes "look" ∷ decimal look.version ∷ []) (mode_text look.mode ∷ reason_text look.reason ∷ move_text look.step ∷ []) front verdict in
-    let whole = spells_more (codes "look " ++ decimal look.version ++ 32 ∷ verdict_text look) (learned_text look) (codes "look" ∷ decimal look.version ∷ mode_text look.mode ∷ reason_text look.reason ∷ move_text look.step ∷ []) (numbers_text look.own ∷ heard_text look.heard ∷ []) most made in
+    let most = spells_more (codes "look " ++ decimal look.version) (verdict_text look) (codes "look" ∷ decimal look.version ∷ []) (mode_word look.mode ∷ reason_text look.reason ∷ move_text look.step ∷ []) front verdict in
+    let whole = spells_more (codes "look " ++ decimal look.version ++ 32 ∷ verdict_text look) (learned_text look) (codes "look" ∷ decimal look.version ∷ mode_word look.mode ∷ reason_text look.reason ∷ move_text look.step ∷ []) (numbers_text look.own ∷ heard_text look.heard ∷ []) most made in
     last (codes "look " ++ decimal look.version ++ 32 ∷ verdict_text look ++ 32 ∷ learned_text look) (codes "look" ∷ look_words look) whole
 
 pub look_again : (look : Look) → is_look look ≡ true → look_of (codes "look" ∷ look_words look) ≡ Some look
@@ -167,7 +166,7 @@ spelled_first byte true b e f text = rw e (word_from 92 (92 ∷ text))
 spelled_first byte false true e f text = rw (e, f) (word_from byte text)
 spelled_first byte false false e f text = rw (e, f) (word_from 92 ((48 + byte / 64) ∷ (48 + byte / 8 % 8) ∷ (48 + byte % 8) ∷ text))
 
--- the words after `audit`: none where the text is empty
+-- the words after `audit`
 pub record AuditLine (audit : Option Text) : Type 0 where
   pub words : List Text
   pub line : Line (audit_line audit) (codes "audit" ∷ words)
@@ -181,28 +180,30 @@ one_audit audit h =
 some_text : (x y : Text) → Some x ≡ Some y → x ≡ y
 some_text x y e = cc
 
-text_by : (text : Text) (t : Bool) → texts_equal (spell text) (codes "-") ≡ t → texts_equal text (codes "-") ≡ false → list_all (λ byte. nat_lt byte 256) text ≡ true → audit_of (codes "audit" ∷ spell text ∷ []) ≡ Some text
+text_by : (text : Text) (t s : Bool) → texts_equal (spell text) (codes "-") ≡ t → texts_equal (spell text) [] ≡ s → texts_equal text (codes "-") ≡ false → texts_equal text [] ≡ false → list_all (λ byte. nat_lt byte 256) text ≡ true → audit_of (codes "audit" ∷ spell text ∷ []) ≡ Some text
 unfolding audit_of
-text_by text true e other bytes =
+text_by text true s e f other filled bytes =
     let dash : spell text ≡ spell (codes "-") = same_texts (spell text) (codes "-") e in
-    let same : text ≡ codes "-" = some_text text (codes "-") (sym (word_again text bytes) ∙ ap word_of dash ∙ word_again (codes "-") refl) in
+    let same : text ≡ codes "-" = some_text text (codes "-") (sym (word_again text bytes) ∙ ap spelled_word dash ∙ word_again (codes "-") refl) in
     let yes : texts_equal text (codes "-") ≡ true = rw same refl in
     absurd (let wrong : true ≡ false = sym yes ∙ other in cc)
-text_by text false e other bytes = rw e (word_again text bytes)
+text_by text false true e f other filled bytes =
+    let nothing : spell text ≡ spell [] = same_texts (spell text) [] f in
+    let same : text ≡ [] = some_text text [] (sym (word_again text bytes) ∙ ap spelled_word nothing ∙ word_again [] refl) in
+    let yes : texts_equal text [] ≡ true = rw same refl in
+    absurd (let wrong : true ≡ false = sym yes ∙ filled in cc)
+text_by text false false e f other filled bytes = rw (e, f) (word_again text bytes)
 
 pub audit_again : (audit : Option Text) → is_audit audit ≡ true → AuditLine audit
 unfolding audit_of
 audit_again None h = record { words = codes "-" ∷ []; line = one_audit None refl; reads = refl }
-audit_again (Some []) h = record {
-  words = [];
-  line = last (codes "audit ") (codes "audit" ∷ []) (spells_end (codes "audit") refl);
-  reads = refl;
-}
+audit_again (Some []) h = absurd cc
 audit_again (Some (b ∷ text)) h =
-    let t = both (list_all (λ byte. nat_lt byte 256) (b ∷ text)) (not (texts_equal (b ∷ text) (codes "-"))) h in
+    let s = both (list_all (λ byte. nat_lt byte 256) (b ∷ text) && not (texts_equal (b ∷ text) (codes "-"))) (not (texts_equal (b ∷ text) [])) h in
+    let t = both (list_all (λ byte. nat_lt byte 256) (b ∷ text)) (not (texts_equal (b ∷ text) (codes "-"))) s.0 in
     let word : is_word (spell (b ∷ text)) ≡ true = spelled_first b _ _ refl refl (spell text) (spell_solid (b ∷ text) t.0) in
     record {
       words = spell (b ∷ text) ∷ [];
       line = one_audit (Some (b ∷ text)) word;
-      reads = text_by (b ∷ text) _ refl (not_true (texts_equal (b ∷ text) (codes "-")) t.1) t.0;
+      reads = text_by (b ∷ text) _ _ refl refl (not_true (texts_equal (b ∷ text) (codes "-")) t.1) refl t.0;
     }

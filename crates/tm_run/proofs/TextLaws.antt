@@ -9,7 +9,7 @@ use Rattle.std.proofs.lemmas.List.Splits.{slice_split-cons_no, slice_split-cons_
 use Rattle.tm_word.specs.Words.{Text}
 use Rattle.tm_word.specs.Spelling.{is_separator, words_of, joined}
 use Rattle.tm_addr.proofs.Free.{Free, free_append}
-use Rattle.tm_line.specs.WholeWords.{is_solid, is_word}
+use Rattle.tm_word.specs.Texts.{is_solid, is_word}
 use Rattle.tm_line.proofs.Steps.{both, not_true}
 use Rattle.tm_line.proofs.WholeLaws.{words_again}
 use Rattle.tm_run.specs.Reading.{onto_line, lines_of}

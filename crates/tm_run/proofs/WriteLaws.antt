@@ -1,14 +1,13 @@
 -- What is read can be written, and is printed as the lines that were read.
-use Rattle.std.proofs.Common.{◌≡◌, ℕ, ◌+◌, Bool, true, false, cond, ◌&&◌, List, [], ◌∷◌, ◌++◌, length, Option, Some, None, Result, Ok, Err, refl, sym, ap, subst, ◌∙◌, arith, append_assoc}
+use Rattle.std.proofs.Common.{◌≡◌, ℕ, ◌+◌, Bool, true, false, cond, ◌&&◌, ◌||◌, List, [], ◌∷◌, ◌++◌, length, Option, Some, None, Result, Ok, Err, refl, sym, ap, subst, ◌∙◌, arith, append_assoc}
 use Rattle.std.specs.Prelude.{codes}
 use Rattle.std.specs.List.{list_all, flat_map, concat}
 use Rattle.std.proofs.lemmas.List.{append-nil, length-append}
 use Rattle.std.proofs.lemmas.List.Folds.{list_all-append}
 use Rattle.std.proofs.lemmas.Grind.{flat_map-append}
 use Rattle.tm_word.specs.Words.{Text}
-use Rattle.tm_word.specs.Spelling.{words_of, spell}
-use Rattle.tm_pattern.specs.Reading.{word_of}
-use Rattle.tm_pattern.proofs.LexLaws.{word_found}
+use Rattle.tm_word.specs.Spelling.{words_of, spell, spelled_word}
+use Rattle.tm_word.proofs.Spelled.{word_found, word_small}
 use Rattle.tm_types.specs.declared.entry.Entry.{Entry}
 use Rattle.tm_types.specs.declared.entry.LineKind.{LineKind}
 use Rattle.tm_types.specs.declared.step.Step.{Step}
@@ -16,16 +15,15 @@ use Rattle.tm_types.specs.declared.step.Reply.{Reply}
 use Rattle.tm_types.specs.declared.step.Look.{Look}
 use Rattle.tm_types.specs.declared.step.Take.{Take}
 use Rattle.tm_types.specs.declared.step.Run.{Run}
-use Rattle.tm_rules.specs.Equality.{texts_equal}
+use Rattle.tm_word.specs.Texts.{texts_equal}
 use Rattle.tm_domain.proofs.NameLaws.{same_texts}
 use Rattle.tm_line.proofs.Steps.{both, all, to_not}
-use Rattle.tm_line.proofs.SpellLaws.{word_small}
 use Rattle.tm_entry.specs.Entries.{entry_of}
 use Rattle.tm_entry.proofs.EntryLaws.{entry_read}
 use Rattle.tm_run.specs.declared.reading.Reading.{Reading}
 use Rattle.tm_run.specs.Steps.{step_line, steps_text}
 use Rattle.tm_run.specs.RunText.{look_text, audit_line, take_line, take_text, takes_text, run_text}
-use Rattle.tm_run.specs.Fields.{plain_of, reply_of}
+use Rattle.tm_run.specs.Fields.{u32_of, reply_of}
 use Rattle.tm_run.specs.Reading.{learned, step_of, take_of, look_of, audit_of, has_number, with_step, with_take, with_look, with_audit, is_empty, starts, line_read, lines_of, fresh, go_on, run_from, run_in, run_of}
 use Rattle.tm_run.specs.Written.{is_plain, is_wide, is_step, is_look, is_audit, is_take, is_written}
 use Rattle.tm_run.proofs.TextLaws.{IsLine, lines_joined}
@@ -38,9 +36,9 @@ use Rattle.tm_run.proofs.ReadLaws.{reading}
 some_is : {A : Type 0} (x y : A) → Some x ≡ Some y → x ≡ y
 some_is x y e = cc
 
-learned_is : (domain reply : Text) (r : Result Entry LineKind) (words : List Text) (pair : Step × Reply) → entry_of words ≡ r → learned (plain_of domain) reply r ≡ Some pair → is_step pair ≡ true
+learned_is : (domain reply : Text) (r : Result Entry LineKind) (words : List Text) (pair : Step × Reply) → entry_of words ≡ r → learned (u32_of domain) reply r ≡ Some pair → is_step pair ≡ true
 learned_is domain reply (Ok entry) words pair e f =
-    let same : (Step.Learn (plain_of domain) entry, Reply.Learn (reply_of reply)) ≡ pair = some_is _ _ f in
+    let same : (Step.Learn (u32_of domain) entry, Reply.Learn (reply_of reply)) ≡ pair = some_is _ _ f in
     subst (λ (p : Step × Reply). is_step p ≡ true) same (all _ _ (all _ _ (plain_below domain) (entry_read words entry e)) refl)
 learned_is domain reply (Err kind) words pair e f = absurd cc
 
@@ -89,11 +87,18 @@ look_is (a ∷ b ∷ c ∷ d ∷ f ∷ g ∷ h ∷ []) look e =
     (all _ _ (all _ _ (all _ _ (all _ _ (wide_below b) (reason_below d)) (move_below f)) (numbers_below g)) (heard_below h))
 look_is (a ∷ b ∷ c ∷ d ∷ f ∷ g ∷ h ∷ i ∷ words) look e = absurd cc
 
--- a spelled word that isn't `-` isn't read as `-`
-word_is : (word : Text) (r : Option Text) → word_of word ≡ r → texts_equal word (codes "-") ≡ false → is_audit r ≡ true
-word_is word None e h = refl
-word_is word (Some text) e h = all _ _ (word_small word text e) (to_not _ (undashed (texts_equal text (codes "-")) refl))
+-- a spelled word that isn't `-` isn't read as `-`, and one that isn't empty isn't read as empty
+word_is : (word : Text) (r : Option Text) → spelled_word word ≡ r → texts_equal word (codes "-") ≡ false → texts_equal word [] ≡ false → is_audit r ≡ true
+word_is word None e h k = refl
+word_is word (Some text) e h k = all _ _ (all _ _ (word_small word text e) (to_not _ (undashed (texts_equal text (codes "-")) refl))) (to_not _ (filled (texts_equal text []) refl))
   where
+    filled : (t : Bool) → texts_equal text [] ≡ t → t ≡ false
+    filled true l =
+        let same : word ≡ [] = word_found word text e ∙ ap spell (same_texts text [] l) in
+        let yes : texts_equal word [] ≡ true = rw same refl in
+        absurd (let wrong : true ≡ false = sym yes ∙ k in cc)
+    filled false l = refl
+
     undashed : (t : Bool) → texts_equal text (codes "-") ≡ t → t ≡ false
     undashed true k =
         let same : word ≡ codes "-" = word_found word text e ∙ ap spell (same_texts text (codes "-") k) in
@@ -101,15 +106,16 @@ word_is word (Some text) e h = all _ _ (word_small word text e) (to_not _ (undas
         absurd (let wrong : true ≡ false = sym yes ∙ h in cc)
     undashed false k = refl
 
-dash_or_word : (word : Text) (t : Bool) → texts_equal word (codes "-") ≡ t → is_audit (cond t None (word_of word)) ≡ true
-dash_or_word word true e = refl
-dash_or_word word false e = word_is word (word_of word) refl e
+dash_or_word : (word : Text) (t s : Bool) → texts_equal word (codes "-") ≡ t → texts_equal word [] ≡ s → is_audit (cond (t || s) None (spelled_word word)) ≡ true
+dash_or_word word true s e f = refl
+dash_or_word word false true e f = refl
+dash_or_word word false false e f = word_is word (spelled_word word) refl e f
 
 pub audit_is : (words : List Text) → is_audit (audit_of words) ≡ true
 unfolding audit_of
 audit_is [] = refl
 audit_is (a ∷ []) = refl
-audit_is (a ∷ b ∷ []) = dash_or_word b (texts_equal b (codes "-")) refl
+audit_is (a ∷ b ∷ []) = dash_or_word b (texts_equal b (codes "-")) (texts_equal b []) refl refl
 audit_is (a ∷ b ∷ c ∷ words) = refl
 
 -- ---- what has been read, and its text

@@ -1,9 +1,7 @@
 -- The fields of a line of a run, each one word. A word that a field can't have is read as some value all the same: what is read counts only
 -- where its printed line is the line that was read.
-use Rattle.std.specs.Prelude.{ℕ, ◌^◌, ◌==◌, if◌then◌else◌, List, [], ◌∷◌, codes, map, Option, Some, None, Result, Ok, Err}
-use Rattle.std.specs.List.{slice_split}
+use Rattle.std.specs.Prelude.{ℕ, ◌^◌, if◌then◌else◌, List, [], ◌∷◌, codes, map, Option, Some, None}
 use Rattle.tm_word.specs.Words.{Text}
-use Rattle.tm_types.specs.declared.entry.LineKind.{LineKind}
 use Rattle.tm_types.specs.declared.policy.Mode.{Mode}
 use Rattle.tm_types.specs.declared.verdict.EntryPlace.{EntryPlace}
 use Rattle.tm_types.specs.declared.verdict.Reason.{Reason}
@@ -11,33 +9,29 @@ use Rattle.tm_types.specs.declared.verdict.Move.{Move}
 use Rattle.tm_types.specs.declared.step.Answered.{Answered}
 use Rattle.tm_types.specs.declared.step.Heard.{Heard}
 use Rattle.tm_types.specs.declared.step.LearnReply.{LearnReply}
-use Rattle.tm_rules.specs.Equality.{texts_equal}
-use Rattle.tm_line.specs.Arguments.{plain_word}
+use Rattle.tm_word.specs.Texts.{texts_equal, pieces}
+use Rattle.tm_number.specs.Numbers.{plain_of}
 
 -- the number that was read, and 0 where none was
-abbrev pub or_zero : Result ℕ LineKind → ℕ
-or_zero (Ok number) = number
-or_zero (Err kind) = 0
+abbrev pub or_zero : Option ℕ → ℕ
+or_zero (Some number) = number
+or_zero None = 0
 
 -- a plain number below a limit
 unfoldable pub number_of : ℕ → Text → ℕ
-number_of limit word = or_zero (plain_word limit word)
+number_of limit word = or_zero (plain_of limit word)
 
 -- a number of 8 bits
-abbrev pub small_of : Text → ℕ
-small_of = number_of 256
+abbrev pub u8_of : Text → ℕ
+u8_of = number_of 256
 
 -- a number of 32 bits
-abbrev pub plain_of : Text → ℕ
-plain_of = number_of (2 ^ 32)
+abbrev pub u32_of : Text → ℕ
+u32_of = number_of (2 ^ 32)
 
 -- a number of 64 bits
-abbrev pub wide_of : Text → ℕ
-wide_of = number_of (2 ^ 64)
-
--- what stands between these bytes of a word
-abbrev pub pieces_at : ℕ → Text → List Text
-pieces_at byte word = slice_split (λ b. b == byte) word
+abbrev pub u64_of : Text → ℕ
+u64_of = number_of (2 ^ 64)
 
 -- a mode's word, and `none` for a manual transition
 unfoldable pub mode_of : Text → Option Mode
@@ -53,13 +47,13 @@ case_of word =
 abbrev pub reason_in : List Text → Reason
 reason_in [] = Reason.NoManual
 reason_in (word ∷ []) = case_of word
-reason_in (word ∷ place ∷ []) = Reason.Entry (EntryPlace.Own (plain_of place))
-reason_in (word ∷ group ∷ place ∷ []) = Reason.Entry (EntryPlace.Acl (small_of group) (plain_of place))
+reason_in (word ∷ place ∷ []) = Reason.Entry (EntryPlace.Own (u32_of place))
+reason_in (word ∷ group ∷ place ∷ []) = Reason.Entry (EntryPlace.Acl (u8_of group) (u32_of place))
 reason_in (word ∷ group ∷ place ∷ other ∷ others) = Reason.NoManual
 
 -- a reason's word, cut at its colons
 unfoldable pub reason_of : Text → Reason
-reason_of word = reason_in (pieces_at 58 word)
+reason_of word = reason_in (pieces 58 word)
 
 -- a move's word
 unfoldable pub way_of : Text → Move
@@ -69,16 +63,16 @@ way_of word = if texts_equal word (codes "stay") then Move.Stay else (if texts_e
 abbrev pub move_in : List Text → Move
 move_in [] = Move.Fail
 move_in (word ∷ []) = way_of word
-move_in (word ∷ domain ∷ []) = Move.Enter (plain_of domain)
+move_in (word ∷ domain ∷ []) = Move.Enter (u32_of domain)
 move_in (word ∷ domain ∷ other ∷ others) = Move.Fail
 
 -- a move's word, cut at its colons
 unfoldable pub move_of : Text → Move
-move_of word = move_in (pieces_at 58 word)
+move_of word = move_in (pieces 58 word)
 
 -- numbers between commas, and `-` for none
 unfoldable pub numbers_of : Text → List ℕ
-numbers_of word = if texts_equal word (codes "-") then [] else map wide_of (pieces_at 44 word)
+numbers_of word = if texts_equal word (codes "-") then [] else map u64_of (pieces 44 word)
 
 -- what became of the query; `nobody` where no supervisor was attached
 unfoldable pub answer_of : Text → Option Answered
@@ -93,12 +87,12 @@ heard answer version = record { answer = answer; version = version }
 abbrev pub heard_in : List Text → Option Heard
 heard_in [] = None
 heard_in (word ∷ []) = None
-heard_in (answer ∷ version ∷ []) = Some (heard (answer_of answer) (wide_of version))
+heard_in (answer ∷ version ∷ []) = Some (heard (answer_of answer) (u64_of version))
 heard_in (answer ∷ version ∷ other ∷ others) = None
 
 -- what was learned, cut at its `@`
 unfoldable pub heard_of : Text → Option Heard
-heard_of word = heard_in (pieces_at 64 word)
+heard_of word = heard_in (pieces 64 word)
 
 -- what became of a learned line
 unfoldable pub reply_of : Text → LearnReply

@@ -1,8 +1,7 @@
 -- What reading the text of a run gives.
-use Rattle.std.specs.Prelude.{◌≡◌, ℕ, ◌+◌, ◌^◌, ◌==◌, nat_lt, Bool, true, false, ◌&&◌, if◌then◌else◌, List, [], ◌∷◌, ◌++◌, length, codes, Option, Some, None, Result, Ok, Err}
+use Rattle.std.specs.Prelude.{ℕ, ◌+◌, ◌^◌, ◌==◌, nat_lt, Bool, true, false, ◌||◌, ◌&&◌, if◌then◌else◌, List, [], ◌∷◌, ◌++◌, length, codes, Option, Some, None, Result, Ok, Err}
 use Rattle.tm_word.specs.Words.{Text}
-use Rattle.tm_word.specs.Spelling.{words_of}
-use Rattle.tm_pattern.specs.Reading.{word_of}
+use Rattle.tm_word.specs.Spelling.{words_of, spelled_word}
 use Rattle.tm_types.specs.declared.entry.Entry.{Entry}
 use Rattle.tm_types.specs.declared.entry.LineKind.{LineKind}
 use Rattle.tm_types.specs.declared.step.Step.{Step}
@@ -11,18 +10,17 @@ use Rattle.tm_types.specs.declared.step.Look.{Look}
 use Rattle.tm_types.specs.declared.step.Take.{Take}
 use Rattle.tm_types.specs.declared.step.Run.{Run}
 use Rattle.tm_types.specs.declared.step.RunFault.{RunFault}
-use Rattle.tm_rules.specs.Equality.{texts_equal}
+use Rattle.tm_word.specs.Texts.{texts_equal}
 use Rattle.tm_entry.specs.Entries.{entry_of}
 use Rattle.tm_run.specs.declared.reading.Reading.{Reading}
 use Rattle.tm_run.specs.Steps.{step_line}
 use Rattle.tm_run.specs.RunText.{take_line, look_text, audit_line}
-use Rattle.tm_run.specs.Fields.{plain_of, wide_of, mode_of, reason_of, move_of, numbers_of, heard_of, reply_of}
+use Rattle.tm_run.specs.Fields.{u32_of, u64_of, mode_of, reason_of, move_of, numbers_of, heard_of, reply_of}
 
--- What a call returned is what reading gives, unless memory ran out.
-abbrev pub Gives : Result Run RunFault → Result Run ℕ → Type 0
-Gives (Ok run) read = read ≡ Ok run
-Gives (Err (RunFault.BadLine line)) read = read ≡ Err line
-Gives (Err RunFault.NoMemory) read = Unit {0}
+-- the line of a fault; want of memory has none
+abbrev pub run_cause : RunFault → Option ℕ
+run_cause RunFault.NoMemory = None
+run_cause (RunFault.BadLine line) = Some line
 
 -- ---- what the words of a line say
 
@@ -33,7 +31,7 @@ learned domain reply (Err kind) = None
 
 -- `step`, a number, a reply, `learn`, a domain, and an entry's words
 unfoldable pub step_of : List Text → Option (Step × Reply)
-step_of (first ∷ number ∷ reply ∷ word ∷ domain ∷ words) = learned (plain_of domain) reply (entry_of words)
+step_of (first ∷ number ∷ reply ∷ word ∷ domain ∷ words) = learned (u32_of domain) reply (entry_of words)
 step_of _ = None
 
 -- a take before its first look
@@ -42,19 +40,18 @@ take_begun pid before after granted = record { pid = pid; before = before; after
 
 -- `take`, a number, a process, two domains and an answer
 unfoldable pub take_of : List Text → Option Take
-take_of (first ∷ number ∷ pid ∷ before ∷ after ∷ answer ∷ []) = Some (take_begun (plain_of pid) (plain_of before) (plain_of after) (texts_equal answer (codes "granted")))
+take_of (first ∷ number ∷ pid ∷ before ∷ after ∷ answer ∷ []) = Some (take_begun (u32_of pid) (u32_of before) (u32_of after) (texts_equal answer (codes "granted")))
 take_of _ = None
 
 -- `look`, a version, a mode, a reason, a move, numbers of steps, and what was learned
 unfoldable pub look_of : List Text → Option Look
 look_of (first ∷ version ∷ mode ∷ reason ∷ move ∷ own ∷ learned_ ∷ []) =
-    Some (record { version = wide_of version; mode = mode_of mode; reason = reason_of reason; step = move_of move; own = numbers_of own; heard = heard_of learned_ })
+    Some (record { version = u64_of version; mode = mode_of mode; reason = reason_of reason; step = move_of move; own = numbers_of own; heard = heard_of learned_ })
 look_of _ = None
 
--- `audit`, and `-` or a spelled word; no word spells the empty text
+-- `audit`, and `-` or a spelled word, which isn't empty
 unfoldable pub audit_of : List Text → Option Text
-audit_of (first ∷ []) = Some []
-audit_of (first ∷ word ∷ []) = if texts_equal word (codes "-") then None else word_of word
+audit_of (first ∷ word ∷ []) = if texts_equal word (codes "-") || texts_equal word [] then None else spelled_word word
 audit_of _ = None
 
 -- ---- one line more

@@ -12,15 +12,13 @@ use Rattle.tm_types.specs.declared.step.Heard.{Heard}
 use Rattle.tm_types.specs.declared.step.Look.{Look}
 use Rattle.tm_types.specs.declared.step.Take.{Take}
 use Rattle.tm_types.specs.declared.step.Run.{Run}
+use Rattle.tm_types.specs.Texts.{mode_text}
 use Rattle.tm_run.specs.Steps.{steps_text}
 
 -- a mode's word, and `none` for a manual transition
-abbrev pub mode_text : Option Mode → Text
-mode_text None = codes "none"
-mode_text (Some Mode.Disabled) = codes "disabled"
-mode_text (Some Mode.Learning) = codes "learning"
-mode_text (Some Mode.Permissive) = codes "permissive"
-mode_text (Some Mode.Enforcing) = codes "enforcing"
+abbrev pub mode_word : Option Mode → Text
+mode_word None = codes "none"
+mode_word (Some mode) = mode_text mode
 
 -- an entry's place in the domain's own list, or the ACL group and the place in its list, from 0
 abbrev pub place_text : EntryPlace → Text
@@ -66,7 +64,7 @@ heard_text (Some heard) = answer_text heard.answer ++ 64 ∷ decimal heard.versi
 
 -- the mode, the reason and the move of a look
 abbrev pub verdict_text : Look → Text
-verdict_text look = mode_text look.mode ++ 32 ∷ reason_text look.reason ++ 32 ∷ move_text look.step
+verdict_text look = mode_word look.mode ++ 32 ∷ reason_text look.reason ++ 32 ∷ move_text look.step
 
 -- the steps that a look made itself, and what it learned
 abbrev pub learned_text : Look → Text

@@ -2,23 +2,13 @@
 use Rattle.std.specs.Prelude.{ℕ, ◌+◌, Bool, true, false, List, [], ◌∷◌, ◌++◌, Option, Some, None, decimal, codes}
 use Rattle.tm_word.specs.Words.{Text}
 use Rattle.tm_word.specs.Spelling.{joined}
-use Rattle.tm_types.specs.declared.entry.LineKind.{LineKind}
-use Rattle.tm_types.specs.declared.step.FileKind.{FileKind}
 use Rattle.tm_types.specs.declared.step.Step.{Step}
-use Rattle.tm_types.specs.declared.step.LearnReply.{LearnReply}
 use Rattle.tm_types.specs.declared.step.MakeReply.{MakeReply}
-use Rattle.tm_types.specs.declared.step.EditReply.{EditReply}
 use Rattle.tm_types.specs.declared.step.Held.{Held}
 use Rattle.tm_types.specs.declared.step.AnswerFault.{AnswerFault}
 use Rattle.tm_types.specs.declared.step.Reply.{Reply}
+use Rattle.tm_types.specs.Texts.{policy_text, edit_text, learn_text}
 use Rattle.tm_entry.specs.Entries.{entry_words}
-
--- what became of a learned line
-abbrev pub learn_text : LearnReply → Text
-learn_text LearnReply.Added = codes "added"
-learn_text LearnReply.There = codes "there"
-learn_text LearnReply.Quota = codes "quota"
-learn_text LearnReply.Mode = codes "mode"
 
 -- the number of the new domain, or of the live one of that name
 abbrev pub make_text : MakeReply → Text
@@ -47,28 +37,6 @@ abbrev pub change_text : Bool → Text
 change_text true = codes "done"
 change_text false = codes "was"
 
--- a kind of wrong word by its name
-abbrev pub kind_text : LineKind → Text
-kind_text LineKind.Keyword = codes "keyword"
-kind_text LineKind.Arity = codes "arity"
-kind_text LineKind.Name = codes "name"
-kind_text LineKind.Number = codes "number"
-kind_text LineKind.Address = codes "address"
-kind_text LineKind.Domain = codes "domain"
-kind_text LineKind.Condition = codes "condition"
-kind_text LineKind.Profile = codes "profile"
-kind_text LineKind.Version = codes "version"
-kind_text LineKind.KernelDomain = codes "kernel_domain"
-
--- what became of a policy line; a bad one has its kind
-abbrev pub edit_text : EditReply → Text
-edit_text EditReply.Done = codes "done"
-edit_text EditReply.NotManager = codes "not_manager"
-edit_text (EditReply.BadLine kind) = codes "bad:" ++ kind_text kind
-edit_text EditReply.NoDomain = codes "no_domain"
-edit_text EditReply.NoProfile = codes "no_profile"
-edit_text EditReply.NoSuchLine = codes "no_line"
-
 -- the word of a reply
 abbrev pub reply_text : Reply → Text
 reply_text (Reply.Learn reply) = learn_text reply
@@ -81,13 +49,6 @@ reply_text (Reply.Detach changed) = change_text changed
 reply_text (Reply.Edit reply) = edit_text reply
 reply_text Reply.End = codes "done"
 
--- the name of a policy file
-abbrev pub file_text : FileKind → Text
-file_text FileKind.Profile = codes "profile"
-file_text FileKind.Exception = codes "exception_policy"
-file_text FileKind.Domain = codes "domain_policy"
-file_text FileKind.Manager = codes "manager"
-
 -- the words of a step: its domain, editor or tree by number, an entry by its line, and a name or another line as it is
 abbrev pub step_text : Step → Text
 step_text (Step.Learn domain entry) = codes "learn " ++ decimal domain ++ 32 ∷ joined (entry_words entry)
@@ -97,7 +58,7 @@ step_text (Step.Ask domain retry line) = codes "ask " ++ decimal domain ++ 32 �
 step_text (Step.Answer serial code) = codes "answer " ++ decimal serial ++ 32 ∷ decimal code
 step_text Step.Attach = codes "attach"
 step_text Step.Detach = codes "detach"
-step_text (Step.Edit editor file line) = codes "edit " ++ decimal editor ++ 32 ∷ file_text file ++ 32 ∷ line
+step_text (Step.Edit editor file line) = codes "edit " ++ decimal editor ++ 32 ∷ policy_text file ++ 32 ∷ line
 step_text (Step.End tree) = codes "end " ++ decimal tree
 
 -- the line of the step with that number: its reply, and its words

@@ -1,5 +1,5 @@
 -- The runs that a text can write.
-use Rattle.std.specs.Prelude.{ℕ, ◌^◌, nat_lt, Bool, true, false, not, ◌&&◌, length, codes, Option, Some, None}
+use Rattle.std.specs.Prelude.{ℕ, ◌^◌, nat_lt, Bool, true, false, not, ◌&&◌, [], length, codes, Option, Some, None}
 use Rattle.std.specs.List.{list_all}
 use Rattle.tm_word.specs.Words.{Text}
 use Rattle.tm_types.specs.declared.verdict.EntryPlace.{EntryPlace}
@@ -11,7 +11,7 @@ use Rattle.tm_types.specs.declared.step.Reply.{Reply}
 use Rattle.tm_types.specs.declared.step.Look.{Look}
 use Rattle.tm_types.specs.declared.step.Take.{Take}
 use Rattle.tm_types.specs.declared.step.Run.{Run}
-use Rattle.tm_rules.specs.Equality.{texts_equal}
+use Rattle.tm_word.specs.Texts.{texts_equal}
 use Rattle.tm_entry.specs.Entries.{is_entry}
 
 -- a number of 32 bits
@@ -59,10 +59,10 @@ is_heard (Some heard) = is_wide heard.version
 abbrev pub is_look : Look → Bool
 is_look look = is_wide look.version && is_reason look.reason && is_move look.step && list_all is_wide look.own && is_heard look.heard
 
--- an audit text is made of bytes, and isn't `-`, which stands for none
+-- an audit text is made of bytes, at least one, and isn't `-`, which stands for none
 abbrev pub is_audit : Option Text → Bool
 is_audit None = true
-is_audit (Some text) = list_all (λ byte. nat_lt byte 256) text && not (texts_equal text (codes "-"))
+is_audit (Some text) = list_all (λ byte. nat_lt byte 256) text && not (texts_equal text (codes "-")) && not (texts_equal text [])
 
 -- a take with all its numbers in their ranges, its looks, and an audit text that can be told from none
 abbrev pub is_take : Take → Bool

@@ -1,91 +1,52 @@
 //! The fields of a line of a run, each one word.
-ghost use Rattle.std.specs.Prelude.{◌≡◌, ◌==◌, ◌<◌, ◌∷◌, [], length, map, IfOk, MatchOption};
-ghost use Rattle.std.specs.List.{position};
-ghost use Rattle.tm_run.specs.Fields.{small_of, plain_of, wide_of, pieces_at, mode_of, case_of, reason_of, way_of, move_of, numbers_of, answer_of, heard_of, reply_of};
+ghost use Rattle.std.specs.Prelude.{◌≡◌, map, IfOk};
+ghost use Rattle.tm_word.specs.Texts.{pieces};
+ghost use Rattle.tm_run.specs.Fields.{u8_of, u32_of, u64_of, mode_of, case_of, reason_of, way_of, move_of, numbers_of, answer_of, heard_of, reply_of};
 
 use std::alloc::Global;
 use tm_list::{NoMemory, Seq};
-use tm_number::{Base, read_number};
-use tm_rules::bytes_equal;
+use tm_number::plain_number;
 use tm_types::policy::Mode;
 use tm_types::step::{Answered, Heard, LearnReply};
 use tm_types::verdict::{EntryPlace, Move, Reason};
-use tm_word::Text;
+use tm_word::{Text, bytes_equal, cut_at};
 
-#[tactic(auto, unfolding(crate::specs::Fields::number_of, tm_line::specs::Arguments::plain_word))]
-fn small_of(word: &[u8]) -> u8
-    ensures { result ≡ small_of word.now }
+// A plain number of 8 bits, or 0.
+#[tactic(auto, unfolding(crate::specs::Fields::number_of))]
+fn u8_of(word: &[u8]) -> u8
+    ensures { result ≡ u8_of word.now }
 {
-    match read_number(word) {
-        Ok(number) => match number.base {
-            Base::Decimal => {
-                if number.value < 256 {
-                    number.value as u8
-                } else {
-                    0
-                }
-            }
-            Base::Octal => 0,
-            Base::Hex => 0,
-        },
-        Err(_) => 0,
+    match plain_number(256, word) {
+        Some(number) => number as u8,
+        None => 0,
     }
 }
 
-#[tactic(auto, unfolding(crate::specs::Fields::number_of, tm_line::specs::Arguments::plain_word))]
-pub(crate) fn plain_of(word: &[u8]) -> u32
-    ensures { result ≡ plain_of word.now }
+// A plain number of 32 bits, or 0.
+#[tactic(auto, unfolding(crate::specs::Fields::number_of))]
+pub(crate) fn u32_of(word: &[u8]) -> u32
+    ensures { result ≡ u32_of word.now }
 {
-    match read_number(word) {
-        Ok(number) => match number.base {
-            Base::Decimal => {
-                if number.value < 4294967296 {
-                    number.value as u32
-                } else {
-                    0
-                }
-            }
-            Base::Octal => 0,
-            Base::Hex => 0,
-        },
-        Err(_) => 0,
+    match plain_number(1 << 32, word) {
+        Some(number) => number as u32,
+        None => 0,
     }
 }
 
-#[tactic(auto, unfolding(crate::specs::Fields::number_of, tm_line::specs::Arguments::plain_word))]
-pub(crate) fn wide_of(word: &[u8]) -> u64
-    ensures { result ≡ wide_of word.now }
+// A plain number of 64 bits, or 0.
+#[tactic(auto, unfolding(crate::specs::Fields::number_of))]
+pub(crate) fn u64_of(word: &[u8]) -> u64
+    ensures { result ≡ u64_of word.now }
 {
-    match read_number(word) {
-        Ok(number) => match number.base {
-            Base::Decimal => number.value,
-            Base::Octal => 0,
-            Base::Hex => 0,
-        },
-        Err(_) => 0,
-    }
-}
-
-// Where a byte stands first.
-pub(crate) fn place_of(byte: u8, text: &[u8]) -> Option<usize>
-    ensures { result ≡ position (λ b. b == byte) text.now }
-{
-    text.iter().position(|found| *found == byte)
-}
-
-// The text before and after the first such byte.
-fn cut_at(byte: u8, text: &[u8]) -> Option<(&[u8], &[u8])>
-    ensures { MatchOption result (pieces_at byte text.now ≡ text.now ∷ []) (λ cut. (pieces_at byte text.now ≡ cut.0.now ∷ pieces_at byte cut.1.now) × (length cut.1.now < length text.now)) }
-{
-    match place_of(byte, text) {
-        Some(place) => Some((&text[..place], &text[place + 1..])),
-        None => None,
+    match plain_number(1 << 64, word) {
+        Some(number) => number,
+        None => 0,
     }
 }
 
 // What stands between these bytes of a word.
-fn pieces_at(alloc: Global, byte: u8, word: &[u8]) -> Result<Vec<Text>, NoMemory>
-    ensures { IfOk result (λ made. made.items ≡ pieces_at byte word.now) }
+fn pieces(alloc: Global, byte: u8, word: &[u8]) -> Result<Vec<Text>, NoMemory>
+    ensures { IfOk result (λ made. made.items ≡ pieces byte word.now) }
 {
     let mut made = Vec::new(alloc);
     let mut rest = word;
@@ -148,13 +109,13 @@ fn case_of(word: &[u8]) -> Reason
 pub(crate) fn reason_of(alloc: Global, word: &[u8]) -> Result<Reason, NoMemory>
     ensures { IfOk result (λ reason. reason ≡ reason_of word.now) }
 {
-    let pieces = pieces_at(alloc, b':', word)?;
-    match pieces.as_slice() {
+    let found = pieces(alloc, b':', word)?;
+    match found.as_slice() {
         [word] => Ok(case_of(word.bytes())),
-        [_, place] => Ok(Reason::Entry(EntryPlace::Own(plain_of(place.bytes())))),
+        [_, place] => Ok(Reason::Entry(EntryPlace::Own(u32_of(place.bytes())))),
         [_, group, place] => Ok(Reason::Entry(EntryPlace::Acl(
-            small_of(group.bytes()),
-            plain_of(place.bytes()),
+            u8_of(group.bytes()),
+            u32_of(place.bytes()),
         ))),
         [] => Ok(Reason::NoManual),
         [_, _, _, _, ..] => Ok(Reason::NoManual),
@@ -178,10 +139,10 @@ fn way_of(word: &[u8]) -> Move
 pub(crate) fn move_of(alloc: Global, word: &[u8]) -> Result<Move, NoMemory>
     ensures { IfOk result (λ step. step ≡ move_of word.now) }
 {
-    let pieces = pieces_at(alloc, b':', word)?;
-    match pieces.as_slice() {
+    let found = pieces(alloc, b':', word)?;
+    match found.as_slice() {
         [word] => Ok(way_of(word.bytes())),
-        [_, domain] => Ok(Move::Enter(plain_of(domain.bytes()))),
+        [_, domain] => Ok(Move::Enter(u32_of(domain.bytes()))),
         [] => Ok(Move::Fail),
         [_, _, _, ..] => Ok(Move::Fail),
     }
@@ -189,11 +150,11 @@ pub(crate) fn move_of(alloc: Global, word: &[u8]) -> Result<Move, NoMemory>
 
 // The numbers between the commas of a word.
 fn listed(alloc: Global, pieces: &[Text]) -> Result<Seq<u64>, NoMemory>
-    ensures { IfOk result (λ numbers. numbers ≡ map wide_of pieces.now) }
+    ensures { IfOk result (λ numbers. numbers ≡ map u64_of pieces.now) }
 {
     let mut numbers = Seq::new(alloc);
     for piece in pieces {
-        numbers.push(wide_of(piece.bytes()))?;
+        numbers.push(u64_of(piece.bytes()))?;
     }
     Ok(numbers)
 }
@@ -205,8 +166,8 @@ pub(crate) fn numbers_of(alloc: Global, word: &[u8]) -> Result<Seq<u64>, NoMemor
     if bytes_equal(word, b"-") {
         return Ok(Seq::new(alloc));
     }
-    let pieces = pieces_at(alloc, b',', word)?;
-    listed(alloc, &pieces)
+    let found = pieces(alloc, b',', word)?;
+    listed(alloc, &found)
 }
 
 #[tactic(auto, unfolding(crate::specs::Fields::answer_of))]
@@ -232,11 +193,11 @@ fn answer_of(word: &[u8]) -> Option<Answered>
 pub(crate) fn heard_of(alloc: Global, word: &[u8]) -> Result<Option<Heard>, NoMemory>
     ensures { IfOk result (λ heard. heard ≡ heard_of word.now) }
 {
-    let pieces = pieces_at(alloc, b'@', word)?;
-    match pieces.as_slice() {
+    let found = pieces(alloc, b'@', word)?;
+    match found.as_slice() {
         [answer, version] => Ok(Some(Heard {
             answer: answer_of(answer.bytes()),
-            version: wide_of(version.bytes()),
+            version: u64_of(version.bytes()),
         })),
         [] => Ok(None),
         [_] => Ok(None),

@@ -2,16 +2,12 @@
 ghost use Rattle.std.specs.Prelude.{◌≡◌, IfOk};
 ghost use Rattle.tm_run.specs.Reading.{step_of, take_of, look_of, audit_of};
 
-use crate::fields::{
-    heard_of, mode_of, move_of, numbers_of, plain_of, reason_of, reply_of, wide_of,
-};
+use crate::fields::{heard_of, mode_of, move_of, numbers_of, reason_of, reply_of, u32_of, u64_of};
 use std::alloc::{AllocError, Global};
 use tm_entry::read_entry;
 use tm_list::{NoMemory, Seq};
-use tm_pattern::spelled_word;
-use tm_rules::bytes_equal;
 use tm_types::step::{LineFault, Look, Reply, Step, Take};
-use tm_word::Text;
+use tm_word::{Text, bytes_equal, spelled_word};
 
 // A learned line with its reply, where the words after its domain are an entry.
 #[tactic(auto, unfolding(crate::specs::Reading::step_of))]
@@ -21,7 +17,7 @@ pub(crate) fn step_of(alloc: Global, words: &[Text]) -> Result<Option<(Step, Rep
     match words {
         [_, _, reply, _, domain, rest @ ..] => match read_entry(alloc, rest) {
             Ok(entry) => {
-                let step = Step::Learn(plain_of(domain.bytes()), entry);
+                let step = Step::Learn(u32_of(domain.bytes()), entry);
                 Ok(Some((step, Reply::Learn(reply_of(reply.bytes())))))
             }
             Err(LineFault::Kind(_)) => Ok(None),
@@ -42,9 +38,9 @@ pub(crate) fn take_of(alloc: Global, words: &[Text]) -> Option<Take>
 {
     match words {
         [_, _, pid, before, after, answer] => Some(Take {
-            pid: plain_of(pid.bytes()),
-            before: plain_of(before.bytes()),
-            after: plain_of(after.bytes()),
+            pid: u32_of(pid.bytes()),
+            before: u32_of(before.bytes()),
+            after: u32_of(after.bytes()),
             granted: bytes_equal(answer.bytes(), b"granted"),
             looks: Seq::new(alloc),
             audit: None,
@@ -65,7 +61,7 @@ pub(crate) fn look_of(alloc: Global, words: &[Text]) -> Result<Option<Look>, NoM
 {
     match words {
         [_, version, mode, reason, step, own, learned] => Ok(Some(Look {
-            version: wide_of(version.bytes()),
+            version: u64_of(version.bytes()),
             mode: mode_of(mode.bytes()),
             reason: reason_of(alloc, reason.bytes())?,
             step: move_of(alloc, step.bytes())?,
@@ -90,14 +86,14 @@ pub(crate) fn audit_of(alloc: Global, words: &[Text]) -> Result<Option<Text>, No
 {
     match words {
         [_, word] => {
-            if bytes_equal(word.bytes(), b"-") {
+            if bytes_equal(word.bytes(), b"-") || bytes_equal(word.bytes(), b"") {
                 Ok(None)
             } else {
                 spelled_word(alloc, word.bytes())
             }
         }
-        [_] => Ok(Some(Seq::new(alloc))),
         [] => Ok(None),
+        [_] => Ok(None),
         [_, _, _, ..] => Ok(None),
     }
 }

@@ -1,7 +1,7 @@
 //! The line of a look.
 ghost use Rattle.std.specs.Prelude.{◌≡◌, ◌++◌, ◌∷◌, OnOk, decimal};
 ghost use Rattle.std.specs.List.{flat_map};
-ghost use Rattle.tm_run.specs.RunText.{mode_text, place_text, reason_text, move_text, numbers_text, answer_text, heard_text, verdict_text, learned_text, look_text};
+ghost use Rattle.tm_run.specs.RunText.{mode_word, place_text, reason_text, move_text, numbers_text, answer_text, heard_text, verdict_text, learned_text, look_text};
 
 use std::alloc::Global;
 use tm_list::NoMemory;
@@ -11,14 +11,11 @@ use tm_types::step::{Answered, Heard, Look};
 use tm_types::verdict::{EntryPlace, Move, Reason};
 
 fn push_mode(mode: Option<Mode>, out: &mut Vec<u8>) -> Result<(), NoMemory>
-    ensures { OnOk result (out.new.items ≡ out.old.items ++ mode_text mode) }
+    ensures { OnOk result (out.new.items ≡ out.old.items ++ mode_word mode) }
 {
     match mode {
         None => out.extend_from_slice(b"none"),
-        Some(Mode::Disabled) => out.extend_from_slice(b"disabled"),
-        Some(Mode::Learning) => out.extend_from_slice(b"learning"),
-        Some(Mode::Permissive) => out.extend_from_slice(b"permissive"),
-        Some(Mode::Enforcing) => out.extend_from_slice(b"enforcing"),
+        Some(mode) => out.extend_from_slice(mode.text().as_bytes()),
     }
 }
 

@@ -2,20 +2,19 @@
 ghost use Rattle.std.specs.Prelude.{◌≡◌, ◌+◌, ◌∷◌, ◌<◌, [], length, true, false, Some, IfOk, MatchOption};
 ghost use Rattle.tm_run.specs.RunText.{run_text, take_line, look_text, audit_line};
 ghost use Rattle.tm_run.specs.Steps.{step_line};
-ghost use Rattle.tm_rules.specs.Equality.{texts_equal};
-ghost use Rattle.tm_run.specs.Reading.{Gives, fresh, has_number, with_step, with_take, with_look, with_audit, is_empty, starts, outside, within, line_read, lines_of, run_at, run_from, run_of};
+ghost use Rattle.tm_word.specs.Gives.{Gives};
+ghost use Rattle.tm_word.specs.Texts.{texts_equal};
+ghost use Rattle.tm_run.specs.Reading.{run_cause, fresh, has_number, with_step, with_take, with_look, with_audit, is_empty, starts, outside, within, line_read, lines_of, run_at, run_from, run_of};
 ghost use Rattle.tm_run.specs.Laws.{WrittenIsRead, ReadIsWritten, FaultIsFirst};
 
-use crate::fields::place_of;
 use crate::lines::{audit_of, look_of, step_of, take_of};
 use crate::look::push_look;
 use crate::printing::{push_audit_line, push_take_line};
 use crate::steps::push_step_line;
 use std::alloc::Global;
 use tm_list::{NoMemory, Seq};
-use tm_rules::bytes_equal;
 use tm_types::step::{Look, Reply, Run, RunFault, Step, Take};
-use tm_word::{Text, normal_words};
+use tm_word::{Text, bytes_equal, normal_words, place_of};
 
 /// What has been read of a run: its steps, its takes, and the take that is begun, with its looks so far.
 #[derive(Drop)]
@@ -296,7 +295,7 @@ fn run_of(alloc: Global, text: &[u8]) -> Result<Result<Run, u64>, NoMemory>
 /// Errors: `BadLine`, the first line with which no such text can go on, from 1 (one past the last line where the text ends too
 /// early; a last line without its byte 10 can't stand); or want of memory.
 pub fn read_run(alloc: Global, bytes: &[u8]) -> Result<Run, RunFault>
-    ensures { Gives result (run_of bytes.now) }
+    ensures { Gives run_cause (λ run. run) result (run_of bytes.now) }
 {
     match run_of(alloc, bytes) {
         Ok(Ok(run)) => Ok(run),
@@ -312,89 +311,3 @@ pub fn run_round_trip()
     ensures read { ReadIsWritten }
     ensures fault { FaultIsFirst }
 {}
-
-#[cfg(test)]
-mod tests {
-    use super::*;
-    use crate::printing::print_run;
-
-    #[test]
-    fn runs_read_and_printed_again(rt: HostRuntime) -> Result<(), NoMemory> {
-        let alloc = rt.alloc();
-        for text in [
-            "run 1\n",
-            "run 1\nstep 1 added learn 0 file read /x\nstep 2 there learn 0 file read /x\ntake 1 7 0 0 granted\nlook 0 learning learn stay 1 -\naudit -\ntake 2 8 0 0 granted\nlook 0 learning learn stay 2 -\naudit -\n",
-            "run 1\nstep 1 quota learn 4294967295 file symlink /l symlink.target=\"/t\"\nstep 2 mode learn 3 misc env PATH\n",
-            "run 1\nstep 1 added learn 0 file execute /usr/bin/python exec.realpath=\"/usr/bin/python3.11\" exec.argv[0]=\"python3\"\n",
-            "run 1\ntake 1 7 0 0 denied\nlook 0 enforcing no_entry stay - -\naudit profile=1\\040mode=enforcing\\012<kernel>\\012file\\040read\\040/b\\012\\012\n",
-            "run 1\ntake 1 3 0 15 granted\nlook 7 learning entry:65 enter:15 - -\nlook 9 permissive group:255:1 make 2,5 nobody@18446744073709551615\naudit -\ntake 2 3 0 0 denied\naudit -\ntake 3 1 2 3 denied\nlook 0 none no_manual fail - detached@0\nlook 0 disabled disabled stay - retry@1\naudit -\n",
-        ] {
-            match read_run(alloc, text.as_bytes()) {
-                Ok(run) => {
-                    let mut out = Vec::new(alloc);
-                    print_run(alloc, &run, &mut out)?;
-                    assert_eq!(rt; out.as_slice(), text.as_bytes(), "at {text}");
-                }
-                Err(fault) => assert!(rt; false, "{fault:?} at {text}"),
-            }
-        }
-        Ok(())
-    }
-
-    #[test]
-    fn first_lines_that_cannot_stand(rt: HostRuntime) {
-        for (text, line) in [
-            ("", 1),
-            ("run 1", 1),
-            ("run 2\n", 1),
-            ("take 1 7 0 0 granted\n", 1),
-            ("run 1\n\n", 2),
-            ("run 1\ntake 2 7 0 0 granted\n", 2),
-            ("run 1\nstep 2 added learn 0 file read /a\n", 2),
-            ("run 1\nstep 1 added learn 0 file write/read /a\n", 2),
-            ("run 1\nstep 1 added learn 0 file read  /a\n", 2),
-            ("run 1\nstep 1 done learn 0 file read /a\n", 2),
-            ("run 1\nstep 1 done attach\n", 2),
-            ("run 1\nstep 1 added learn 4294967296 file read /a\n", 2),
-            ("run 1\nstep 1 added learn 0 file read /a", 2),
-            ("run 1\ntake 1 07 0 0 granted\n", 2),
-            ("run 1\ntake 1 7 0 0 allowed\n", 2),
-            ("run 1\ntake 1 7 0 0 granted\n", 3),
-            (
-                "run 1\ntake 1 7 0 0 granted\nstep 1 added learn 0 file read /a\n",
-                3,
-            ),
-            (
-                "run 1\ntake 1 7 0 0 granted\nlook 0 learning group:0:1:2 stay - -\n",
-                3,
-            ),
-            (
-                "run 1\ntake 1 7 0 0 granted\nlook 0 learning group:256:1 stay - -\n",
-                3,
-            ),
-            (
-                "run 1\ntake 1 7 0 0 granted\nlook 0 learning group:0:1 stay - -\n",
-                4,
-            ),
-            (
-                "run 1\ntake 1 7 0 0 granted\nlook 0 learning entry:0 stay 1, -\n",
-                3,
-            ),
-            ("run 1\ntake 1 7 0 0 granted\naudit \\101\n", 3),
-            (
-                "run 1\ntake 1 7 0 0 granted\naudit -\nlook 0 learning learn stay 1 -\n",
-                4,
-            ),
-            (
-                "run 1\ntake 1 7 0 0 granted\naudit -\nstep 1 added learn 0 file read /a\n",
-                4,
-            ),
-            ("run 1\ntake 1 7 0 0 granted\naudit -\nx", 4),
-        ] {
-            match read_run(rt.alloc(), text.as_bytes()) {
-                Ok(_) => assert!(rt; false, "read: {text}"),
-                Err(fault) => assert_eq!(rt; fault, RunFault::BadLine(line), "at {text}"),
-            }
-        }
-    }
-}

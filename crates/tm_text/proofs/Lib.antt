@@ -2,3 +2,4 @@ pub mod Examples
 pub mod LentLaws
 pub mod OrderLaws
 pub mod SlotExamples
+mod PermissionLaws

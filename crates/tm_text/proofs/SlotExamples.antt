@@ -3,7 +3,7 @@ use Rattle.std.proofs.Common.{◌≡◌, true, refl}
 use Rattle.std.specs.Prelude.{codes, Some, Result, Ok, Err, option_map}
 use Rattle.tm_word.specs.Words.{Text}
 use Rattle.tm_word.specs.Spelling.{words_of}
-use Rattle.tm_number.specs.Numbers.{number_of, value_of}
+use Rattle.tm_number.specs.Numbers.{number_of, value_of, plain_of}
 use Rattle.tm_types.specs.declared.policy.Mode.{Mode}
 use Rattle.tm_types.specs.declared.policy.Function.{Function}
 use Rattle.tm_types.specs.declared.policy.Namespace.{Namespace}
@@ -12,7 +12,7 @@ use Rattle.tm_types.specs.declared.entry.LineKind.{LineKind}
 use Rattle.tm_rules.specs.Policy.{kernel, empty_namespace, at_key}
 use Rattle.tm_rules.specs.Edit.{profile_line}
 use Rattle.tm_rules.specs.Mode.{config_of}
-use Rattle.tm_namespace.specs.Namespaces.{namespace_of, namespace_at}
+use Rattle.tm_line.specs.Namespaces.{namespace_of, namespace_at}
 use Rattle.tm_profile.specs.Slots.{function_text, slot_text}
 use Rattle.tm_profile.specs.Reading.{key_of, seen_after, closed, setting_after, limits_with, limits_after, slot_of, begins_some_slot, begins_effect, numbered, effect_at, line_of}
 
@@ -30,9 +30,9 @@ after_both = with_line (with_line (empty_namespace kernel) (codes "0-CONFIG::fil
 
 -- a read has the category's mode, and writes both logs; what is in no category of these lines is as in a new profile
 pub a_default_below_a_category : option_map (λ profile. config_of profile Function.Open) (at_key after_both.profiles 0) ≡ Some (record { mode = Mode.Learning; logs = record { grant = true; reject = true } })
-unfolding words_of number_of value_of namespace_of namespace_at function_text slot_text key_of seen_after closed setting_after limits_with limits_after slot_of begins_some_slot begins_effect numbered effect_at line_of profile_line config_of
+unfolding words_of number_of value_of plain_of namespace_of namespace_at function_text slot_text key_of seen_after closed setting_after limits_with limits_after slot_of begins_some_slot begins_effect numbered effect_at line_of profile_line config_of
 a_default_below_a_category = refl
 
 pub another_category : option_map (λ profile. config_of profile Function.Env) (at_key after_both.profiles 0) ≡ Some (record { mode = Mode.Disabled; logs = record { grant = true; reject = true } })
-unfolding words_of number_of value_of namespace_of namespace_at function_text slot_text key_of seen_after closed setting_after limits_with limits_after slot_of begins_some_slot begins_effect numbered effect_at line_of profile_line config_of
+unfolding words_of number_of value_of plain_of namespace_of namespace_at function_text slot_text key_of seen_after closed setting_after limits_with limits_after slot_of begins_some_slot begins_effect numbered effect_at line_of profile_line config_of
 another_category = refl

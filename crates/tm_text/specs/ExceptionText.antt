@@ -1,21 +1,17 @@
 -- The printed text of the exception policy.
-use Rattle.std.specs.Prelude.{ℕ, List, [], ◌∷◌, ◌++◌, decimal, codes}
+use Rattle.std.specs.Prelude.{ℕ, List, ◌++◌}
 use Rattle.std.specs.List.{flat_map}
 use Rattle.tm_word.specs.Words.{Text}
 use Rattle.tm_types.specs.declared.entry.Entry.{Entry}
 use Rattle.tm_types.specs.declared.policy.Namespace.{Namespace}
 use Rattle.tm_types.specs.declared.policy.Policy.{Policy}
 use Rattle.tm_except.specs.Printing.{lists_text}
-use Rattle.tm_text.specs.DomainText.{entry_line}
+use Rattle.tm_policy_line.specs.Printing.{printed_line, acl_group_words}
 use Rattle.tm_text.specs.ProfileText.{by_name}
-
--- what stands in front of an entry of an ACL group
-abbrev pub group_front : Text → ℕ → Text
-group_front name number = name ++ codes " acl_group " ++ decimal number ++ 32 ∷ []
 
 -- the line of an entry of an ACL group
 abbrev pub acl_line : Text → ℕ → Entry → Text
-acl_line name number entry = group_front name number ++ entry_line entry
+acl_line name number entry = printed_line (acl_group_words name number entry)
 
 -- the entries of an ACL group, in written order
 abbrev pub acl_lines : Text → ℕ × List Entry → Text

@@ -3,3 +3,4 @@ pub mod ManagerText
 pub mod Order
 pub mod ProfileText
 pub mod ExceptionText
+pub mod PermissionWords

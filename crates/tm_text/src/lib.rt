@@ -6,9 +6,11 @@
 mod domains;
 mod exceptions;
 mod managers;
+mod permissions;
 mod profiles;
 
 pub use domains::print_domain;
 pub use exceptions::print_exception;
 pub use managers::print_manager;
+pub use permissions::permissions_name_functions;
 pub use profiles::{name_order, print_profile};

@@ -1,14 +1,17 @@
 -- A rule's printed line, as what stands between its first byte and its last.
-use Rattle.std.proofs.Common.{◌≡◌, List, [], ◌∷◌, ◌++◌, ap, append-nil}
+use Rattle.std.proofs.Common.{◌≡◌, ℕ, List, [], ◌∷◌, ◌++◌, refl, ap, append-nil}
 use Rattle.std.specs.Prelude.{codes}
 use Rattle.std.specs.Fmt.{decimal}
 use Rattle.tm_word.specs.Words.{Text}
 use Rattle.tm_word.specs.Spelling.{joined, spell}
 use Rattle.tm_word.specs.Printing.{spelled_pattern}
 use Rattle.tm_line.specs.Lines.{spaced}
-use Rattle.tm_namespace.specs.Namespaces.{line_text}
+use Rattle.tm_line.specs.Namespaces.{line_text}
 use Rattle.tm_types.specs.declared.policy.ExceptRule.{ExceptRule}
-use Rattle.tm_except.specs.Printing.{rule_words, range_text, addr_range_text, kind_text, program_text, domain_words, path_group_words, number_group_words, address_group_words, aggregator_words, control_words}
+use Rattle.tm_types.specs.declared.entry.Entry.{Entry}
+use Rattle.tm_entry.specs.Entries.{entry_words}
+use Rattle.tm_policy_line.specs.Printing.{printed_line, group_line_words, acl_group_words}
+use Rattle.tm_except.specs.Printing.{line_words, rule_words, range_text, addr_range_text, kind_text, program_text, domain_words, path_group_words, number_group_words, address_group_words, aggregator_words, control_words}
 
 spaced_joined : (word : Text) (words : List Text) → spaced (word ∷ words) ≡ 32 ∷ joined (word ∷ words)
 spaced_joined word [] = ap (λ t. 32 ∷ t) (append-nil word)
@@ -25,3 +28,8 @@ rule_line (ExceptRule.AddressGroup name member) = line_joined (codes "address_gr
 rule_line (ExceptRule.Aggregator one other) = line_joined (codes "aggregator") (spelled_pattern one ∷ spell other ∷ [])
 rule_line (ExceptRule.Control control) = line_joined (kind_text control.kind) (program_text control.program ∷ codes "from" ∷ domain_words control.domain control.last)
 rule_line (ExceptRule.Acl group words) = line_joined (codes "acl_group") (decimal group ∷ words)
+
+-- the line of an ACL group without a namespace word, as a rule's
+pub group_printed : (n : ℕ) (entry : Entry) → printed_line (acl_group_words [] n entry) ≡ 32 ∷ (joined (rule_words (ExceptRule.Acl n (entry_words entry))) ++ 10 ∷ [])
+unfolding rule_words group_line_words line_words
+group_printed n entry = refl

@@ -1,45 +1,63 @@
 -- What our crates answer to the question of a row, by the definitions of readers, printers, patterns and controls.
-use Rattle.std.specs.Prelude.{◌==◌, Bool, true, false, List, [], ◌∷◌, ◌++◌, codes, Option, Some, None, is_some, option_map, option_and_then, unwrap_or}
-use Rattle.std.specs.List.{slice_split}
+use Rattle.std.specs.Prelude.{Bool, true, false, List, [], ◌∷◌, codes, Option, Some, None, is_some, option_map, option_and_then, unwrap_or}
 use Rattle.std.specs.Result.{result_ok}
 use Rattle.tm_word.specs.Words.{Text}
-use Rattle.tm_word.specs.Spelling.{joined, words_of}
+use Rattle.tm_word.specs.Texts.{pieces}
+use Rattle.tm_word.specs.Spelling.{joined, spelled_word}
 use Rattle.tm_word.specs.Matching.{matches}
-use Rattle.tm_pattern.specs.Reading.{pattern_of, word_of}
+use Rattle.tm_pattern.specs.Reading.{pattern_of}
 use Rattle.tm_types.specs.declared.policy.Control.{Control}
-use Rattle.tm_types.specs.declared.policy.ExceptLine.{ExceptLine}
+use Rattle.tm_types.specs.declared.entry.Entry.{Entry}
+use Rattle.tm_types.specs.declared.policy.DomainRule.{DomainRule}
 use Rattle.tm_types.specs.declared.policy.ExceptRule.{ExceptRule}
+use Rattle.tm_types.specs.declared.policy.GroupLine.{GroupLine}
 use Rattle.tm_types.specs.declared.policy.Namespace.{Namespace}
+use Rattle.tm_types.specs.declared.policy.PolicyLine.{PolicyLine}
+use Rattle.tm_types.specs.declared.step.FileKind.{FileKind}
 use Rattle.tm_rules.specs.Words.{DomainName}
 use Rattle.tm_rules.specs.Transition.{By_control, control_kind, target_name}
 use Rattle.tm_domain.specs.Names.{domain_of}
-use Rattle.tm_entry.specs.Entries.{entry_of, entry_words}
-use Rattle.tm_except.specs.Reading.{line_of}
+use Rattle.tm_entry.specs.Entries.{entry_words}
 use Rattle.tm_except.specs.Printing.{rule_words}
+use Rattle.tm_policy_line.specs.Reading.{read_line}
 use Rattle.tm_vectors.specs.declared.table.Table.{Table}
 
 -- Lines of policy files
 
--- the printed text of the entry that these words write; none where they are refused
-abbrev pub entry_text : List Text → Option Text
-entry_text words = option_map (λ entry. joined (entry_words entry)) (result_ok (entry_of words))
+-- what a line of a policy file says; none where it is refused
+abbrev pub said_by : FileKind → Text → Option PolicyLine
+said_by file line = result_ok (read_line file line)
 
--- what a line of the exception policy says; none where it is refused
-abbrev pub said_by : Text → Option ExceptLine
-said_by line = result_ok (line_of (words_of line))
+-- the entry that a line adds to a domain, if it does
+abbrev pub added_entry : PolicyLine → Option Entry
+added_entry (PolicyLine.Domain (DomainRule.Acl false entry)) = Some entry
+added_entry _ = None
 
--- a rule as it is kept: an ACL group's line has the words of its printed entry; none where that line is refused
-abbrev pub kept_rule : ExceptRule → Option ExceptRule
-kept_rule (ExceptRule.PathGroup name member) = Some (ExceptRule.PathGroup name member)
-kept_rule (ExceptRule.NumberGroup name member) = Some (ExceptRule.NumberGroup name member)
-kept_rule (ExceptRule.AddressGroup name member) = Some (ExceptRule.AddressGroup name member)
-kept_rule (ExceptRule.Aggregator one other) = Some (ExceptRule.Aggregator one other)
-kept_rule (ExceptRule.Control control) = Some (ExceptRule.Control control)
-kept_rule (ExceptRule.Acl group words) = option_map (λ text. ExceptRule.Acl group (words_of text)) (entry_text words)
+-- its printed text
+abbrev pub added_text : PolicyLine → Option Text
+added_text said = option_map (λ entry. joined (entry_words entry)) (added_entry said)
 
--- the printed text of the rule of a line of the exception policy, without the namespace word; none where the line is refused
+-- the printed text of the entry that a line of the domain policy adds; none where it is refused or adds no entry
+abbrev pub entry_text : Text → Option Text
+entry_text line = option_and_then added_text (said_by FileKind.Domain line)
+
+-- the line of an ACL group as a rule: its words are those of its printed entry
+abbrev pub group_rule : GroupLine → ExceptRule
+group_rule group = ExceptRule.Acl group.group (entry_words group.entry)
+
+-- the rule that a line of the exception policy adds or removes
+abbrev pub rule_said : PolicyLine → Option ExceptRule
+rule_said (PolicyLine.Exception line) = Some line.rule
+rule_said (PolicyLine.Group group) = Some (group_rule group)
+rule_said _ = None
+
+-- its printed text, without the namespace word
+abbrev pub rule_text : PolicyLine → Option Text
+rule_text said = option_map (λ rule. joined (rule_words rule)) (rule_said said)
+
+-- the printed text of the rule of a line of the exception policy; none where the line is refused
 abbrev pub exception_text : Text → Option Text
-exception_text line = option_and_then (λ read. option_map (λ rule. joined (rule_words rule)) (kept_rule read.rule)) (said_by line)
+exception_text line = option_and_then rule_text (said_by FileKind.Exception line)
 
 -- Where an execute leads
 
@@ -52,9 +70,13 @@ control_of (ExceptRule.Aggregator one other) = None
 control_of (ExceptRule.Control control) = Some control
 control_of (ExceptRule.Acl group words) = None
 
+-- the control that is said
+abbrev pub said_control : PolicyLine → Option Control
+said_control said = option_and_then control_of (rule_said said)
+
 -- the control that a line of the exception policy adds; none where it adds no control
 abbrev pub control_line : Text → Option Control
-control_line line = option_and_then (λ read. control_of read.rule) (said_by line)
+control_line line = option_and_then said_control (said_by FileKind.Exception line)
 
 -- the controls that these lines add, in their order; none where one of the lines adds no control
 abbrev pub controls_of : List Text → Option (List Control)
@@ -64,7 +86,7 @@ controls_of (line ∷ lines) = option_and_then (λ control. option_map (λ other
 -- lines with `|` between them; an empty text has none
 abbrev pub bar_lines : Text → List Text
 bar_lines [] = []
-bar_lines (b ∷ text) = slice_split (λ c. c == 124) (b ∷ text)
+bar_lines (b ∷ text) = pieces 124 (b ∷ text)
 
 -- the namespace `<kernel>` with these controls alone
 abbrev pub kernel_with : List Control → Namespace
@@ -87,7 +109,7 @@ is_right text = is_some (result_ok (pattern_of text))
 
 -- whether a pattern matches a name; none where one of the two isn't rightly spelled
 abbrev pub is_matched : Text → Text → Option Bool
-is_matched pattern_ name = option_and_then (λ components. option_map (matches components) (word_of name)) (result_ok (pattern_of pattern_))
+is_matched pattern_ name = option_and_then (λ components. option_map (matches components) (spelled_word name)) (result_ok (pattern_of pattern_))
 
 -- Every table
 
@@ -97,7 +119,7 @@ decision false = codes "no"
 
 -- the answer to the fields of a question; none where it is refused, or is no question of that table
 abbrev pub answer_to : Table → List Text → Option Text
-answer_to Table.AclLines (line ∷ []) = entry_text (words_of line)
+answer_to Table.AclLines (line ∷ []) = entry_text line
 answer_to Table.ExceptionLines (line ∷ []) = exception_text line
 answer_to Table.Transitions (number ∷ domain ∷ program ∷ controls ∷ []) = domain_after domain program controls
 answer_to Table.PatternVectors (pattern_ ∷ name ∷ []) = option_map decision (is_matched pattern_ name)

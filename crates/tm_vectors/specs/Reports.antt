@@ -1,9 +1,9 @@
 -- What is said of a table: the rows that differ, and how many agree.
 use Rattle.std.specs.Prelude.{ℕ, ◌+◌, ◌-◌, ◌==◌, Bool, true, false, if◌then◌else◌, List, [], ◌∷◌, ◌++◌, length, take, slice_get, codes, unwrap_or, decimal}
-use Rattle.std.specs.List.{filter, slice_split}
+use Rattle.std.specs.List.{filter}
 use Rattle.tm_word.specs.Words.{Text}
 use Rattle.tm_word.specs.Spelling.{joined}
-use Rattle.tm_rules.specs.Equality.{texts_equal}
+use Rattle.tm_word.specs.Texts.{texts_equal, pieces, lines_of}
 use Rattle.tm_vectors.specs.declared.table.Table.{Table}
 use Rattle.tm_vectors.specs.declared.rows.Judgement.{Judgement}
 use Rattle.tm_vectors.specs.declared.rows.Judgement.TheVariants.{NoRow, Agrees, Differs}
@@ -31,7 +31,7 @@ table_name Table.PatternValidity = codes "pattern_validity"
 
 -- the fields of a row, with a tab between each two
 abbrev pub fields_of : Text → List Text
-fields_of row = slice_split (λ b. b == 9) row
+fields_of row = pieces 9 row
 
 -- the last field is what the real TOMOYO answered
 abbrev pub recorded : List Text → Text
@@ -93,4 +93,4 @@ report_of table lines = all_said table 1 lines ++ counts table (agreeing table l
 
 -- the whole report on the text of a table's file
 unfoldable pub report : Table → Text → Text
-report table text = report_of table (slice_split (λ b. b == 10) text)
+report table text = report_of table (lines_of text)

@@ -1,6 +1,6 @@
-//! Compares what our readers, printers, patterns and controls answer with what the real TOMOYO answered, row by row of recorded tables.
-//! Stands on the crates of patterns, domain names, exception lines and entries; rows of lines with `\(dir\)`, which came later than that kernel, are left out.
-//! Promises that the report on a table's text is the defined one: a line for each row whose recorded answer isn't ours, and how many agree and differ.
+//! Compares what our readers, printers, patterns and controls answer with what the real TOMOYO answered, row by row of recorded tables, and reads and prints a recorded boot.
+//! Stands on the crates of patterns, domain names, policy lines and traces; rows of lines with `\(dir\)`, which came later than that kernel, are left out.
+//! Promises that the report on a text is the defined one: of a table a line for each row whose recorded answer isn't ours, and how many agree and differ; of a trace whether it is printed as it was.
 #![tactic(auto)]
 
 mod answers;
@@ -9,39 +9,60 @@ mod patterns;
 mod pieces;
 mod rows;
 mod table;
+mod traces;
 mod transitions;
 
 use crate::rows::judge_table;
-use crate::table::Table;
+use crate::table::{TABLES, Table};
+use crate::traces::judge_trace;
 use std::alloc::Global;
 use std::io::Write;
 use std::rt::{Files, Runtime};
 use std::{fs, io};
 
-// What is to be said of a table, whose rows stand in a file of the current folder.
-fn report_of<R: Files + AllocGlobal>(rt: &R, alloc: Global, table: Table) -> io::Result<Vec<u8>> {
-    let mut report = Vec::new(alloc);
+// Appends what is to be said of the rows of a table, which stand in a file of the current folder.
+fn report_table<R: Files + AllocGlobal>(
+    rt: &R,
+    alloc: Global,
+    table: Table,
+    out: &mut Vec<u8>,
+) -> io::Result<()> {
     let file = format!(in alloc; "{}.tsv", table.name())?;
     match fs::read(rt, file.as_str()) {
-        Ok(text) => judge_table(alloc, table, &text, &mut report)?,
-        Err(_) => {
-            let said = format!(in alloc; "{}: the file {file} can't be read\n", table.name())?;
-            report.extend_from_slice(said.as_bytes())?;
-        }
+        Ok(text) => judge_table(alloc, table, &text, out)?,
+        Err(_) => say_unread(alloc, file.as_str(), out)?,
     }
-    Ok(report)
+    Ok(())
+}
+
+// Appends what is to be said of the trace in this file of the current folder.
+fn report_trace<R: Files + AllocGlobal>(
+    rt: &R,
+    alloc: Global,
+    file: &str,
+    out: &mut Vec<u8>,
+) -> io::Result<()> {
+    match fs::read(rt, file) {
+        Ok(text) => judge_trace(alloc, file.as_bytes(), &text, out)?,
+        Err(_) => say_unread(alloc, file, out)?,
+    }
+    Ok(())
+}
+
+// Says that a file isn't there or can't be read.
+fn say_unread(alloc: Global, file: &str, out: &mut Vec<u8>) -> io::Result<()> {
+    let said = format!(in alloc; "{file} can't be read\n")?;
+    out.extend_from_slice(said.as_bytes())?;
+    Ok(())
 }
 
 fn main(rt: HostRuntime) -> io::Result<()> {
-    for table in [
-        Table::AclLines,
-        Table::ExceptionLines,
-        Table::Transitions,
-        Table::PatternVectors,
-        Table::PatternValidity,
-    ] {
-        let report = report_of(&rt, rt.alloc(), table)?;
-        io::writer(&rt).write_all(&report)?;
+    let mut report = Vec::new(rt.alloc());
+    for table in TABLES {
+        report_table(&rt, rt.alloc(), table, &mut report)?;
     }
-    Ok(())
+    for file in ["boot.trace", "forms.trace"] {
+        report_trace(&rt, rt.alloc(), file, &mut report)?;
+    }
+    io::writer(&rt).write_all(&report)
 }

@@ -6,8 +6,8 @@ ghost use Rattle.tm_vectors.specs.Answers.{is_right, is_matched};
 
 use std::alloc::{AllocError, Global};
 use tm_list::NoMemory;
-use tm_pattern::{PatternFault, matches, read_pattern, spelled_word};
-use tm_word::Pattern;
+use tm_pattern::{PatternFault, matches, read_pattern};
+use tm_word::{Pattern, spelled_word};
 
 /// The pattern that a text writes; none where it is no right pattern.
 fn pattern_of(alloc: Global, text: &[u8]) -> Result<Option<Pattern>, NoMemory>

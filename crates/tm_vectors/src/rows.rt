@@ -1,19 +1,19 @@
 //! Rows of a table, and what is said of those that differ.
 ghost use Rattle.std.specs.Prelude.{◌≡◌, ◌++◌, IfOk, OnOk, decimal};
-ghost use Rattle.tm_vectors.specs.Reports.{recorded, question, agreeing, differing, judgement, line_place, both_answers, difference, said, all_said, counts, report_of, report};
+ghost use Rattle.tm_word.specs.Texts.{lines_of};
+ghost use Rattle.tm_vectors.specs.Reports.{recorded, question, agreeing, differing, judgement, line_place, both_answers, difference, said, all_said, counts, report};
 
 use crate::answers::answer;
-use crate::pieces::{fields_of, lines_of};
+use crate::pieces::pieces;
 use crate::table::Table;
 use std::alloc::Global;
 use tm_line::joined;
 use tm_list::NoMemory;
 use tm_number::write_decimal;
-use tm_rules::bytes_equal;
-use tm_word::Text;
+use tm_word::{Text, bytes_equal, cut_at};
 
 /// What a line of a table's file is: no row, where it is empty, or a row that agrees with our answer or differs from it.
-#[derive(Clone, Copy, PartialEq, Eq, Debug)]
+#[derive(Clone, Copy)]
 pub enum Judgement {
     NoRow,
     Agrees,
@@ -90,7 +90,7 @@ fn judge_line(
     if line.is_empty() {
         return Ok(Judgement::NoRow);
     }
-    let fields = fields_of(alloc, line)?;
+    let fields = pieces(alloc, b'\t', line)?;
     let answered = answer(alloc, table, question(&fields))?;
     if bytes_equal(answered.bytes(), recorded(&fields)) {
         return Ok(Judgement::Agrees);
@@ -103,22 +103,30 @@ fn judge_line(
 fn judge_lines(
     alloc: Global,
     table: Table,
-    lines: &[Text],
+    text: &[u8],
     out: &mut Vec<u8>,
 ) -> Result<(u64, u64), NoMemory>
-    ensures counted { IfOk result (λ counted. (counted.0 ≡ agreeing table lines.now) × (counted.1 ≡ differing table lines.now)) }
-    ensures told { OnOk result (out.new.items ≡ out.old.items ++ all_said table 1 lines.now) }
+    ensures counted { IfOk result (λ counted. (counted.0 ≡ agreeing table (lines_of text.now)) × (counted.1 ≡ differing table (lines_of text.now))) }
+    ensures told { OnOk result (out.new.items ≡ out.old.items ++ all_said table 1 (lines_of text.now)) }
 {
     let mut agree: u64 = 0;
     let mut differ: u64 = 0;
-    for (place, line) in lines.iter().enumerate() {
-        match judge_line(alloc, table, place as u64 + 1, line.bytes(), out)? {
+    let mut number: u64 = 1;
+    let mut rest = text;
+    while let Some((line, after)) = cut_at(b'\n', rest) {
+        match judge_line(alloc, table, number, line, out)? {
             Judgement::NoRow => {}
             Judgement::Agrees => agree += 1,
             Judgement::Differs => differ += 1,
         }
+        rest = after;
+        number += 1;
     }
-    Ok((agree, differ))
+    match judge_line(alloc, table, number, rest, out)? {
+        Judgement::NoRow => Ok((agree, differ)),
+        Judgement::Agrees => Ok((agree + 1, differ)),
+        Judgement::Differs => Ok((agree, differ + 1)),
+    }
 }
 
 /// Appends the line of counts.
@@ -139,20 +147,6 @@ fn push_counts(
     out.extend_from_slice(b" differ\n")
 }
 
-/// Appends what is to be said of the lines of a table's file.
-fn push_report(
-    alloc: Global,
-    table: Table,
-    lines: &[Text],
-    out: &mut Vec<u8>,
-) -> Result<(), NoMemory>
-    ensures { OnOk result (out.new.items ≡ out.old.items ++ report_of table lines.now) }
-{
-    let (agree, differ) = judge_lines(alloc, table, lines, out)?;
-    push_counts(alloc, table, agree, differ, out)?;
-    Ok(())
-}
-
 /// Appends what is to be said of a table whose file has this text: a line for each row that differs, and one line of counts.
 #[tactic(auto, unfolding(crate::specs::Reports::report))]
 pub fn judge_table(
@@ -163,6 +157,6 @@ pub fn judge_table(
 ) -> Result<(), NoMemory>
     ensures { OnOk result (out.new.items ≡ out.old.items ++ report table text.now) }
 {
-    let lines = lines_of(alloc, text)?;
-    push_report(alloc, table, &lines, out)
+    let (agree, differ) = judge_lines(alloc, table, text, out)?;
+    push_counts(alloc, table, agree, differ, out)
 }

@@ -3,7 +3,7 @@ ghost use Rattle.std.specs.Prelude.{◌≡◌};
 ghost use Rattle.tm_vectors.specs.Reports.{table_name};
 
 /// A table of recorded answers. Each row has fields between tabs, and the last one is what the real TOMOYO answered.
-#[derive(Clone, Copy, PartialEq, Eq, Debug)]
+#[derive(Clone, Copy)]
 pub enum Table {
     /// A line of `domain_policy`, and its printed text or `refused`.
     AclLines,
@@ -16,6 +16,15 @@ pub enum Table {
     /// A text, and `yes` where it is a right pattern, else `no`.
     PatternValidity,
 }
+
+/// All tables, in the order in which they are reported.
+pub const TABLES: [Table; 5] = [
+    Table::AclLines,
+    Table::ExceptionLines,
+    Table::Transitions,
+    Table::PatternVectors,
+    Table::PatternValidity,
+];
 
 impl Table {
     /// The name that the table's file and lines have.

@@ -2,16 +2,17 @@
 ghost use Rattle.std.specs.Prelude.{◌≡◌, ℕ, List, IfOk, unwrap_or};
 ghost use Rattle.tm_rules.specs.Transition.{By_control, target_name};
 ghost use Rattle.tm_domain.specs.Names.{preferred_name};
-ghost use Rattle.tm_vectors.specs.Answers.{control_of, control_line, controls_of, bar_lines, kernel_with, domain_after};
+ghost use Rattle.tm_vectors.specs.Answers.{control_of, said_control, control_line, controls_of, bar_lines, kernel_with, domain_after};
 
-use crate::lines::read_line;
-use crate::pieces::listed;
+use crate::lines::said_by;
+use crate::pieces::pieces;
 use std::alloc::{AllocError, Global};
 use tm_domain::{DomainFault, preferred};
 use tm_except::control_kind;
 use tm_list::{Map, NoMemory, Seq};
 use tm_types::entry::Prefer;
-use tm_types::policy::{Control, ControlKind, ExceptRule, Namespace};
+use tm_types::policy::{Control, ControlKind, ExceptRule, Namespace, PolicyLine};
+use tm_types::step::FileKind;
 use tm_types::unions::{DomainName, Groups};
 use tm_word::Text;
 
@@ -47,12 +48,26 @@ fn control_of(rule: ExceptRule) -> Option<Control>
     }
 }
 
+/// The control that is said, if one is.
+fn said_control(said: PolicyLine) -> Option<Control>
+    ensures { result ≡ said_control said }
+{
+    match said {
+        PolicyLine::Exception(line) => control_of(line.rule),
+        PolicyLine::Nothing
+        | PolicyLine::Profile(_)
+        | PolicyLine::Group(_)
+        | PolicyLine::Domain(_)
+        | PolicyLine::Manager(_, _) => None,
+    }
+}
+
 /// The control that a line of `exception_policy` adds; none where it adds no control.
 fn read_control(alloc: Global, line: &[u8]) -> Result<Option<Control>, NoMemory>
     ensures { IfOk result (λ control. control ≡ control_line line.now) }
 {
-    match read_line(alloc, line)? {
-        Some(read) => Ok(control_of(read.rule)),
+    match said_by(alloc, FileKind::Exception, line)? {
+        Some(said) => Ok(said_control(said)),
         None => Ok(None),
     }
 }
@@ -64,7 +79,7 @@ fn bar_lines(alloc: Global, text: &[u8]) -> Result<Vec<Text>, NoMemory>
     if text.is_empty() {
         Ok(Vec::new(alloc))
     } else {
-        listed(alloc, text)
+        pieces(alloc, b'|', text)
     }
 }
 

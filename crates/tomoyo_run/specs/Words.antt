@@ -1,25 +1,20 @@
--- The words of the commands.
-use Rattle.std.specs.Prelude.{ℕ, Bool, false, List, [], ◌∷◌, Result, Ok, Err, codes, if◌then◌else◌}
+-- The words of the command line.
+use Rattle.std.specs.Prelude.{ℕ, Bool, if◌then◌else◌, List, [], ◌∷◌, codes}
+use Rattle.std.specs.List.{list_any}
 use Rattle.std.specs.Str.{bytes_eq}
-use Rattle.tomoyo_run.specs.declared.words.Command.{Command}
+use Rattle.tomoyo_run.specs.declared.command_line.Asked.{Asked}
 
--- the command that begins with this word
-abbrev pub command_of : List ℕ → Result Command ℕ
-command_of word = if bytes_eq word (codes "step") then Ok Command.Step else Err 0
+-- a word is one of these
+abbrev pub is_one_of : List ℕ → List (List ℕ) → Bool
+is_one_of word others = list_any (λ other. bytes_eq word other) others
 
--- no word may follow a command's last one
-abbrev pub alone : Result Command ℕ → Result Command ℕ
-alone (Ok command) = Err 1
-alone (Err place) = Err place
+-- what one word alone asks for
+abbrev pub asked_by : List ℕ → Asked
+asked_by word =
+    if is_one_of word (codes "help" ∷ codes "-h" ∷ codes "--help" ∷ []) then Asked.Help else (if is_one_of word (codes "-V" ∷ codes "--version" ∷ []) then Asked.Version else Asked.Command)
 
--- the command that the words name, or the first place at which no form of a command goes on
-abbrev pub read_words : List (List ℕ) → Result Command ℕ
-read_words [] = Err 0
-read_words (word ∷ []) = command_of word
-read_words (word ∷ next ∷ words) = alone (command_of word)
-
--- the word is all of the command line
-abbrev pub is_only : List (List ℕ) → List ℕ → Bool
-is_only [] word = false
-is_only (only ∷ []) word = bytes_eq only word
-is_only (only ∷ next ∷ words) word = false
+-- what the words ask for
+abbrev pub what_is_asked : List (List ℕ) → Asked
+what_is_asked [] = Asked.Nothing
+what_is_asked (word ∷ []) = asked_by word
+what_is_asked (word ∷ next ∷ words) = Asked.Command

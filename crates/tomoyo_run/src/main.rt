@@ -1,27 +1,17 @@
-//! The program `tomoyo_run` and its top call: fetches the files that the words ask for, does the command, stores and prints.
-//! Stands on every crate below; what is loaded and played comes from them, this crate fetches, stores and says how a call ends.
-//! Promises that each status has its cause, that nothing but the command's own files changes, and what a call that is done has stored.
+//! The program `tomoyo_run`: the words of the command line, help and version, and what is printed of how a call ends.
+//! Stands on `tomoyo`, whose top call does the command, and on tm_io, whose folder and standard output it hands in.
+//! Promises what the top call promises of these two; which words ask for help and version is proved.
 #![tactic(auto)]
 
-mod carry;
 mod command_line;
-mod fetches;
-mod forms;
-mod play;
-mod status;
-#[cfg(test)]
-mod tests;
-mod top;
-mod words;
 
-use crate::command_line::{HELP, VERSION, is_only, words_of};
-use crate::status::{OutName, Status};
-use crate::top::run_alone;
+use crate::command_line::{Asked, HELP, VERSION, read_line, what_is_asked};
 use std::alloc::Global;
 use std::io;
 use std::process::ExitCode;
 use std::rt::Runtime;
 use tm_io::{FolderShelf, OutSink, Sink, Stored};
+use tomoyo::{OutName, Status, run_alone};
 
 // Prints a text that was asked for by `--help` or `--version`.
 fn show<R: Runtime>(rt: &R, text: &str) -> Status {
@@ -32,28 +22,34 @@ fn show<R: Runtime>(rt: &R, text: &str) -> Status {
     }
 }
 
-// Does what the words of the command line ask for, on the current folder and standard output.
+// Shows the help to who calls without words, which are no form of a command.
+fn show_usage<R: Runtime>(rt: &R) -> Status {
+    match show(rt, HELP) {
+        Status::Done => Status::BadWords(0),
+        status => status,
+    }
+}
+
+// Does what the words of the command line ask for, on their folder and standard output.
 fn answer<R: Runtime>(rt: &R, alloc: Global) -> Status {
-    let Ok(words) = words_of(rt, alloc) else {
+    let Ok(line) = read_line(rt, alloc) else {
         return Status::OutOfMemory;
     };
-    if is_only(&words, "--help") {
-        return show(rt, HELP);
+    match what_is_asked(&line.words) {
+        Asked::Help => show(rt, HELP),
+        Asked::Version => show(rt, VERSION),
+        Asked::Nothing => show_usage(rt),
+        Asked::Command => {
+            let mut shelf = FolderShelf::new(rt, alloc, line.folder);
+            let mut out = OutSink::new(io::writer(rt));
+            run_alone(alloc, &line.words, &mut shelf, &mut out)
+        }
     }
-    if is_only(&words, "--version") {
-        return show(rt, VERSION);
-    }
-    let Ok(folder) = String::from_str(alloc, ".") else {
-        return Status::OutOfMemory;
-    };
-    let mut shelf = FolderShelf::new(rt, alloc, folder);
-    let mut out = OutSink::new(io::writer(rt));
-    run_alone(alloc, &words, &mut shelf, &mut out)
 }
 
 fn main(rt: HostRuntime) -> ExitCode {
     let status = answer(&rt, rt.alloc());
-    if status != Status::Done {
+    if !matches!(status, Status::Done) {
         // A status that can't be printed still is the exit status.
         let _ = eprintln!(rt; "tomoyo_run: {status}");
     }

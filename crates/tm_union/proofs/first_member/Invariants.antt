@@ -2,7 +2,7 @@ use Rattle.std.proofs.Common.{◌≡◌, ◌&&◌, ℕ, List, drop}
 use Rattle.std.specs.List.{position_from}
 use Rattle.tm_word.specs.declared.Component.{Component}
 use Rattle.tm_word.specs.Matching.{matches}
-use Rattle.tm_rules.specs.Equality.{texts_equal}
+use Rattle.tm_word.specs.Texts.{texts_equal}
 use Rattle.tm_union.proofs.first_member.Given as goal
 
 -- the first one from here on is the first one of all

@@ -1,7 +1,7 @@
 use Rattle.std.proofs.Common.{◌≡◌, drop, false, sym, ap, ◌∙◌}
 use Rattle.std.proofs.lemmas.List.{take_rest}
 use Rattle.tm_addr.specs.Reading.{is_gap}
-use Rattle.tm_addr.proofs.Cuts.{gap_past}
+use Rattle.tm_addr.proofs.Gaps.{gap_past}
 use Rattle.tm_addr.proofs.reading.gap_in.Goals as goal
 
 pub loop-place-preserved : goal.loop-place-preserved

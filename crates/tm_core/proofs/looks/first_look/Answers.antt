@@ -1,7 +1,7 @@
 use Rattle.std.proofs.Common.{rules, ◌≡◌, ◌∷◌, Bool}
 use Rattle.tm_types.specs.declared.request.Item.{Item}
 use Rattle.tm_rules.specs.Grammar.{Grammar}
-use Rattle.tm_core.specs.Play.{passed}
+use Rattle.tm_legal.specs.Play.{passed}
 use Rattle.tm_core.specs.Stands.{situations, way_of, LooksFirst}
 use Rattle.tm_core.proofs.LookLaws.{other_next, can_next}
 use Rattle.tm_core.proofs.Walking.{on_ok, if_ok_true}

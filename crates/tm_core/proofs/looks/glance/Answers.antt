@@ -1,6 +1,6 @@
 use Rattle.std.proofs.Common.{◌≡◌, false, sym, ◌∙◌}
 use Rattle.std.specs.Prelude.{Some}
-use Rattle.tm_core.specs.Verdict.{verdict}
+use Rattle.tm_legal.specs.Verdict.{verdict}
 use Rattle.tm_core.proofs.VerdictLaws.{asks_nobody}
 use Rattle.tm_core.proofs.looks.glance.Goals as goal
 

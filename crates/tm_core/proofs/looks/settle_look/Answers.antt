@@ -1,6 +1,6 @@
 use Rattle.std.proofs.Common.{sym, ap, ◌∙◌}
 use Rattle.std.specs.Prelude.{option_map, slice_get}
-use Rattle.tm_core.specs.Play.{going_on}
+use Rattle.tm_legal.specs.Play.{going_on}
 use Rattle.tm_core.specs.Stands.{begun_of, way_of}
 use Rattle.tm_core.proofs.Walking.{on_ok}
 use Rattle.tm_core.proofs.looks.settle_look.Goals as goal

@@ -3,7 +3,7 @@ use Rattle.std.proofs.lemmas.List.{map-append}
 use Rattle.tm_types.specs.declared.step.Made.{Made}
 use Rattle.tm_types.specs.declared.step.Step.{Step}
 use Rattle.tm_types.specs.declared.step.Reply.{Reply}
-use Rattle.tm_core.specs.Play.{Way, going_on, after_step}
+use Rattle.tm_legal.specs.Play.{Way, going_on, after_step}
 use Rattle.tm_core.specs.Stands.{begun_of, owed_steps, way_of}
 use Rattle.tm_core.proofs.own.learn_owed.Goals as goal
 

@@ -1,6 +1,6 @@
 use Rattle.std.proofs.Common.{rules, ◌≡◌, List, ◌∷◌, ap}
 use Rattle.tm_types.specs.declared.step.Step.{Step}
-use Rattle.tm_core.specs.Play.{Stage}
+use Rattle.tm_legal.specs.Play.{Stage}
 use Rattle.tm_core.specs.Stands.{begun_of, owed_steps}
 use Rattle.tm_core.proofs.Walking.{on_ok}
 use Rattle.tm_core.proofs.own.own_step.Goals as goal

@@ -1,8 +1,8 @@
 use Rattle.std.proofs.Common.{rules, arith, ◌≡◌, ◌≤◌, ◌+◌, suc, Bool, true, refl, ◌∙◌, subst}
 use Rattle.std.specs.Prelude.{if◌then◌else◌}
-use Rattle.tm_core.specs.Legal.{Scene}
+use Rattle.tm_legal.specs.Legal.{Scene}
 use Rattle.tm_types.specs.declared.step.Turn.{Turn}
-use Rattle.tm_core.specs.Play.{work_left}
+use Rattle.tm_legal.specs.Play.{work_left}
 use Rattle.tm_core.specs.Stands.{player_of, IsReached, IsInRound}
 use Rattle.tm_core.proofs.Reached.{led-on}
 use Rattle.tm_core.proofs.Rounds.{round-begins, round-goes, fewer}

@@ -1,7 +1,7 @@
 use Rattle.std.proofs.Common.{◌≡◌, ◌≤◌, ◌+◌, length}
 use Rattle.std.specs.Prelude.{if◌then◌else◌}
-use Rattle.tm_core.specs.Legal.{Scene}
-use Rattle.tm_core.specs.Play.{work_left}
+use Rattle.tm_legal.specs.Legal.{Scene}
+use Rattle.tm_legal.specs.Play.{work_left}
 use Rattle.tm_core.specs.Stands.{player_of, IsReached, IsInRound}
 use Rattle.tm_core.proofs.play.play_round.Given as goal
 

@@ -1,6 +1,6 @@
 use Rattle.std.proofs.Common.{◌≡◌, ℕ}
-use Rattle.tm_core.specs.Legal.{Scene}
-use Rattle.tm_core.specs.Play.{rounds, work_left}
+use Rattle.tm_legal.specs.Legal.{Scene}
+use Rattle.tm_legal.specs.Play.{rounds, work_left}
 use Rattle.tm_core.specs.Stands.{player_of, IsReached}
 use Rattle.tm_core.proofs.play.play_rounds.Given as goal
 

@@ -1,6 +1,6 @@
 use Rattle.std.proofs.Common.{◌≡◌, drop}
-use Rattle.tm_core.specs.Legal.{Scene}
-use Rattle.tm_core.specs.Play.{turns}
+use Rattle.tm_legal.specs.Legal.{Scene}
+use Rattle.tm_legal.specs.Play.{turns}
 use Rattle.tm_core.specs.Stands.{player_of, IsReached}
 use Rattle.tm_core.proofs.play.play_turns.Given as goal
 

@@ -1,7 +1,7 @@
 use Rattle.std.proofs.Common.{Bool, refl}
 use Rattle.tm_types.specs.declared.step.Turn.{Turn}
-use Rattle.tm_core.specs.Legal.{Scene}
-use Rattle.tm_core.specs.Play.{event}
+use Rattle.tm_legal.specs.Legal.{Scene}
+use Rattle.tm_legal.specs.Play.{event}
 use Rattle.tm_core.specs.Stands.{player_of, IsReached, Answers}
 use Rattle.tm_core.proofs.Walking.{ok_if}
 use Rattle.tm_core.proofs.Reached.{nothing_else, led-on}

@@ -2,8 +2,8 @@ use Rattle.std.proofs.Common.{◌≡◌, ◌+◌, ◌≤◌, suc, [], Bool, true
 use Rattle.std.specs.Prelude.{Some, if◌then◌else◌, slice_get, slice_set}
 use Rattle.tm_types.specs.declared.step.Turn.{Turn}
 use Rattle.tm_rules.specs.Grammar.{Grammar}
-use Rattle.tm_core.specs.Legal.{Scene}
-use Rattle.tm_core.specs.Play.{event, work_left}
+use Rattle.tm_legal.specs.Legal.{Scene}
+use Rattle.tm_legal.specs.Play.{event, work_left}
 use Rattle.tm_core.specs.Stands.{way_of, player_of, LooksFirst, IsReached, Answers}
 use Rattle.tm_core.proofs.Walking.{if_ok, if_ok_true, on_ok}
 use Rattle.tm_core.proofs.Reached.{get-index, are-others, can-first, owes-step, tree-answers, own-answers, less-left}

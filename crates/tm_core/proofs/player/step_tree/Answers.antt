@@ -1,8 +1,8 @@
 use Rattle.std.proofs.Common.{rules, arith, ◌≡◌, ◌-◌, ◌≤◌, suc, length, Bool, refl, sym, subst}
 use Rattle.std.specs.Prelude.{None}
 use Rattle.tm_types.specs.declared.step.Turn.{Turn}
-use Rattle.tm_core.specs.Legal.{Scene}
-use Rattle.tm_core.specs.Play.{event}
+use Rattle.tm_legal.specs.Legal.{Scene}
+use Rattle.tm_legal.specs.Play.{event}
 use Rattle.tm_core.specs.Stands.{player_of, IsReached, Answers}
 use Rattle.tm_core.proofs.Walking.{if_ok}
 use Rattle.tm_core.proofs.Reached.{get-past, no-tree, no-zero}

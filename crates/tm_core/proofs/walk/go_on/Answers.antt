@@ -1,6 +1,6 @@
 use Rattle.std.proofs.Common.{rules, ◌≡◌, [], true, ap, ◌∙◌}
 use Rattle.tm_word.specs.Matching.{is_empty}
-use Rattle.tm_core.specs.Play.{Stage}
+use Rattle.tm_legal.specs.Play.{Stage}
 use Rattle.tm_core.specs.Stands.{situations, owed_steps, begun_of}
 use Rattle.tm_core.proofs.Walking.{empty_is, on_ok, going_end}
 use Rattle.tm_core.proofs.walk.go_on.Goals as goal

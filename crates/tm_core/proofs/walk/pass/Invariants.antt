@@ -1,7 +1,7 @@
 use Rattle.std.proofs.Common.{◌≡◌, length}
 use Rattle.tm_rules.specs.Grammar.{Grammar}
-use Rattle.tm_core.specs.Run.{do_pids}
-use Rattle.tm_core.specs.Play.{passed}
+use Rattle.tm_legal.specs.Run.{do_pids}
+use Rattle.tm_legal.specs.Play.{passed}
 use Rattle.tm_core.specs.Stands.{situations}
 use Rattle.tm_core.proofs.walk.pass.Given as goal
 

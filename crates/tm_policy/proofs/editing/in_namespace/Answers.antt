@@ -2,7 +2,7 @@ use Rattle.std.proofs.Common.{◌≡◌, Some, None, slice_set, subst, sym, ◌�
 use Rattle.std.specs.Prelude.{OnOk}
 use Rattle.std.specs.List.{position_from}
 use Rattle.tm_types.specs.declared.policy.Namespace.{Namespace}
-use Rattle.tm_rules.specs.Equality.{texts_equal}
+use Rattle.tm_word.specs.Texts.{texts_equal}
 use Rattle.tm_rules.specs.Edit.{profile_line}
 use Rattle.tm_policy.proofs.Edits.{namespace_last, namespace_at}
 use Rattle.tm_policy.proofs.ShortLists.{few_namespaces, few_after}

@@ -2,7 +2,7 @@ use Rattle.std.proofs.Common.{◌≡◌, drop}
 use Rattle.std.specs.Prelude.{◌&&◌}
 use Rattle.std.specs.List.{position_from}
 use Rattle.tm_types.specs.declared.policy.Domain.{Domain}
-use Rattle.tm_rules.specs.Equality.{texts_equal}
+use Rattle.tm_word.specs.Texts.{texts_equal}
 use Rattle.tm_policy.proofs.finding.live_domain.Given as goal
 
 abbrev pub invariant-loop-place : goal.invariant-loop-place

@@ -1,6 +1,6 @@
 use Rattle.std.proofs.Common.{rules, ◌≡◌, [], ◌∷◌, ◌++◌, IfOk, subst, ◌∙◌}
 use Rattle.tm_word.specs.Spelling.{joined}
-use Rattle.tm_namespace.specs.Namespaces.{line_text}
+use Rattle.tm_line.specs.Namespaces.{line_text}
 use Rattle.tm_except.specs.Printing.{rule_words}
 use Rattle.tm_vectors.proofs.RuleLaws.{rule_line}
 use Rattle.tm_vectors.proofs.lines.printed_rule.Goals as goal

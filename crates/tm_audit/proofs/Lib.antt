@@ -1,0 +1,4 @@
+pub mod Texts
+pub mod AuditLaws
+mod Examples
+pub mod PrintsSo

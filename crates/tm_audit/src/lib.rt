@@ -1,0 +1,240 @@
+//! Audit texts: what is written of a request once it is decided.
+//! Stands on tm_policy and tm_profile for where a text is made, on tm_trace for how a request is printed, and on the definition of audit texts.
+//! Promises that the text is the defined one, and that no memory is taken where there is none.
+#![tactic(auto)]
+
+ghost use Rattle.std.specs.Prelude.{◌≡◌, ◌<◌, ◌++◌, Ok, None, option_map, IfOk, OnOk, decimal};
+ghost use Rattle.std.specs.Option.{option_copied};
+ghost use Rattle.tm_types.specs.declared.policy.Domain.{Domain};
+ghost use Rattle.tm_types.specs.declared.policy.Mode.{Mode};
+ghost use Rattle.tm_grammar.specs.Tomoyo.{tomoyo_grammar};
+ghost use Rattle.tm_rules.specs.Audit.{entry_at, grant_logged, is_logged, granted_text, reason_text, ids_text, audit_text};
+ghost use Rattle.tm_audit.specs.Parts.{profile_in, is_audited, logged, header, lines};
+
+use std::alloc::Global;
+use tm_domain::namespace;
+use tm_list::{NoMemory, Seq};
+use tm_number::write_decimal;
+use tm_policy::{domain_at, find_namespace};
+use tm_profile::config_of;
+use tm_trace::{print_attributes, print_request};
+use tm_types::entry::Entry;
+use tm_types::function_at;
+use tm_types::policy::{Domain, Logs, Mode, Namespace, Policy, Profile};
+use tm_types::request::{Proc, Request};
+use tm_types::verdict::{EntryPlace, Reason, Verdict};
+use tm_word::Text;
+
+/// The entry at a place of a domain's lists; None past their ends.
+fn entry_at<'a>(
+    namespace: &'a Namespace,
+    domain: &'a Domain,
+    place: EntryPlace,
+) -> Option<&'a Entry>
+    ensures { option_copied result ≡ entry_at namespace.now domain.now place }
+{
+    match place {
+        EntryPlace::Own(place) => domain.entries.get(place as usize),
+        EntryPlace::Acl(group, place) => match namespace.acl_groups.get(&group) {
+            Some(entries) => entries.get(place as usize),
+            None => None,
+        },
+    }
+}
+
+/// Whether a grant by an entry is logged: its own `grant_log` decides, without one the profile's.
+fn grant_logged(logs: Logs, entry: Option<&Entry>) -> bool
+    ensures { result ≡ grant_logged logs (option_copied entry.entry) }
+{
+    match entry {
+        Some(entry) => entry.cond.grant_log.unwrap_or(logs.grant),
+        None => logs.grant,
+    }
+}
+
+/// Whether this reason is logged: a grant by an entry by the grant log, everything else by the reject log.
+fn is_logged(namespace: &Namespace, domain: &Domain, logs: Logs, reason: Reason) -> bool
+    ensures { result ≡ is_logged namespace.now domain.now logs reason }
+{
+    match reason {
+        Reason::Entry(place) => grant_logged(logs, entry_at(namespace, domain, place)),
+        Reason::Disabled
+        | Reason::Permissive
+        | Reason::Quota
+        | Reason::Learn
+        | Reason::Ask
+        | Reason::NoEntry
+        | Reason::NotReady
+        | Reason::NoManual => logs.reject,
+    }
+}
+
+/// Whether a text is made in this mode: not in mode disabled.
+fn is_audited(mode: Mode) -> bool
+    ensures { result ≡ is_audited mode }
+{
+    match mode {
+        Mode::Disabled => false,
+        Mode::Learning | Mode::Permissive | Mode::Enforcing => true,
+    }
+}
+
+fn granted_text(reason: Reason) -> &'static [u8]
+    ensures { result.now ≡ granted_text reason }
+{
+    match reason {
+        Reason::Entry(_) => b"yes",
+        Reason::Disabled
+        | Reason::Permissive
+        | Reason::Quota
+        | Reason::Learn
+        | Reason::Ask
+        | Reason::NoEntry
+        | Reason::NotReady
+        | Reason::NoManual => b"no",
+    }
+}
+
+fn reason_text(reason: Reason) -> &'static [u8]
+    ensures { result.now ≡ reason_text reason }
+{
+    match reason {
+        Reason::Entry(_) => b"entry",
+        Reason::Disabled => b"disabled",
+        Reason::Permissive => b"permissive",
+        Reason::Quota => b"quota",
+        Reason::Learn => b"learn",
+        Reason::Ask => b"ask",
+        Reason::NoEntry => b"no_entry",
+        Reason::NotReady => b"not_ready",
+        Reason::NoManual => b"no_manual",
+    }
+}
+
+/// Appends a key and a number, or a part of it.
+fn push_id(alloc: Global, key: &[u8], id: u32, out: &mut Vec<u8>) -> Result<(), NoMemory>
+    ensures { OnOk result (out.new.items ≡ out.old.items ++ key.now ++ decimal id) }
+{
+    out.extend_from_slice(key)?;
+    write_decimal(alloc, u64::from(id), out)
+}
+
+/// Appends the process and its ids, or a part of them.
+fn push_ids(alloc: Global, process: &Proc, out: &mut Vec<u8>) -> Result<(), NoMemory>
+    ensures { OnOk result (out.new.items ≡ out.old.items ++ ids_text process.now) }
+{
+    push_id(alloc, b" pid=", process.pid, out)?;
+    push_id(alloc, b" ppid=", process.ppid, out)?;
+    push_id(alloc, b" uid=", process.ids.uid, out)?;
+    push_id(alloc, b" euid=", process.ids.euid, out)?;
+    push_id(alloc, b" suid=", process.ids.suid, out)?;
+    push_id(alloc, b" fsuid=", process.ids.fsuid, out)?;
+    push_id(alloc, b" gid=", process.ids.gid, out)?;
+    push_id(alloc, b" egid=", process.ids.egid, out)?;
+    push_id(alloc, b" sgid=", process.ids.sgid, out)?;
+    push_id(alloc, b" fsgid=", process.ids.fsgid, out)?;
+    Ok(())
+}
+
+/// The header without the attributes.
+fn header(
+    alloc: Global,
+    domain: &Domain,
+    mode: Mode,
+    process: &Proc,
+    reason: Reason,
+) -> Result<Vec<u8>, NoMemory>
+    ensures { IfOk result (λ text. text.items ≡ header domain.now mode process.now reason) }
+{
+    let mut text = Vec::from_slice(alloc, b"profile=")?;
+    write_decimal(alloc, u64::from(domain.profile), &mut text)?;
+    text.extend_from_slice(b" mode=")?;
+    text.extend_from_slice(mode.text().as_bytes())?;
+    text.extend_from_slice(b" granted=")?;
+    text.extend_from_slice(granted_text(reason))?;
+    text.extend_from_slice(b" verdict=")?;
+    text.extend_from_slice(reason_text(reason))?;
+    push_ids(alloc, process, &mut text)?;
+    Ok(text)
+}
+
+/// The header with the attributes, the domain, the request's line, and an empty line.
+fn lines(
+    alloc: Global,
+    domain: &Domain,
+    mode: Mode,
+    process: &Proc,
+    request: &Request,
+    reason: Reason,
+) -> Result<Text, NoMemory>
+    ensures { IfOk result (λ text. text ≡ lines domain.now mode process.now request.now reason) }
+{
+    let mut text = header(alloc, domain, mode, process, reason)?;
+    print_attributes(alloc, request, &mut text)?;
+    text.push(b'\n')?;
+    text.extend_from_slice(domain.name.bytes())?;
+    text.push(b'\n')?;
+    print_request(alloc, request, &mut text)?;
+    text.extend_from_slice(b"\n\n")?;
+    Ok(Seq::from_vec(text))
+}
+
+/// The namespace and the profile of a domain, where that profile is defined.
+#[tactic(auto, unfolding(tm_rules::specs::Policy::namespace_named))]
+fn profile_in<'a>(policy: &'a Policy, domain: &Domain) -> Option<(&'a Namespace, &'a Profile)>
+    ensures { option_map (λ x. (x.0.now, x.1.now)) result ≡ profile_in policy.now domain.now }
+{
+    match find_namespace(policy.namespaces.as_slice(), namespace(&domain.name)) {
+        Some(namespace) => match namespace.profiles.get(&domain.profile) {
+            Some(profile) => Some((namespace, profile)),
+            None => None,
+        },
+        None => None,
+    }
+}
+
+/// The domain and the mode of the text, where one is made. Takes no memory.
+#[tactic(auto, unfolding(crate::specs::Parts::logged))]
+fn logged<'a>(
+    policy: &'a Policy,
+    number: u32,
+    request: &Request,
+    verdict: &Verdict,
+) -> Option<(&'a Domain, Mode)>
+    ensures { option_map (λ x. (x.0.now, x.1)) result ≡ logged policy.now number request.now verdict.now }
+{
+    let domain = domain_at(policy, number)?;
+    let (namespace, profile) = profile_in(policy, domain)?;
+    let function = function_at(request.args(), request.perm())?;
+    let mode = verdict.mode?;
+    let logs = config_of(profile, function).logs;
+    if is_audited(mode) && is_logged(namespace, domain, logs, verdict.reason) {
+        Some((domain, mode))
+    } else {
+        None
+    }
+}
+
+/// The audit text of a request of this process in the domain of this number, on which this is the verdict of this policy: the header
+/// with the attributes, the domain's name, the request's line, and an empty line. None for a manual transition, in mode disabled,
+/// and where the log of the verdict's reason is off: for a grant by an entry its own `grant_log` or else the profile's grant log, for
+/// every other reason the profile's reject log. Takes no memory where there is no text.
+pub fn audit_text(
+    alloc: Global,
+    policy: &Policy,
+    domain: u32,
+    process: &Proc,
+    request: &Request,
+    verdict: &Verdict,
+) -> Result<Option<Text>, NoMemory>
+    ensures exact { IfOk result (λ text. text ≡ audit_text tomoyo_grammar policy.now domain process.now request.now verdict.now) }
+    ensures none { audit_text tomoyo_grammar policy.now domain process.now request.now verdict.now ≡ None → result ≡ Ok None }
+{
+    match logged(policy, domain, request, verdict) {
+        None => Ok(None),
+        Some((domain, mode)) => {
+            let text = lines(alloc, domain, mode, process, request, verdict.reason)?;
+            Ok(Some(text))
+        }
+    }
+}

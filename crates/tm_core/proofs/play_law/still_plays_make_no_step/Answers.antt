@@ -1,5 +1,0 @@
-use Rattle.tm_core.proofs.Still as law
-use Rattle.tm_core.proofs.play_law.still_plays_make_no_step.Goals as goal
-
-pub returns : goal.returns
-returns c = law.still_plays_make_no_step

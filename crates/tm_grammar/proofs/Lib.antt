@@ -1,0 +1,4 @@
+pub mod ReadRules
+pub mod QuietLines
+pub mod IsOne
+mod Examples

@@ -1,0 +1,308 @@
+-- What each step leaves of a state to everybody else.
+use Rattle.std.proofs.Common.{◌≡◌, ◌≤◌, ℕ, zero, suc, List, [], ◌∷◌, ◌++◌, length, map, Bool, true, false, true≢false, refl, sym, ap, ◌∙◌, arith, inl, inr, ◌⊎◌}
+use Rattle.std.specs.Prelude.{Option, Some, None, slice_get, slice_set, if◌then◌else◌, ◌==◌, ◌||◌, unwrap_or, not, nat_lt, nat_le}
+use Rattle.std.specs.Option.{option_map_or}
+use Rattle.std.proofs.lemmas.Bool.{eqb-true, le-leb, lt-ltb}
+use Rattle.tm_word.specs.Words.{Text}
+use Rattle.tm_rules.specs.Words.{Cursor}
+use Rattle.tm_types.specs.declared.policy.Policy.{Policy}
+use Rattle.tm_types.specs.declared.step.FileKind.{FileKind}
+use Rattle.tm_types.specs.declared.step.Step.{Step}
+use Rattle.tm_types.specs.declared.step.Reply.{Reply}
+use Rattle.tm_types.specs.declared.step.EditReply.{EditReply}
+use Rattle.tm_types.specs.declared.step.Editor.{Editor}
+use Rattle.tm_types.specs.declared.step.Held.{Held}
+use Rattle.tm_types.specs.declared.step.Answered.{Answered}
+use Rattle.tm_types.specs.declared.step.AnswerFault.{AnswerFault}
+use Rattle.tm_rules.specs.Grammar.{Grammar, IsGrammar}
+use Rattle.tm_rules.specs.Policy.{changed_at}
+use Rattle.tm_rules.specs.Edit.{Edited, apply_line, put_member}
+use Rattle.tm_rules.specs.Changes.{is_manager}
+use Rattle.tm_rules.specs.Queries.{Standing, Queries, numbered, ask, answer, answer_coded, answer_fault, with_answer, attach, detach, closed}
+use Rattle.tm_legal.specs.Steps.{State, Applied, apply, edit_step}
+use Rattle.tm_legal.proofs.Kept.{DomainIn, Sound, Keeps-refl, Evolves, Fits}
+use Rattle.tm_legal.proofs.Edits.{line-evolves}
+use Rattle.tm_legal.proofs.Walks.{StandingKeeps, is_over, Onward}
+
+-- Queries by serial
+
+Standing-refl : (xs : List Standing) → StandingKeeps xs xs
+Standing-refl xs n x at = (x, at, refl)
+
+get-front : (xs : List Standing) (new : Standing) (n : ℕ) (x : Standing) → slice_get xs n ≡ Some x → slice_get (xs ++ new ∷ []) n ≡ Some x
+get-front [] new n x at = absurd cc
+get-front (a ∷ xs) new zero x at = at
+get-front (a ∷ xs) new (suc n) x at = get-front xs new n x at
+
+get-last : (xs : List Standing) (new : Standing) → slice_get (xs ++ new ∷ []) (length xs) ≡ Some new
+get-last [] new = refl
+get-last (a ∷ xs) new = get-last xs new
+
+Standing-push : (xs : List Standing) (new : Standing) → StandingKeeps xs (xs ++ new ∷ [])
+Standing-push xs new zero x at = absurd cc
+Standing-push xs new (suc n) x at = (x, get-front xs new n x at, refl)
+
+get-changed : (change : Standing → Standing) → ((x : Standing) → (change x).query ≡ x.query) → (xs : List Standing) (k n : ℕ) (x : Standing) → slice_get xs n ≡ Some x → (y : Standing) × (slice_get (changed_at k change xs) n ≡ Some y) × (y.query ≡ x.query)
+get-changed change same [] k n x at = absurd cc
+get-changed change same (a ∷ xs) zero zero x at = (change a, refl, same a ∙ ap (λ (o : Standing). o.query) (let e : a ≡ x = cc in e))
+get-changed change same (a ∷ xs) zero (suc n) x at = (x, at, refl)
+get-changed change same (a ∷ xs) (suc k) zero x at = (x, at, refl)
+get-changed change same (a ∷ xs) (suc k) (suc n) x at = get-changed change same xs k n x at
+
+Standing-changed : (change : Standing → Standing) → ((x : Standing) → (change x).query ≡ x.query) → (xs : List Standing) (k : ℕ) → StandingKeeps xs (changed_at k change xs)
+Standing-changed change same xs k zero x at = absurd cc
+Standing-changed change same xs k (suc n) x at = get-changed change same xs k n x at
+
+get-closed : (xs : List Standing) (n : ℕ) (x : Standing) → slice_get xs n ≡ Some x → (y : Standing) × (slice_get (map closed xs) n ≡ Some y) × (y.query ≡ x.query)
+get-closed [] n x at = absurd cc
+get-closed (a ∷ xs) zero x at = (closed a, refl, ap (λ (o : Standing). o.query) (let e : a ≡ x = cc in e))
+get-closed (a ∷ xs) (suc n) x at = get-closed xs n x at
+
+Standing-closed : (xs : List Standing) → StandingKeeps xs (map closed xs)
+Standing-closed xs zero x at = absurd cc
+Standing-closed xs (suc n) x at = get-closed xs n x at
+
+evolves-refl : (p : Policy) → Sound p → Evolves p p
+evolves-refl p sound = record { keeps = Keeps-refl p; sound = sound }
+
+-- Own steps
+
+-- a process's own step changes the policy alone
+pub own-onward : (s : State) (step : Step) (done : Applied) → Fits s step done → Onward step s done.state
+own-onward s step done fits =
+    record {
+      evolves = fits.evolves;
+      standing = rw fits.others (Standing-refl s.queries.all);
+      over = λ t other. rw fits.others refl;
+      editors = rw fits.others refl;
+      trees = rw fits.others refl;
+    }
+
+-- an Ask is replied by a serial, of a query with its retry number, or by nobody; where nobody is there it changes nothing
+pub record Asks (s : State) (step : Step) (retry : ℕ) (done : Applied) : Type 0 where
+  pub held : Held
+  pub replied : done.reply ≡ Some (Reply.Ask held)
+  pub onward : Onward step s done.state
+  pub attached : done.state.queries.attached ≡ s.queries.attached
+  pub alone : s.queries.attached ≡ false → done.state.queries ≡ s.queries
+  pub ended : done.state.ended ≡ s.ended
+  pub grows : (held ≡ Held.Nobody) × (done.state.queries.all ≡ s.queries.all) ⊎ ((new : Standing) × (done.state.queries.all ≡ s.queries.all ++ new ∷ []) × (new.answer ≡ None) × (new.query.serial ≡ suc (length s.queries.all)))
+  pub query : (serial : ℕ) → held ≡ Held.Serial serial → (standing : Standing) × (numbered done.state.queries.all serial ≡ Some standing) × (standing.query.retry ≡ retry)
+
+pub ask-done : (g : Grammar) (s : State) (d retry : ℕ) (text : Text) → Sound s.policy → DomainIn s.policy d → Asks s (Step.Ask d retry text) retry (apply g s (Step.Ask d retry text))
+unfolding apply ask
+ask-done g s d retry text sound h = rw (h.there, h.profiled) (by_desk s.queries.attached refl)
+  where
+    new : Standing
+    new = record { query = record { serial = suc (length s.queries.all); retry = retry; domain = h.domain.name; line = text }; answer = None }
+
+    asked : Queries × Held
+    asked = (record s.queries { all = s.queries.all ++ new ∷ [] }, Held.Serial (suc (length s.queries.all)))
+
+    by_desk : (b : Bool) → s.queries.attached ≡ b → Asks s (Step.Ask d retry text) retry (let pair : Queries × Held = if not b then (s.queries, Held.Nobody) else asked in let done : Applied = record { state = record s { queries = pair.0 }; reply = Some (Reply.Ask pair.1) } in done)
+    by_desk false e =
+        record {
+          held = Held.Nobody;
+          replied = refl;
+          onward = record { evolves = evolves-refl s.policy sound; standing = Standing-refl s.queries.all; over = λ t other. refl; editors = refl; trees = refl };
+          attached = refl;
+          alone = λ alone. refl;
+          ended = refl;
+          grows = inl (refl, refl);
+          query = λ serial is. absurd cc;
+        }
+    by_desk true e =
+        record {
+          held = Held.Serial (suc (length s.queries.all));
+          replied = refl;
+          onward = record { evolves = evolves-refl s.policy sound; standing = Standing-push s.queries.all new; over = λ t other. refl; editors = refl; trees = refl };
+          attached = refl;
+          alone = λ alone. absurd (true≢false (sym e ∙ alone));
+          ended = refl;
+          grows = inr (new, refl, refl, refl);
+          query = λ serial is. let same : suc (length s.queries.all) ≡ serial = cc in (new, rw (← same) (get-last s.queries.all new), refl);
+        }
+
+-- Edits
+
+-- an editor's line has a reply, and changes the policy and that editor's cursor
+pub record EditDone (s : State) (step : Step) (done : Applied) : Type 0 where
+  pub reply : Reply
+  pub replied : done.reply ≡ Some reply
+  pub onward : Onward step s done.state
+  pub queries : done.state.queries ≡ s.queries
+  pub ended : done.state.ended ≡ s.ended
+
+pub edit-done : (g : Grammar) (s : State) (e : ℕ) (editor : Editor) (file : FileKind) (line : Text) → IsGrammar g → Sound s.policy → slice_get s.editors e ≡ Some editor → EditDone s (Step.Edit (suc e) file line) (apply g s (Step.Edit (suc e) file line))
+unfolding apply edit_step
+edit-done g s e editor file line grammar sound there = rw there (by_manager (not (is_manager s.policy editor)))
+  where
+    cursor : Cursor
+    cursor = unwrap_or (slice_get s.cursors e) None
+
+    done : Edited
+    done = apply_line g s.policy file cursor line
+
+    by_manager : (b : Bool) → EditDone s (Step.Edit (suc e) file line) (if b then (let a : Applied = record { state = s; reply = Some (Reply.Edit EditReply.NotManager) } in a) else (let a : Applied = record { state = record s { policy = done.policy; cursors = slice_set s.cursors e done.cursor }; reply = Some (Reply.Edit done.reply) } in a))
+    by_manager true =
+        record {
+          reply = Reply.Edit EditReply.NotManager;
+          replied = refl;
+          onward = record { evolves = evolves-refl s.policy sound; standing = Standing-refl s.queries.all; over = λ t other. refl; editors = refl; trees = refl };
+          queries = refl;
+          ended = refl;
+        }
+    by_manager false =
+        record {
+          reply = Reply.Edit done.reply;
+          replied = refl;
+          onward = record { evolves = line-evolves g s.policy file cursor line grammar sound; standing = Standing-refl s.queries.all; over = λ t other. refl; editors = refl; trees = refl };
+          queries = refl;
+          ended = refl;
+        }
+
+-- Ends
+
+-- who is over once a tree has ended: that one, and who was
+pub over-put : (n t : ℕ) (ended : List ℕ) → is_over n (put_member t ended) ≡ (if t == n then true else is_over n ended)
+over-put n t [] = go (t == n)
+  where
+    go : (b : Bool) → (b || false) ≡ (if b then true else false)
+    go true = refl
+    go false = refl
+over-put n t (m ∷ ms) = go (m == t) refl (nat_lt t m) (over-put n t ms)
+  where
+    first : (a c : Bool) → (a ≡ true → c ≡ true) → (c || is_over n ms) ≡ (if a then true else (c || is_over n ms))
+    first true c h = rw (h refl) refl
+    first false c h = refl
+
+    second : (a : Bool) → (a || is_over n (m ∷ ms)) ≡ (if a then true else is_over n (m ∷ ms))
+    second true = refl
+    second false = refl
+
+    third : (a c : Bool) → (c || (if a then true else is_over n ms)) ≡ (if a then true else (c || is_over n ms))
+    third true true = refl
+    third true false = refl
+    third false c = refl
+
+    go : (b : Bool) → (m == t) ≡ b → (l : Bool) → is_over n (put_member t ms) ≡ (if t == n then true else is_over n ms) → is_over n (if b then m ∷ ms else (if l then t ∷ m ∷ ms else m ∷ put_member t ms)) ≡ (if t == n then true else is_over n (m ∷ ms))
+    go true e l ih = first (t == n) (m == n) (λ same. rw (eqb-true m t e) same)
+    go false e true ih = second (t == n)
+    go false e false ih = rw ih (third (t == n) (m == n))
+
+-- a tree that wasn't over makes one more
+pub length-put : (t : ℕ) (ended : List ℕ) → is_over t ended ≡ false → length (put_member t ended) ≡ suc (length ended)
+length-put t [] h = refl
+length-put t (m ∷ ms) h = go (m == t) refl (nat_lt t m) (length-put t ms)
+  where
+    go : (b : Bool) → (m == t) ≡ b → (l : Bool) → (is_over t ms ≡ false → length (put_member t ms) ≡ suc (length ms)) → length (if b then m ∷ ms else (if l then t ∷ m ∷ ms else m ∷ put_member t ms)) ≡ suc (suc (length ms))
+    go true e l ih = absurd (true≢false (sym (rw e refl) ∙ h))
+    go false e true ih = refl
+    go false e false ih = ap suc (ih (rw e at h))
+
+-- a tree that is there ends
+pub record EndDone (s : State) (t : ℕ) (done : Applied) : Type 0 where
+  pub replied : done.reply ≡ Some Reply.End
+  pub onward : Onward (Step.End t) s done.state
+  pub queries : done.state.queries ≡ s.queries
+  pub ended : done.state.ended ≡ put_member t s.ended
+
+pub end-done : (g : Grammar) (s : State) (t : ℕ) → Sound s.policy → suc t ≤ s.trees → EndDone s (suc t) (apply g s (Step.End (suc t)))
+unfolding apply
+end-done g s t sound le =
+    let there : nat_le (suc t) s.trees ≡ true = le-leb (suc t) s.trees le in
+    let first : nat_lt 0 (suc t) ≡ true = lt-ltb 0 (suc t) (omega arith) in
+    rw (first, there)
+    (record {
+      replied = refl;
+      onward = record {
+        evolves = evolves-refl s.policy sound;
+        standing = Standing-refl s.queries.all;
+        over = λ n other. over-put n (suc t) s.ended ∙ rw other refl;
+        editors = refl;
+        trees = refl;
+      };
+      queries = refl;
+      ended = refl;
+    })
+
+-- The supervisor's steps
+
+-- an answer has a reply, and leaves these queries
+pub record AnswerDone (s : State) (step : Step) (after : Queries) (done : Applied) : Type 0 where
+  pub reply : Reply
+  pub replied : done.reply ≡ Some reply
+  pub onward : Onward step s done.state
+  pub attached : done.state.queries.attached ≡ s.queries.attached
+  pub ended : done.state.ended ≡ s.ended
+  pub queries : done.state.queries ≡ after
+
+pub answer-done : (g : Grammar) (s : State) (serial code : ℕ) → Sound s.policy → AnswerDone s (Step.Answer serial code) (answer s.queries serial code).0 (apply g s (Step.Answer serial code))
+unfolding apply answer
+answer-done g s serial code sound = by_fault (answer_fault (numbered s.queries.all serial) code)
+  where
+    given : (n : ℕ) → (x : Option Answered) → StandingKeeps s.queries.all (with_answer s.queries n x).all × ((with_answer s.queries n x).attached ≡ s.queries.attached)
+    given zero x = (Standing-refl s.queries.all, refl)
+    given (suc n) x = (Standing-changed (λ (o : Standing). record o { answer = x }) (λ o. refl) s.queries.all n, refl)
+
+    by_fault : (o : Option AnswerFault) → (let after : Queries × Option AnswerFault = option_map_or (λ fault. (s.queries, Some fault)) o (with_answer s.queries serial (answer_coded code), None) in let done : Applied = record { state = record s { queries = after.0 }; reply = Some (Reply.Answer after.1) } in AnswerDone s (Step.Answer serial code) after.0 done)
+    by_fault None =
+        let given_ = given serial (answer_coded code) in
+        record {
+          reply = Reply.Answer None;
+          replied = refl;
+          onward = record { evolves = evolves-refl s.policy sound; standing = given_.0; over = λ t other. refl; editors = refl; trees = refl };
+          attached = given_.1;
+          ended = refl;
+          queries = refl;
+        }
+    by_fault (Some fault) =
+        record {
+          reply = Reply.Answer (Some fault);
+          replied = refl;
+          onward = record { evolves = evolves-refl s.policy sound; standing = Standing-refl s.queries.all; over = λ t other. refl; editors = refl; trees = refl };
+          attached = refl;
+          ended = refl;
+          queries = refl;
+        }
+
+-- the supervisor comes
+pub record AttachDone (s : State) (done : Applied) : Type 0 where
+  pub reply : Reply
+  pub replied : done.reply ≡ Some reply
+  pub onward : Onward Step.Attach s done.state
+  pub queries : done.state.queries ≡ record s.queries { attached = true }
+  pub ended : done.state.ended ≡ s.ended
+
+pub attach-done : (g : Grammar) (s : State) → Sound s.policy → AttachDone s (apply g s Step.Attach)
+unfolding apply attach
+attach-done g s sound =
+    record {
+      reply = Reply.Attach (not s.queries.attached);
+      replied = refl;
+      onward = record { evolves = evolves-refl s.policy sound; standing = Standing-refl s.queries.all; over = λ t other. refl; editors = refl; trees = refl };
+      queries = refl;
+      ended = refl;
+    }
+
+-- the supervisor leaves
+pub record DetachDone (s : State) (done : Applied) : Type 0 where
+  pub reply : Reply
+  pub replied : done.reply ≡ Some reply
+  pub onward : Onward Step.Detach s done.state
+  pub attached : done.state.queries.attached ≡ false
+  pub all : done.state.queries.all ≡ map closed s.queries.all
+  pub ended : done.state.ended ≡ s.ended
+
+pub detach-done : (g : Grammar) (s : State) → Sound s.policy → s.queries.attached ≡ true → DetachDone s (apply g s Step.Detach)
+unfolding apply detach
+detach-done g s sound there =
+    rw there
+    (record {
+      reply = Reply.Detach true;
+      replied = refl;
+      onward = record { evolves = evolves-refl s.policy sound; standing = Standing-closed s.queries.all; over = λ t other. refl; editors = refl; trees = refl };
+      attached = refl;
+      all = refl;
+      ended = refl;
+    })

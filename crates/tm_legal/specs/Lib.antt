@@ -1,0 +1,7 @@
+pub mod Verdict
+pub mod Steps
+pub mod Run
+pub mod Legal
+pub mod Play
+pub mod Clean
+pub mod Replay

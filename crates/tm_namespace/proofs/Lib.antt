@@ -1,2 +1,0 @@
-pub mod NamespaceLaws
-pub mod Steps

@@ -1,0 +1,15 @@
+//! One line of any policy file, read, and the printed lines of domains, managers and ACL groups.
+//! Stands on tm_entry, tm_except and tm_profile, whose lines it joins, and on tm_line for the steps of lines.
+//! Promises that reading is the grammar with the kind of the first wrong word, that each printer appends the one line, and that what is printed is read again as that line.
+#![tactic(auto)]
+
+mod laws;
+mod printing;
+mod reading;
+
+pub use laws::{lines_again, lines_read, printed_lines, printed_words, texts_again};
+pub use printing::{
+    print_acl_group_line, print_acl_line, print_failed_line, print_group_line, print_manager_line,
+    print_name_line, print_non_root_line, print_profile_line, print_quota_line,
+};
+pub use reading::read_line;

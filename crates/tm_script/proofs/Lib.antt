@@ -1,0 +1,5 @@
+pub mod ReadSteps
+pub mod ReadLaws
+pub mod CountLaws
+pub mod FaultLaws
+mod ScriptExamples

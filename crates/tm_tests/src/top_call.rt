@@ -1,0 +1,238 @@
+//! The top call over files in memory.
+use std::alloc::Global;
+use std::test::Fail;
+use tm_io::{FileList, FileName, MemoryShelf, MemorySink};
+use tm_list::NoMemory;
+use tm_word::Text;
+use tomoyo::{OutName, Status, run_alone};
+
+const PROFILE: &[u8] = b"PROFILE_VERSION=20150505\n\
+0-CONFIG={ mode=disabled grant_log=no reject_log=no }\n\
+1-CONFIG={ mode=enforcing grant_log=no reject_log=no }\n\
+2-CONFIG={ mode=learning grant_log=no reject_log=no }\n\
+2-PREFERENCE={ max_audit_log=1024 max_learning_entry=3 }\n";
+
+const TRACE: &[u8] = b"tree 7 <kernel>\ndo 7 file read /a\ndo 7 file read /b\n";
+
+// How a call ended, and what it stored and put.
+#[derive(Drop)]
+struct Ended {
+    status: Status,
+    run: Text,
+    domain: Text,
+    line: Text,
+}
+
+// What a shelf holds of a file, nothing where it isn't there.
+fn held(alloc: Global, shelf: &MemoryShelf, name: FileName) -> Result<Text, NoMemory> {
+    match shelf.get(name) {
+        Some(bytes) => Text::from_bytes(alloc, bytes),
+        None => Ok(Text::new(alloc)),
+    }
+}
+
+// A call with this word over these files, of which calls with these numbers fail.
+fn call(alloc: Global, word: &str, files: FileList, fails: Vec<u32>) -> Result<Ended, NoMemory> {
+    let mut words = Vec::new(alloc);
+    if !word.is_empty() {
+        words.push(String::from_str(alloc, word)?)?;
+    }
+    let mut shelf = MemoryShelf::new(alloc, files, fails);
+    let mut out = MemorySink::new(alloc, Vec::new(alloc));
+    let status = run_alone(alloc, words.as_slice(), &mut shelf, &mut out);
+    Ok(Ended {
+        status,
+        run: held(alloc, &shelf, FileName::Run)?,
+        domain: held(alloc, &shelf, FileName::DomainPolicyNew)?,
+        line: Text::from_bytes(alloc, out.bytes())?,
+    })
+}
+
+// The two needed policy files.
+fn policy_files(alloc: Global, domain_policy: &[u8]) -> Result<FileList, NoMemory> {
+    let mut files = FileList::new(alloc);
+    files.push((FileName::Profile, Text::from_bytes(alloc, PROFILE)?))?;
+    files.push((
+        FileName::DomainPolicy,
+        Text::from_bytes(alloc, domain_policy)?,
+    ))?;
+    Ok(files)
+}
+
+// The three needed files.
+fn files(alloc: Global, domain_policy: &[u8], trace: &[u8]) -> Result<FileList, NoMemory> {
+    let mut files = policy_files(alloc, domain_policy)?;
+    files.push((FileName::Trace, Text::from_bytes(alloc, trace)?))?;
+    Ok(files)
+}
+
+#[test]
+fn an_enforced_read_is_granted_by_its_entry_alone(rt: HostRuntime) -> Result<(), Fail> {
+    let alloc = rt.alloc();
+    let texts = files(alloc, b"<kernel>\nuse_profile 1\nfile read /a\n", TRACE)?;
+    let ended = call(alloc, "step", texts, Vec::new(alloc))?;
+    let run: &[u8] = b"run 1\n\
+take 1 7 0 0 granted\n\
+look 0 enforcing entry:0 stay - -\n\
+audit -\n\
+take 2 7 0 0 denied\n\
+look 0 enforcing no_entry stay - -\n\
+audit -\n";
+    let line: &[u8] =
+        b"requests 2 granted 1 denied 1 learned 0 steps 0 domains 1 clean no plain yes\n";
+    assert!(rt; matches!(ended.status, Status::Done));
+    assert_eq!(rt; ended.run.bytes(), run);
+    assert_eq!(rt; ended.line.bytes(), line);
+    Ok(())
+}
+
+#[test]
+fn in_mode_disabled_every_request_is_granted(rt: HostRuntime) -> Result<(), Fail> {
+    let alloc = rt.alloc();
+    let texts = files(alloc, b"<kernel>\nuse_profile 0\nfile read /a\n", TRACE)?;
+    let ended = call(alloc, "step", texts, Vec::new(alloc))?;
+    let run: &[u8] = b"run 1\n\
+take 1 7 0 0 granted\n\
+look 0 disabled disabled stay - -\n\
+audit -\n\
+take 2 7 0 0 granted\n\
+look 0 disabled disabled stay - -\n\
+audit -\n";
+    let line: &[u8] =
+        b"requests 2 granted 2 denied 0 learned 0 steps 0 domains 1 clean yes plain yes\n";
+    assert!(rt; matches!(ended.status, Status::Done));
+    assert_eq!(rt; ended.run.bytes(), run);
+    assert_eq!(rt; ended.line.bytes(), line);
+    Ok(())
+}
+
+#[test]
+fn a_full_domain_learns_nothing_more(rt: HostRuntime) -> Result<(), Fail> {
+    let alloc = rt.alloc();
+    let policy = b"<kernel>\nuse_profile 2\nfile read/write /a\nfile getattr /b\n";
+    let trace = b"tree 7 <kernel>\ndo 7 file read /c\ndo 7 file read /d\n";
+    let texts = files(alloc, policy, trace)?;
+    let ended = call(alloc, "step", texts, Vec::new(alloc))?;
+    let run: &[u8] = b"run 1\n\
+step 1 quota learn 0 file read /c\n\
+take 1 7 0 0 granted\n\
+look 0 learning learn stay 1 -\n\
+audit -\n\
+take 2 7 0 0 granted\n\
+look 1 learning quota stay - -\n\
+audit -\n";
+    let domain: &[u8] = b"<kernel>\n\
+use_profile 2\n\
+quota_exceeded\n\
+file read/write /a\n\
+file getattr /b\n\
+\n";
+    assert!(rt; matches!(ended.status, Status::Done));
+    assert_eq!(rt; ended.run.bytes(), run);
+    assert_eq!(rt; ended.domain.bytes(), domain);
+    Ok(())
+}
+
+#[test]
+fn a_line_that_is_not_built_is_named(rt: HostRuntime) -> Result<(), Fail> {
+    let alloc = rt.alloc();
+    let texts = files(alloc, b"<kernel>\nuse_profile 1\nfile unlink /a\n", TRACE)?;
+    let ended = call(alloc, "step", texts, Vec::new(alloc))?;
+    assert!(rt; matches!(ended.status, Status::NotBuilt(FileName::DomainPolicy, 3)));
+    assert!(rt; ended.run.is_empty());
+    assert!(rt; ended.line.is_empty());
+    Ok(())
+}
+
+#[test]
+fn two_trees_that_look_at_one_version_learn_one_line(rt: HostRuntime) -> Result<(), Fail> {
+    let alloc = rt.alloc();
+    let trace = b"tree 7 <kernel>\ndo 7 file read /x\ntree 8 <kernel>\ndo 8 file read /x\n";
+    let schedule = b"tree 1\ntree 2\ntree 1\ntree 2\n";
+    let mut texts = files(alloc, b"<kernel>\nuse_profile 2\n", trace)?;
+    texts.push((FileName::Schedule, Text::from_bytes(alloc, schedule)?))?;
+    let ended = call(alloc, "step", texts, Vec::new(alloc))?;
+    let run: &[u8] = b"run 1\n\
+step 1 added learn 0 file read /x\n\
+step 2 there learn 0 file read /x\n\
+take 1 7 0 0 granted\n\
+look 0 learning learn stay 1 -\n\
+audit -\n\
+take 2 8 0 0 granted\n\
+look 0 learning learn stay 2 -\n\
+audit -\n";
+    let line: &[u8] =
+        b"requests 2 granted 2 denied 0 learned 1 steps 2 domains 1 clean yes plain yes\n";
+    assert!(rt; matches!(ended.status, Status::Done));
+    assert_eq!(rt; ended.run.bytes(), run);
+    assert_eq!(rt; ended.line.bytes(), line);
+    Ok(())
+}
+
+#[test]
+fn a_schedule_names_trees_that_are_there(rt: HostRuntime) -> Result<(), Fail> {
+    let alloc = rt.alloc();
+    let mut texts = files(alloc, b"<kernel>\nuse_profile 1\n", TRACE)?;
+    texts.push((
+        FileName::Schedule,
+        Text::from_bytes(alloc, b"tree 1\ntree 9\n")?,
+    ))?;
+    let ended = call(alloc, "step", texts, Vec::new(alloc))?;
+    assert!(rt; matches!(ended.status, Status::NotBuilt(FileName::Schedule, 2)));
+    Ok(())
+}
+
+#[test]
+fn a_trace_has_to_be_there(rt: HostRuntime) -> Result<(), Fail> {
+    let alloc = rt.alloc();
+    let texts = policy_files(alloc, b"<kernel>\nuse_profile 1\n")?;
+    let ended = call(alloc, "step", texts, Vec::new(alloc))?;
+    assert!(rt; matches!(ended.status, Status::Absent(FileName::Trace)));
+    assert!(rt; ended.run.is_empty());
+    assert!(rt; ended.line.is_empty());
+    Ok(())
+}
+
+#[test]
+fn a_file_has_no_more_bytes_than_are_taken(rt: HostRuntime) -> Result<(), Fail> {
+    let alloc = rt.alloc();
+    let mut texts = FileList::new(alloc);
+    let profile = Text::from_vec(vec![in alloc; b'#'; 16_777_217]?);
+    texts.push((FileName::Profile, profile))?;
+    let ended = call(alloc, "step", texts, Vec::new(alloc))?;
+    assert!(rt; matches!(ended.status, Status::TooLong(FileName::Profile)));
+    Ok(())
+}
+
+#[test]
+fn without_words_there_is_no_command(rt: HostRuntime) -> Result<(), Fail> {
+    let alloc = rt.alloc();
+    let texts = files(alloc, b"<kernel>\nuse_profile 1\n", TRACE)?;
+    let ended = call(alloc, "", texts, Vec::new(alloc))?;
+    assert!(rt; matches!(ended.status, Status::BadWords(0)));
+    Ok(())
+}
+
+#[test]
+fn a_failing_first_fetch_is_a_read_fault(rt: HostRuntime) -> Result<(), Fail> {
+    let alloc = rt.alloc();
+    let texts = files(alloc, b"<kernel>\nuse_profile 1\n", TRACE)?;
+    let ended = call(alloc, "step", texts, vec![in alloc; 0]?)?;
+    assert!(rt; matches!(ended.status, Status::ReadFault(FileName::Profile)));
+    Ok(())
+}
+
+#[test]
+fn a_failing_first_store_is_a_write_fault(rt: HostRuntime) -> Result<(), Fail> {
+    let alloc = rt.alloc();
+    let texts = files(alloc, b"<kernel>\nuse_profile 1\n", TRACE)?;
+    let ended = call(alloc, "step", texts, vec![in alloc; 8]?)?;
+    assert!(rt;
+        matches!(
+            ended.status,
+            Status::WriteFault(OutName::File(FileName::Run))
+        )
+    );
+    assert!(rt; ended.line.is_empty());
+    Ok(())
+}

@@ -1,0 +1,140 @@
+//! The function of each permission, and the names of requests.
+use std::alloc::Global;
+use tm_list::{NoMemory, Seq};
+use tm_number::{Addr, AddrRange, Base, Number, Range};
+use tm_pattern::literal;
+use tm_types::entry::{Args, InetKind, Prefer, UnixKind};
+use tm_types::policy::Function;
+use tm_types::request::{Attributes, Request};
+use tm_types::unions::{AddrUnion, NameUnion, NumberUnion};
+use tm_types::{function_at, function_of};
+
+#[test]
+fn each_permission_has_its_function(rt: HostRuntime) {
+    let alloc = rt.alloc();
+    let path = Args::Path(NameUnion::Group(Seq::new(alloc)));
+    for (perm, want) in [
+        (0u8, Some(Function::Execute)),
+        (1, Some(Function::Open)),
+        (3, Some(Function::Open)),
+        (4, Some(Function::Unlink)),
+        (5, Some(Function::Getattr)),
+        (10, Some(Function::Unmount)),
+        (11, None),
+        (255, None),
+    ] {
+        assert!(rt; function_at(&path, perm) == want);
+    }
+    assert!(rt; function_of(&path, 7) == Function::Truncate);
+}
+
+#[test]
+fn each_kind_of_socket_has_its_functions(rt: HostRuntime) {
+    let alloc = rt.alloc();
+    for (kind, wanted) in [
+        (InetKind::Stream, Some(Function::InetStreamConnect)),
+        (InetKind::Dgram, None),
+        (InetKind::Raw, None),
+    ] {
+        let args = Args::Inet(
+            kind,
+            AddrUnion::Group(Seq::new(alloc)),
+            NumberUnion::Group(Seq::new(alloc)),
+        );
+        assert!(rt; function_at(&args, 2) == wanted);
+    }
+    assert!(rt; function_at(&Args::Manual(Seq::new(alloc)), 0) == None);
+}
+
+/// The literal of a name.
+fn name(alloc: Global, written: &str) -> Result<NameUnion, NoMemory> {
+    let word = Seq::from_bytes(alloc, written.as_bytes())?;
+    Ok(NameUnion::One(literal(alloc, &word)?))
+}
+
+fn number() -> NumberUnion {
+    let one = Number {
+        value: 1,
+        base: Base::Decimal,
+    };
+    NumberUnion::One(Range {
+        low: one,
+        high: one,
+    })
+}
+
+fn address() -> AddrUnion {
+    let one = Addr::V4(1);
+    AddrUnion::One(AddrRange {
+        low: one,
+        high: one,
+    })
+}
+
+/// A request with these arguments and the permission at place 1, and nothing recorded besides.
+fn request(alloc: Global, args: Args) -> Result<Request, NoMemory> {
+    let attributes = Attributes {
+        real_path: None,
+        argv: Seq::new(alloc),
+        envp: Seq::new(alloc),
+        target: None,
+        stats: Seq::new(alloc),
+    };
+    Request::new(alloc, args, 1, attributes)
+}
+
+/// A request of each row.
+fn asked(alloc: Global, row: u8) -> Result<Request, NoMemory> {
+    let args = match row {
+        0 => Args::Path(name(alloc, "/a b")?),
+        1 => Args::Execute(name(alloc, "/")?, Prefer::Keep),
+        2 => Args::PathNumber(name(alloc, "/a/b")?, number()),
+        3 => Args::Device(name(alloc, "a/")?, number(), number(), number()),
+        4 => Args::Unix(UnixKind::Dgram, name(alloc, "\0u")?),
+        5 => Args::Env(literal(alloc, &Seq::from_bytes(alloc, b"PATH")?)?),
+        6 => Args::Path2(name(alloc, "/a")?, name(alloc, "/b")?),
+        7 => Args::Mount(
+            name(alloc, "a")?,
+            name(alloc, "/b")?,
+            name(alloc, "c")?,
+            number(),
+        ),
+        8 => Args::Inet(InetKind::Raw, address(), number()),
+        _ => Args::Manual(Seq::from_bytes(alloc, b"<kernel> /a")?),
+    };
+    request(alloc, args)
+}
+
+/// The names of the request of a row, each in brackets.
+fn names_of(alloc: Global, row: u8) -> Result<Vec<u8>, NoMemory> {
+    let request = asked(alloc, row)?;
+    let mut text = Vec::new(alloc);
+    for place in 0..4 {
+        if let Some(name) = request.name(place) {
+            text.push(b'[')?;
+            text.extend_from_slice(name.bytes())?;
+            text.push(b']')?;
+        }
+    }
+    Ok(text)
+}
+
+#[test]
+fn a_request_has_the_words_of_its_names(rt: HostRuntime) -> Result<(), NoMemory> {
+    for (row, names) in [
+        (0, "[/a b]"),
+        (1, "[/]"),
+        (2, "[/a/b]"),
+        (3, "[a/]"),
+        (4, "[\0u]"),
+        (5, "[PATH]"),
+        (6, "[/a][/b]"),
+        (7, "[a][/b][c]"),
+        (8, ""),
+        (9, ""),
+    ] {
+        let text = names_of(rt.alloc(), row)?;
+        assert_eq!(rt; text.as_slice(), names.as_bytes());
+    }
+    Ok(())
+}

@@ -1,0 +1,20 @@
+mod Examples
+pub mod Names
+pub mod Singles
+pub mod Perms
+pub mod RequestLaws
+pub mod Asking
+pub mod Askable
+pub mod AttributeRead
+pub mod AttributeAgain
+pub mod AttributesAgain
+pub mod WordLaws
+pub mod RequestOf
+pub mod Pids
+pub mod TraceRead
+pub mod TraceAgain
+pub mod EachAsked
+pub mod TextLaws
+pub mod PlaceLaws
+pub mod PrintLaws
+pub mod PidSets

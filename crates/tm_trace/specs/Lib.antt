@@ -1,0 +1,10 @@
+pub mod Lines
+pub mod Requests
+pub mod Attributes
+pub mod Processes
+pub mod Trees
+pub mod Reading
+pub mod Printing
+pub mod Written
+pub mod Steps
+pub mod Named

@@ -1,0 +1,71 @@
+//! Pids and ids.
+ghost use Rattle.std.specs.Prelude.{◌≡◌, ◌^◌};
+ghost use Rattle.tm_word.specs.Gives.{GivesNow};
+ghost use Rattle.tm_line.specs.Lines.{line_cause, word_at};
+ghost use Rattle.tm_trace.specs.Processes.{pid_word, id_at, ids_to_end};
+
+use tm_line::{ended, plain_number};
+use tm_types::entry::LineKind;
+use tm_types::request::Ids;
+use tm_types::step::LineFault;
+use tm_word::Text;
+
+// A plain number from 1 to 2^32 - 1.
+#[tactic(auto, unfolding(crate::specs::Processes::pid_word))]
+fn pid_word(text: &[u8]) -> Result<u32, LineFault>
+    ensures { GivesNow line_cause (λ pid. pid) result (pid_word text.now) }
+{
+    let pid = plain_number(text)?;
+    if pid == 0 {
+        Err(LineFault::Kind(LineKind::Number))
+    } else {
+        Ok(pid)
+    }
+}
+
+/// Reads a pid at the front, and answers the words after it. Errors: `Arity` where no word is left, `Number`.
+pub(crate) fn pid_at(words: &[Text]) -> Result<(u32, &[Text]), LineFault>
+    ensures { GivesNow line_cause (λ x. (x.0, x.1.now)) result (word_at pid_word words.now) }
+{
+    match words {
+        [] => Err(LineFault::Kind(LineKind::Arity)),
+        [word, rest @ ..] => Ok((pid_word(word.bytes())?, rest)),
+    }
+}
+
+// A plain number below 2^32.
+#[tactic(auto, unfolding(crate::specs::Processes::id_at))]
+fn id_at(words: &[Text]) -> Result<(u32, &[Text]), LineFault>
+    ensures { GivesNow line_cause (λ x. (x.0, x.1.now)) result (id_at words.now) }
+{
+    match words {
+        [] => Err(LineFault::Kind(LineKind::Arity)),
+        [word, rest @ ..] => Ok((plain_number(word.bytes())?, rest)),
+    }
+}
+
+/// Reads eight ids, after which no word stands. Errors: `Arity` where a word is missing or one too many, `Number`.
+#[tactic(auto, unfolding(crate::specs::Processes::ids_to_end))]
+pub(crate) fn ids_to_end(words: &[Text]) -> Result<Ids, LineFault>
+    ensures { GivesNow line_cause (λ ids. ids) result (ids_to_end words.now) }
+{
+    let (uid, rest) = id_at(words)?;
+    let (euid, rest) = id_at(rest)?;
+    let (suid, rest) = id_at(rest)?;
+    let (fsuid, rest) = id_at(rest)?;
+    let (gid, rest) = id_at(rest)?;
+    let (egid, rest) = id_at(rest)?;
+    let (sgid, rest) = id_at(rest)?;
+    let (fsgid, rest) = id_at(rest)?;
+    let ids = Ids {
+        uid,
+        euid,
+        suid,
+        fsuid,
+        gid,
+        egid,
+        sgid,
+        fsgid,
+    };
+    ended(ids, rest)
+}

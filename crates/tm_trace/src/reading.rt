@@ -1,0 +1,371 @@
+//! Reading traces, line by line.
+ghost use Rattle.std.specs.Prelude.{◌≡◌, [], ◌++◌, IfOk, option_to_list};
+ghost use Rattle.tm_word.specs.Spelling.{words_of};
+ghost use Rattle.tm_types.specs.declared.request.Item.{Item};
+ghost use Rattle.tm_word.specs.Gives.{Gives, GivesNow};
+ghost use Rattle.tm_trace.specs.Lines.{trace_cause};
+ghost use Rattle.tm_trace.specs.Trees.{made_by, new_tree, with_tree, no_trees, all_trees, with_item};
+ghost use Rattle.tm_trace.specs.Reading.{new_at, request_of, tree_line, ids_line, fork_line, do_line, line_at, trace_of, is_tree_line, tree_line_at};
+ghost use Rattle.tm_trace.specs.Steps.{step_cause, HasMore, IsOnly, process_in, recorded};
+
+use crate::attribute::read_attributes;
+use crate::faults::{StepFault, as_step, in_line};
+use crate::process::{ids_to_end, pid_at};
+use crate::request::request_line;
+use std::alloc::Global;
+use std::collections::BTreeSet;
+use std::marker::Model;
+use tm_line::domain_to_end;
+use tm_list::{NoMemory, Seq};
+use tm_types::request::{Item, Request, Trace, TraceFault, TraceKind, Tree};
+use tm_types::unions::DomainName;
+use tm_word::{Text, bytes_equal, cut_at, cut_word, normal_words};
+
+// A request and its attributes, which are all words after it.
+#[tactic(auto, unfolding(crate::specs::Reading::request_of, crate::specs::Reading::request_at))]
+fn request_of(alloc: Global, words: &[Text]) -> Result<Request, StepFault>
+    ensures { Gives step_cause (λ request. request) result (request_of words.now) }
+{
+    let (args, perm, rest) = as_step(TraceKind::Request, request_line(alloc, words))?;
+    let attributes = as_step(
+        TraceKind::Attribute,
+        read_attributes(alloc, &args, perm, rest),
+    )?;
+    Ok(Request::new(alloc, args, perm, attributes)?)
+}
+
+fn new_tree(alloc: Global, pid: u32, start: DomainName) -> Tree
+    ensures { result ≡ new_tree pid start }
+{
+    Tree {
+        start,
+        pid,
+        records: Seq::new(alloc),
+    }
+}
+
+fn with_item(tree: Tree, item: Item) -> Result<Tree, NoMemory>
+    ensures { IfOk result (λ next. next ≡ with_item tree item) }
+{
+    let Tree {
+        start,
+        pid,
+        mut records,
+    } = tree;
+    records.push(item)?;
+    Ok(Tree {
+        start,
+        pid,
+        records,
+    })
+}
+
+fn joined(mut before: Seq<Tree>, last: Option<Tree>) -> Result<Trace, NoMemory>
+    ensures { IfOk result (λ trees. trees ≡ before ++ option_to_list last) }
+{
+    match last {
+        None => Ok(before),
+        Some(tree) => {
+            before.push(tree)?;
+            Ok(before)
+        }
+    }
+}
+
+// These pids and one more.
+#[tactic(auto, unfolding(crate::specs::Steps::HasMore))]
+fn with_pid(mut pids: BTreeSet<u32>, pid: u32) -> Result<BTreeSet<u32>, NoMemory>
+    ensures { IfOk result (λ next. HasMore pids next pid) }
+{
+    pids.insert(pid)?;
+    Ok(pids)
+}
+
+// This pid alone.
+#[tactic(auto, unfolding(crate::specs::Steps::IsOnly))]
+fn one_pid(alloc: Global, pid: u32) -> Result<BTreeSet<u32>, NoMemory>
+    ensures { IfOk result (λ set. IsOnly set pid) }
+{
+    let mut set = BTreeSet::new(alloc);
+    set.insert(pid)?;
+    Ok(set)
+}
+
+// The trees that have been read: those before the last one and the last one, and beside them the pids of all and those of the last one.
+#[derive(Drop)]
+struct Reading {
+    before: Seq<Tree>,
+    last: Option<Tree>,
+    made: BTreeSet<u32>,
+    own: BTreeSet<u32>,
+}
+
+impl Model for Reading {
+    ghost use Rattle.std.specs.Prelude.{◌++◌, option_to_list};
+    ghost use Rattle.tm_trace.specs.Trees.{Trees, trace_pids};
+    ghost use Rattle.tm_trace.specs.Steps.{Holds, last_pids};
+
+    ghost Value = { Trees };
+
+    ghost view = { λ r. record { before = r.before; last = r.last } };
+
+    ghost invariant = { λ r. Holds r.made (trace_pids (r.before ++ option_to_list r.last)) × Holds r.own (last_pids r.last) };
+}
+
+impl Reading {
+    // No tree yet.
+    fn new(alloc: Global) -> Reading
+        ensures { result ≡ no_trees }
+    {
+        Reading {
+            before: Seq::new(alloc),
+            last: None,
+            made: BTreeSet::new(alloc),
+            own: BTreeSet::new(alloc),
+        }
+    }
+
+    fn trace(self) -> Result<Trace, NoMemory>
+        ensures { IfOk result (λ trace. trace ≡ all_trees self) }
+    {
+        let Reading { before, last, .. } = self;
+        joined(before, last)
+    }
+
+    // A pid that no line has made.
+    #[tactic(auto, unfolding(crate::specs::Reading::new_at))]
+    fn new_at<'a>(&self, words: &'a [Text]) -> Result<(u32, &'a [Text]), StepFault>
+        ensures { GivesNow step_cause (λ x. (x.0, x.1.now)) result (new_at self.now words.now) }
+    {
+        let (pid, rest) = as_step(TraceKind::Number, pid_at(words))?;
+        if self.made.contains(&pid) {
+            Err(StepFault::Kind(TraceKind::KnownProcess))
+        } else {
+            Ok((pid, rest))
+        }
+    }
+
+    // A process of the last tree.
+    #[tactic(auto, unfolding(crate::specs::Reading::process_at))]
+    fn process_at<'a>(&self, words: &'a [Text]) -> Result<(u32, &'a [Text]), StepFault>
+        ensures { GivesNow step_cause (λ x. (x.0, x.1.now)) result (process_in self.now.last words.now) }
+    {
+        if self.last.is_none() {
+            return Err(StepFault::Kind(TraceKind::NoTree));
+        }
+        let (pid, rest) = as_step(TraceKind::Number, pid_at(words))?;
+        if self.own.contains(&pid) {
+            Ok((pid, rest))
+        } else {
+            Err(StepFault::Kind(TraceKind::NoProcess))
+        }
+    }
+
+    // One tree more, which is the last one.
+    fn with_tree(self, alloc: Global, pid: u32, start: DomainName) -> Result<Reading, NoMemory>
+        ensures { IfOk result (λ next. next ≡ with_tree self (new_tree pid start)) }
+    {
+        let Reading {
+            before,
+            last,
+            made,
+            ..
+        } = self;
+        let before = joined(before, last)?;
+        let made = with_pid(made, pid)?;
+        let own = one_pid(alloc, pid)?;
+        let tree = new_tree(alloc, pid, start);
+        Ok(Reading {
+            before,
+            last: Some(tree),
+            made,
+            own,
+        })
+    }
+
+    // One record more of the last tree, which makes no process.
+    fn with_record(self, item: Item) -> Result<Reading, StepFault>
+        requires { made_by item ≡ [] }
+        ensures { Gives step_cause (λ next. next) result (recorded self self.last item) }
+    {
+        let Reading {
+            before,
+            last,
+            made,
+            own,
+        } = self;
+        match last {
+            None => Err(StepFault::Kind(TraceKind::NoTree)),
+            Some(tree) => {
+                let tree = with_item(tree, item)?;
+                Ok(Reading {
+                    before,
+                    last: Some(tree),
+                    made,
+                    own,
+                })
+            }
+        }
+    }
+
+    // A child of a process of the last tree.
+    fn with_child(self, pid: u32, child: u32) -> Result<Reading, StepFault>
+        ensures { Gives step_cause (λ next. next) result (recorded self self.last (Item.Fork pid child)) }
+    {
+        let Reading {
+            before,
+            last,
+            made,
+            own,
+        } = self;
+        match last {
+            None => Err(StepFault::Kind(TraceKind::NoTree)),
+            Some(tree) => {
+                let made = with_pid(made, child)?;
+                let own = with_pid(own, child)?;
+                let tree = with_item(tree, Item::Fork(pid, child))?;
+                Ok(Reading {
+                    before,
+                    last: Some(tree),
+                    made,
+                    own,
+                })
+            }
+        }
+    }
+
+    // `tree PID DOMAIN`, past the first word.
+    #[tactic(auto, unfolding(crate::specs::Reading::tree_line))]
+    fn tree_line(self, alloc: Global, words: &[Text]) -> Result<Reading, StepFault>
+        ensures { Gives step_cause (λ next. next) result (tree_line self words.now) }
+    {
+        let (pid, rest) = self.new_at(words)?;
+        let start = as_step(TraceKind::NoDomain, domain_to_end(alloc, rest))?;
+        Ok(self.with_tree(alloc, pid, start)?)
+    }
+
+    // `ids PID UID EUID SUID FSUID GID EGID SGID FSGID`, past the first word.
+    #[tactic(auto, unfolding(crate::specs::Reading::ids_line))]
+    fn ids_line(self, words: &[Text]) -> Result<Reading, StepFault>
+        ensures { Gives step_cause (λ next. next) result (ids_line self self.last words.now) }
+    {
+        let (pid, rest) = self.process_at(words)?;
+        let ids = as_step(TraceKind::Number, ids_to_end(rest))?;
+        self.with_record(Item::Ids(pid, ids))
+    }
+
+    // `fork PID CHILD`, past the first word.
+    #[tactic(auto, unfolding(crate::specs::Reading::fork_line))]
+    fn fork_line(self, words: &[Text]) -> Result<Reading, StepFault>
+        ensures { Gives step_cause (λ next. next) result (fork_line self self.last words.now) }
+    {
+        let (pid, rest) = self.process_at(words)?;
+        let (child, rest) = self.new_at(rest)?;
+        if rest.is_empty() {
+            self.with_child(pid, child)
+        } else {
+            Err(StepFault::Kind(TraceKind::Arity))
+        }
+    }
+
+    // `do PID REQUEST ATTRIBUTES`, past the first word.
+    #[tactic(auto, unfolding(crate::specs::Reading::do_line))]
+    fn do_line(self, alloc: Global, words: &[Text]) -> Result<Reading, StepFault>
+        ensures { Gives step_cause (λ next. next) result (do_line self self.last words.now) }
+    {
+        let (pid, rest) = self.process_at(words)?;
+        let request = request_of(alloc, rest)?;
+        self.with_record(Item::Do(pid, request))
+    }
+
+    // The words of a line.
+    #[tactic(auto, unfolding(crate::specs::Reading::line_at))]
+    fn words_read(self, alloc: Global, words: &[Text]) -> Result<Reading, StepFault>
+        ensures { Gives step_cause (λ next. next) result (line_at self words.now) }
+    {
+        match words {
+            [] => Ok(self),
+            [word, rest @ ..] => {
+                if bytes_equal(word.bytes(), b"tree") {
+                    return self.tree_line(alloc, rest);
+                }
+                if bytes_equal(word.bytes(), b"ids") {
+                    return self.ids_line(rest);
+                }
+                if bytes_equal(word.bytes(), b"fork") {
+                    return self.fork_line(rest);
+                }
+                if bytes_equal(word.bytes(), b"do") {
+                    return self.do_line(alloc, rest);
+                }
+                Err(StepFault::Kind(TraceKind::Keyword))
+            }
+        }
+    }
+
+    // A line.
+    fn line_read(self, alloc: Global, line: &[u8]) -> Result<Reading, StepFault>
+        ensures { Gives step_cause (λ next. next) result (line_at self (words_of line.now)) }
+    {
+        let words = normal_words(alloc, line)?;
+        self.words_read(alloc, &words)
+    }
+}
+
+/// Reads a trace: trees, each of them a line `tree PID DOMAIN` and then lines `ids`, `fork` and `do` of its processes. A line without
+/// words does nothing.
+///
+/// Errors: the first faulty line, numbered from 1, and the kind of the first word at which it can't go on; or want of memory.
+#[tactic(auto, unfolding(crate::specs::Reading::trace_of, crate::specs::Reading::trace_from))]
+pub fn read_trace(alloc: Global, bytes: &[u8]) -> Result<Trace, TraceFault>
+    ensures { Gives trace_cause (λ trace. trace) result (trace_of bytes.now) }
+{
+    let mut trees = Reading::new(alloc);
+    let mut rest = bytes;
+    let mut number = 1;
+    while let Some((line, after)) = cut_at(b'\n', rest) {
+        trees = in_line(number, trees.line_read(alloc, line))?;
+        rest = after;
+        number += 1;
+    }
+    let trees = in_line(number, trees.line_read(alloc, rest))?;
+    match trees.trace() {
+        Ok(trace) => Ok(trace),
+        Err(_) => Err(TraceFault::NoMemory),
+    }
+}
+
+// The first word of a line is `tree`.
+fn is_tree_line(line: &[u8]) -> bool
+    ensures { result ≡ is_tree_line (words_of line.now) }
+{
+    match cut_word(line) {
+        None => false,
+        Some((word, _)) => bytes_equal(word, b"tree"),
+    }
+}
+
+/// The number of the line, from 1, that begins the tree at this place, from 0; None where the text has no such tree. Takes no memory.
+#[tactic(auto, unfolding(crate::specs::Reading::tree_line_at, crate::specs::Reading::tree_line_from))]
+pub fn tree_line_at(bytes: &[u8], place: usize) -> Option<u64>
+    ensures { result ≡ tree_line_at bytes.now place }
+{
+    let mut rest = bytes;
+    let mut number = 1;
+    let mut left = place;
+    while let Some((line, after)) = cut_at(b'\n', rest) {
+        if is_tree_line(line) {
+            if left == 0 {
+                return Some(number);
+            }
+            left -= 1;
+        }
+        rest = after;
+        number += 1;
+    }
+    if left == 0 && is_tree_line(rest) {
+        Some(number)
+    } else {
+        None
+    }
+}

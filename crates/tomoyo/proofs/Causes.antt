@@ -1,0 +1,70 @@
+-- The cause of each status, from how the call ends.
+use Rattle.std.proofs.Common.{◌∙◌, ◌++◌, List, ap, sym}
+use Rattle.tm_io.specs.declared.names.FileName.{FileName}
+use Rattle.tm_io.specs.Causes.{Rose}
+use Rattle.tomoyo.specs.declared.status.Status.{Status}
+use Rattle.tomoyo.specs.declared.status.OutName.{OutName}
+use Rattle.tomoyo.specs.declared.carry.Outcome.{Outcome}
+use Rattle.tomoyo.specs.declared.words.Command.{Command}
+use Rattle.tomoyo.specs.Fetches.{Texts, AllGiven, FetchStops}
+use Rattle.tomoyo.specs.Stores.{is_named}
+use Rattle.tomoyo.specs.Ends.{Outside, Untouched, Ends, CarriedOut}
+use Rattle.tomoyo.specs.Play.{Refuses}
+use Rattle.tomoyo.specs.Call.{wants_of, Allows, CommandCause}
+use Rattle.tomoyo.proofs.Refusals.{refusal-kind, names-allowed}
+use Rattle.tomoyo.proofs.Others.{named-at, self-same}
+
+-- a fetch that ends the call
+fetch-cause : (command : Command) (old new : Outside) (status : Status) → FetchStops old.files (wants_of command) (Rose old.shelf_faults new.shelf_faults) status → Untouched old new → CommandCause command old new status
+fetch-cause command old new Status.Done stops untouched = absurd stops.cause
+fetch-cause command old new (Status.ReadFault name) stops untouched = (stops, untouched)
+fetch-cause command old new (Status.WriteFault name) stops untouched = absurd stops.cause
+fetch-cause command old new Status.OutOfMemory stops untouched = untouched.written
+fetch-cause command old new (Status.NotBuilt name line) stops untouched = absurd stops.cause
+fetch-cause command old new (Status.BadWords place) stops untouched = absurd stops.cause
+fetch-cause command old new (Status.Absent name) stops untouched = (stops, untouched)
+fetch-cause command old new (Status.TooLong name) stops untouched = (stops, untouched)
+fetch-cause command old new (Status.BadPolicy file line reply) stops untouched = absurd stops.cause
+fetch-cause command old new (Status.UndefinedProfile domain) stops untouched = absurd stops.cause
+fetch-cause command old new (Status.BadTrace line kind) stops untouched = absurd stops.cause
+fetch-cause command old new (Status.BadScript name line kind) stops untouched = absurd stops.cause
+fetch-cause command old new (Status.TooMany what) stops untouched = absurd stops.cause
+
+-- a refusal of what was read
+refused-cause : (command : Command) (old new : Outside) (texts : Texts) (status : Status) → AllGiven old.files (wants_of command) texts → Refuses texts status → Untouched old new → CommandCause command old new status
+refused-cause command old new texts Status.Done given refused untouched = tt
+refused-cause command old new texts (Status.ReadFault name) given refused untouched = absurd (refusal-kind texts (Status.ReadFault name) refused)
+refused-cause command old new texts (Status.WriteFault name) given refused untouched = absurd (refusal-kind texts (Status.WriteFault name) refused)
+refused-cause command old new texts Status.OutOfMemory given refused untouched = untouched.written
+refused-cause command old new texts (Status.NotBuilt name line) given refused untouched = ((texts, given, refused), untouched)
+refused-cause command old new texts (Status.BadWords place) given refused untouched = absurd (refusal-kind texts (Status.BadWords place) refused)
+refused-cause command old new texts (Status.Absent name) given refused untouched = absurd (refusal-kind texts (Status.Absent name) refused)
+refused-cause command old new texts (Status.TooLong name) given refused untouched = absurd (refusal-kind texts (Status.TooLong name) refused)
+refused-cause command old new texts (Status.BadPolicy file line reply) given refused untouched = absurd (refusal-kind texts (Status.BadPolicy file line reply) refused)
+refused-cause command old new texts (Status.UndefinedProfile domain) given refused untouched = absurd (refusal-kind texts (Status.UndefinedProfile domain) refused)
+refused-cause command old new texts (Status.BadTrace line kind) given refused untouched = absurd (refusal-kind texts (Status.BadTrace line kind) refused)
+refused-cause command old new texts (Status.BadScript name line kind) given refused untouched = absurd (refusal-kind texts (Status.BadScript name line kind) refused)
+refused-cause command old new texts (Status.TooMany what) given refused untouched = absurd (refusal-kind texts (Status.TooMany what) refused)
+
+-- an outcome that is carried out
+carried-cause : (command : Command) (old new : Outside) (texts : Texts) (outcome : Outcome) (status : Status) → Allows command texts outcome → CarriedOut outcome old new status → CommandCause command old new status
+carried-cause command old new texts outcome Status.Done allowed h = tt
+carried-cause command old new texts outcome (Status.ReadFault name) allowed h = absurd h.0
+carried-cause command old new texts outcome (Status.WriteFault (OutName.File name)) allowed h =
+    (h.0.1, ap (λ (names : List FileName). is_named names name) (sym (names-allowed command texts outcome allowed)) ∙ named-at outcome.stores h.0.0.made name (h.0.0.text ++ h.0.0.rest) (self-same name) h.0.0.at, h.1)
+carried-cause command old new texts outcome (Status.WriteFault OutName.StandardOutput) allowed h = h.rose
+carried-cause command old new texts outcome Status.OutOfMemory allowed h = h.1
+carried-cause command old new texts outcome (Status.NotBuilt name line) allowed h = absurd h.0
+carried-cause command old new texts outcome (Status.BadWords place) allowed h = absurd h.0
+carried-cause command old new texts outcome (Status.Absent name) allowed h = absurd h.0
+carried-cause command old new texts outcome (Status.TooLong name) allowed h = absurd h.0
+carried-cause command old new texts outcome (Status.BadPolicy file line reply) allowed h = absurd h.0
+carried-cause command old new texts outcome (Status.UndefinedProfile domain) allowed h = absurd h.0
+carried-cause command old new texts outcome (Status.BadTrace line kind) allowed h = absurd h.0
+carried-cause command old new texts outcome (Status.BadScript name line kind) allowed h = absurd h.0
+carried-cause command old new texts outcome (Status.TooMany what) allowed h = absurd h.0
+
+pub cause-of : (command : Command) (old new : Outside) (status : Status) → Ends (wants_of command) Refuses (Allows command) old new status → CommandCause command old new status
+cause-of command old new status (Ends.Not_fetched stops untouched) = fetch-cause command old new status stops untouched
+cause-of command old new status (Ends.Refused texts given refused untouched) = refused-cause command old new texts status given refused untouched
+cause-of command old new status (Ends.Made texts outcome given allowed carried) = carried-cause command old new texts outcome status allowed carried

@@ -1,0 +1,72 @@
+-- What a call that is done has stored, and what every call leaves.
+use Rattle.std.proofs.Common.{◌≡◌, ◌∙◌, ℕ, ◌∷◌, [], ◌++◌, List, take, drop, true, false, Ok, ap, refl, subst}
+use Rattle.tm_io.specs.declared.names.FileName.{FileName}
+use Rattle.tm_io.specs.Names.{same_name}
+use Rattle.tm_io.specs.Files.{FileState, changed}
+use Rattle.tm_io.specs.Bytes.{then_bytes}
+use Rattle.tomoyo.specs.declared.status.Status.{Status}
+use Rattle.tomoyo.specs.declared.status.OutName.{OutName}
+use Rattle.tomoyo.specs.declared.carry.Outcome.{Outcome}
+use Rattle.tomoyo.specs.declared.words.Command.{Command}
+use Rattle.tomoyo.specs.Fetches.{Texts, IsTold, TellsAll}
+use Rattle.tomoyo.specs.Stores.{stored, Leaves, names_of, is_named}
+use Rattle.tomoyo.specs.Ends.{Outside, Ends, CarriedOut}
+use Rattle.tomoyo.specs.Play.{Refuses, Plays}
+use Rattle.tomoyo.specs.Call.{wants_of, stored_by, step_stores, Allows, IsPlayed, HasPlayed}
+use Rattle.tomoyo.proofs.Refusals.{refusal-kind, names-allowed}
+use Rattle.tomoyo.proofs.Others.{changed-other, not-first, not-later, stored-other, leaves-other, cut-other, first-other}
+use Rattle.tomoyo.proofs.Told.{texts-told}
+
+-- files that the outcome doesn't store
+carried-others : (old new : Outside) (outcome : Outcome) (status : Status) (name : FileName) → CarriedOut outcome old new status → is_named (names_of outcome.stores) name ≡ false → new.files name ≡ old.files name
+carried-others old new outcome Status.Done name h e = leaves-other outcome.stores old.files new.files name h.0 e
+carried-others old new outcome (Status.ReadFault named) name h e = absurd h.0
+carried-others old new outcome (Status.WriteFault (OutName.File named)) name h e = cut-other outcome.stores old.files new.files named name h.0.0 e
+carried-others old new outcome (Status.WriteFault OutName.StandardOutput) name h e = leaves-other outcome.stores old.files new.files name h.files e
+carried-others old new outcome Status.OutOfMemory name h e = first-other outcome.stores h.0.0 old.files new.files name h.0.1 e
+carried-others old new outcome (Status.NotBuilt named line) name h e = absurd h.0
+carried-others old new outcome (Status.BadWords place) name h e = absurd h.0
+carried-others old new outcome (Status.Absent named) name h e = absurd h.0
+carried-others old new outcome (Status.TooLong named) name h e = absurd h.0
+carried-others old new outcome (Status.BadPolicy file line reply) name h e = absurd h.0
+carried-others old new outcome (Status.UndefinedProfile domain) name h e = absurd h.0
+carried-others old new outcome (Status.BadTrace line kind) name h e = absurd h.0
+carried-others old new outcome (Status.BadScript named line kind) name h e = absurd h.0
+carried-others old new outcome (Status.TooMany what) name h e = absurd h.0
+
+pub kept-of : (command : Command) (old new : Outside) (status : Status) → Ends (wants_of command) Refuses (Allows command) old new status → (name : FileName) → is_named (stored_by command) name ≡ false → new.files name ≡ old.files name
+kept-of command old new status (Ends.Not_fetched stops untouched) name e = untouched.files name
+kept-of command old new status (Ends.Refused texts given refused untouched) name e = untouched.files name
+kept-of command old new status (Ends.Made texts outcome given allowed carried) name e =
+    carried-others old new outcome status name carried (ap (λ (names : List FileName). is_named names name) (names-allowed command texts outcome allowed) ∙ e)
+
+-- a told file that is stored
+changed-self : (stored : FileName) (bytes : List ℕ) (state : FileState) → IsTold state → same_name stored stored ≡ true → changed stored bytes stored state ≡ FileState.Holds bytes
+changed-self stored bytes FileState.Untold is e = absurd is
+changed-self stored bytes FileState.Missing is e = rw e refl
+changed-self stored bytes (FileState.Holds held) is e = rw e refl
+
+-- a file that is stored once among others holds its text
+stored-holds : (before after : Texts) (name : FileName) (bytes : List ℕ) (state : FileState) → IsTold state → same_name name name ≡ true → is_named (names_of before) name ≡ false → is_named (names_of after) name ≡ false → stored (before ++ (name, bytes) ∷ after) name state ≡ FileState.Holds bytes
+stored-holds [] after name bytes state told self none later = ap (stored after name) (changed-self name bytes state told self) ∙ stored-other after name (FileState.Holds bytes) later
+stored-holds (s ∷ before) after name bytes state told self none later =
+    ap (stored (before ++ (name, bytes) ∷ after) name) (changed-other s.0 s.1 name state (not-first (same_name s.0 name) (is_named (names_of before) name) none))
+    ∙ stored-holds before after name bytes state told self (not-later (same_name s.0 name) (is_named (names_of before) name) none) later
+
+-- a step that is done
+step-done : (old new : Outside) → Ends (wants_of Command.Step) Refuses (Allows Command.Step) old new Status.Done → TellsAll old.files → IsPlayed old new
+step-done old new (Ends.Not_fetched stops untouched) tells = absurd stops.cause
+step-done old new (Ends.Refused texts given refused untouched) tells = absurd (refusal-kind texts Status.Done refused)
+step-done old new (Ends.Made texts outcome given allowed carried) tells =
+    let played = allowed.1 in
+    let leaves : Leaves (step_stores played) old.files new.files = subst (λ (o : Outcome). Leaves o.stores old.files new.files) allowed.3 carried.0 in
+    record {
+      played = played;
+      plays = subst (λ (ts : Texts). Plays ts played) (texts-told old.files (wants_of Command.Step) texts tells given) allowed.2;
+      stored = (leaves FileName.Run ∙ stored-holds [] (drop 1 (step_stores played)) FileName.Run played.run (old.files FileName.Run) (tells FileName.Run) refl refl refl, (leaves FileName.Audit ∙ stored-holds (take 1 (step_stores played)) (drop 2 (step_stores played)) FileName.Audit played.audit (old.files FileName.Audit) (tells FileName.Audit) refl refl refl, (leaves FileName.ProfileNew ∙ stored-holds (take 2 (step_stores played)) (drop 3 (step_stores played)) FileName.ProfileNew played.policy.profile (old.files FileName.ProfileNew) (tells FileName.ProfileNew) refl refl refl, (leaves FileName.ExceptionPolicyNew ∙ stored-holds (take 3 (step_stores played)) (drop 4 (step_stores played)) FileName.ExceptionPolicyNew played.policy.exception (old.files FileName.ExceptionPolicyNew) (tells FileName.ExceptionPolicyNew) refl refl refl, (leaves FileName.DomainPolicyNew ∙ stored-holds (take 4 (step_stores played)) (drop 5 (step_stores played)) FileName.DomainPolicyNew played.policy.domain (old.files FileName.DomainPolicyNew) (tells FileName.DomainPolicyNew) refl refl refl, (leaves FileName.ManagerNew ∙ stored-holds (take 5 (step_stores played)) (drop 6 (step_stores played)) FileName.ManagerNew played.policy.manager (old.files FileName.ManagerNew) (tells FileName.ManagerNew) refl refl refl, tt))))));
+      summary = carried.1 ∙ ap (λ (o : Outcome). then_bytes o.line old.written) allowed.3;
+    }
+
+pub headline-of : (command : Command) (old new : Outside) (status : Status) → Ends (wants_of command) Refuses (Allows command) old new status → HasPlayed (Ok command) old new status
+headline-of Command.Step old new status ends = λ tells is.
+    step-done old new (subst (λ (s : Status). Ends (wants_of Command.Step) Refuses (Allows Command.Step) old new s) is ends) tells

@@ -1,0 +1,11 @@
+pub mod Steps
+pub mod Carried
+pub mod Told
+pub mod Others
+pub mod Refusals
+pub mod Causes
+pub mod Calls
+pub mod Exact
+pub mod Headline
+pub mod Openings
+pub mod Playing

@@ -1,0 +1,47 @@
+use Rattle.std.proofs.Common.{refl, subst, arith, ◌≤◌, List, inr}
+use Rattle.tm_io.specs.declared.names.FileName.{FileName}
+use Rattle.tomoyo.specs.Calls.{StoresOf}
+use Rattle.tomoyo.specs.Ends.{outside, Ends}
+use Rattle.tomoyo.specs.Call.{read_by, stored_by}
+use Rattle.tomoyo.proofs.Carried.{carried-after}
+use Rattle.tomoyo.proofs.Refusals.{names-allowed}
+use Rattle.tomoyo.proofs.Calls.{none-after, stores-unfetched, fetches-refused, stores-refused, fetches-carried, stores-after}
+use Rattle.tomoyo.proofs.top.perform.Goals as goal
+
+pub returns-in-Err-clause-stores : goal.returns-in-Err-clause-stores
+returns-in-Err-clause-stores g c = stores-unfetched _ _ _ _ _ _ _ c.in-Err.ensures.stops c.in-Err.ensures.no_store
+
+pub returns-in-Err-make-clause-ends : goal.returns-in-Err-make-clause-ends
+returns-in-Err-make-clause-ends g c =
+    Ends.Refused c.in-Ok.texts c.in-Ok.ensures.texts c.in-Err-make.ensures.refused (record { files = c.in-Ok.ensures.kept; written = refl })
+
+pub returns-in-Err-make-clause-fetches : goal.returns-in-Err-make-clause-fetches
+returns-in-Err-make-clause-fetches g c = fetches-refused (read_by c.args.command) c.in-Ok.texts _ _ _ c.in-Err-make.ensures.refused c.in-Ok.ensures.all
+
+pub returns-in-Err-make-clause-stores : goal.returns-in-Err-make-clause-stores
+returns-in-Err-make-clause-stores g c = stores-refused (stored_by c.args.command) c.in-Ok.texts _ _ _ c.in-Err-make.ensures.refused c.in-Ok.ensures.no_store
+
+pub returns-clause-ends : goal.returns-clause-ends
+returns-clause-ends g c =
+    let same : g.K.Sink.faults c.args.out.now ≤ g.K.Sink.faults c.args.out.now = omega arith in
+    let outcome = c.in-Ok-make.outcome in
+    Ends.Made c.in-Ok.texts outcome c.in-Ok.ensures.texts c.in-Ok-make.ensures.made
+    (carried-after outcome
+    (outside (g.S.Shelf.file c.args.shelf.now) (g.S.Shelf.faults c.args.shelf.now) (g.K.Sink.written c.args.out.now) (g.K.Sink.faults c.args.out.now))
+    (outside (g.S.Shelf.file c.fetch_for.new.shelf) (g.S.Shelf.faults c.fetch_for.new.shelf) (g.K.Sink.written c.args.out.now) (g.K.Sink.faults c.args.out.now))
+    (outside (g.S.Shelf.file c.carry_out.new.shelf) (g.S.Shelf.faults c.carry_out.new.shelf) (g.K.Sink.written c.carry_out.new.out) (g.K.Sink.faults c.carry_out.new.out))
+    c.carry_out.result (record { files = c.in-Ok.ensures.kept; written = refl; shelf = c.in-Ok.ensures.counts; sink = same }) c.carry_out.ensures.ends)
+
+pub returns-clause-fetches : goal.returns-clause-fetches
+returns-clause-fetches g c =
+    fetches-carried (read_by c.args.command) c.in-Ok-make.outcome _ _ c.carry_out.result _ _ c.carry_out.ensures.ends
+    (none-after _ _ _ (read_by c.args.command) c.in-Ok.ensures.all c.carry_out.ensures.no_fetch)
+
+pub returns-clause-stores : goal.returns-clause-stores
+returns-clause-stores g c =
+    stores-after (stored_by c.args.command) c.carry_out.result _ _ _ c.in-Ok.ensures.no_store
+    (subst (λ (files : List FileName). StoresOf files c.carry_out.result (g.S.Shelf.stored c.fetch_for.new.shelf) (g.S.Shelf.stored c.carry_out.new.shelf))
+    (names-allowed c.args.command c.in-Ok.texts c.in-Ok-make.outcome c.in-Ok-make.ensures.made) c.carry_out.ensures.stores)
+
+pub returns-clause-stores_last : goal.returns-clause-stores_last
+returns-clause-stores_last g c = inr (none-after _ _ _ (read_by c.args.command) c.in-Ok.ensures.all c.carry_out.ensures.no_fetch)

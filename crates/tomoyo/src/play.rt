@@ -1,0 +1,163 @@
+//! The play of the files: they are loaded, the trace is played by the schedule under the opened policy, and the run is printed and summed up.
+ghost use Rattle.std.specs.Prelude.{◌≡◌, ◌++◌, IfOk, IfErr, OnOk, None};
+ghost use Rattle.tm_rules.specs.Few.{IsFew};
+ghost use Rattle.tm_run.specs.RunText.{run_text};
+ghost use Rattle.tm_rerun.specs.Summary.{summary_text};
+ghost use Rattle.tm_text.specs.DomainText.{domain_text};
+ghost use Rattle.tm_text.specs.ExceptionText.{exception_text};
+ghost use Rattle.tm_text.specs.ManagerText.{manager_text};
+ghost use Rattle.tm_text.specs.ProfileText.{profile_text};
+ghost use Rattle.tomoyo.specs.Play.{opened, refusal_of, Refuses, CanBePlayed, PlaysOn, PlaysLoaded, Plays, audit_word, audits_of, IsPrinted, IsPolicyPrinted};
+
+use crate::forms::{Loaded, load};
+use crate::status::Status;
+use std::alloc::{AllocError, Global};
+use tm_core::{Machine, end_play, play_out, start_play};
+use tm_io::FileList;
+use tm_list::{Copied, NoMemory};
+use tm_policy::{Plain, PolicyCalls, is_few};
+use tm_rerun::summary_line;
+use tm_run::print_run;
+use tm_text::{print_domain, print_exception, print_manager, print_profile};
+use tm_types::policy::Policy;
+use tm_types::request::Trace;
+use tm_types::step::{Run, Take, Turn};
+use tm_word::Text;
+
+/// The printed files of a policy.
+#[derive(Drop)]
+pub struct Printed {
+    pub profile: Text,
+    pub exception: Text,
+    pub domain: Text,
+    pub manager: Text,
+}
+
+/// What a play gives: the text of its run, the audit texts of its takes, the printed files of its final policy, and the line that sums
+/// it up.
+#[derive(Drop)]
+pub struct Played {
+    pub run: Text,
+    pub audit: Text,
+    pub policy: Printed,
+    pub summary: Text,
+}
+
+// The run that an opening and a trace play by a schedule and then by the default order, and the machine at its last version.
+fn run_of(
+    alloc: Global,
+    opening: &Policy,
+    trace: Trace,
+    schedule: &[Turn],
+) -> Result<(Run, Machine<Plain>), NoMemory>
+    requires few { IsFew opening.now }
+    requires can { (policy : Policy) × (opening.now ≡ opened policy) × CanBePlayed policy trace }
+    ensures { IfOk result (λ ended. PlaysOn opening.now trace schedule.now ended.0 ended.1.policy) }
+{
+    let policy = opening.copy(alloc)?;
+    let rep = Plain::new(alloc, policy)?;
+    let Ok(trees) = u32::try_from(trace.len()) else {
+        return Err(AllocError);
+    };
+    let machine = Machine::start(alloc, rep, Vec::new(alloc), trees, false)?;
+    let player = start_play(alloc, machine, trace)?;
+    let played = play_out(alloc, player, schedule)?;
+    let (run, last) = end_play(alloc, played)?;
+    Ok((run, last))
+}
+
+// Appends the audit text of a take, where it has one.
+fn push_audit(take: &Take, out: &mut Vec<u8>) -> Result<(), NoMemory>
+    ensures { OnOk result (out.new.items ≡ out.old.items ++ audit_word take.now) }
+{
+    match &take.audit {
+        Some(text) => out.extend_from_slice(text.bytes()),
+        None => Ok(()),
+    }
+}
+
+// The audit texts of these takes, joined.
+fn audits_of(alloc: Global, takes: &[Take]) -> Result<Text, NoMemory>
+    ensures { IfOk result (λ text. text ≡ audits_of takes.now) }
+{
+    let mut text = Vec::new(alloc);
+    for take in takes {
+        push_audit(take, &mut text)?;
+    }
+    Ok(Text::from_vec(text))
+}
+
+// The printed files of a policy.
+fn print_policy(alloc: Global, policy: &Policy) -> Result<Printed, NoMemory>
+    ensures { IfOk result (IsPolicyPrinted policy.now) }
+{
+    let mut profile = Vec::new(alloc);
+    print_profile(alloc, policy, &mut profile)?;
+    let mut exception = Vec::new(alloc);
+    print_exception(alloc, policy, &mut exception)?;
+    let mut domain = Vec::new(alloc);
+    print_domain(alloc, policy, &mut domain)?;
+    let mut manager = Vec::new(alloc);
+    print_manager(alloc, policy, &mut manager)?;
+    Ok(Printed {
+        profile: Text::from_vec(profile),
+        exception: Text::from_vec(exception),
+        domain: Text::from_vec(domain),
+        manager: Text::from_vec(manager),
+    })
+}
+
+// The texts of a run from an opening to a last policy.
+fn texts_of(alloc: Global, run: &Run, opening: &Policy, last: &Policy) -> Result<Played, NoMemory>
+    ensures { IfOk result (IsPrinted run.now opening.now last.now) }
+{
+    let mut text = Vec::new(alloc);
+    print_run(alloc, run, &mut text)?;
+    let audit = audits_of(alloc, run.takes.as_slice())?;
+    let policy = print_policy(alloc, last)?;
+    let summary = summary_line(alloc, run, opening, last)?;
+    Ok(Played {
+        run: Text::from_vec(text),
+        audit,
+        policy,
+        summary: Text::from_vec(summary),
+    })
+}
+
+// Opens what was loaded, and plays it. A list of 2^32 members doesn't fit in memory beside its text.
+fn play_loaded(
+    alloc: Global,
+    mut policy: Policy,
+    trace: Trace,
+    schedule: &[Turn],
+) -> Result<Played, NoMemory>
+    requires { CanBePlayed policy trace }
+    ensures { IfOk result (PlaysLoaded (opened policy) trace schedule.now) }
+{
+    policy.set_opened();
+    if !is_few(&policy) {
+        return Err(AllocError);
+    }
+    let (run, machine) = run_of(alloc, &policy, trace, schedule)?;
+    texts_of(alloc, &run, &policy, machine.policy())
+}
+
+/// Plays what was read, or refuses it.
+#[tactic(auto, using(crate::proofs::Playing::can_be_played, crate::proofs::Playing::plays_texts))]
+pub fn play_of(alloc: Global, texts: &FileList) -> Result<Played, Status>
+    ensures played { IfOk result (λ played. (refusal_of texts.now ≡ None) × Plays texts.now played) }
+    ensures refused { IfErr result (Refuses texts.now) }
+{
+    let Loaded {
+        policy,
+        trace,
+        schedule,
+    } = match load(alloc, texts) {
+        Ok(loaded) => loaded,
+        Err(status) => return Err(status),
+    };
+    match play_loaded(alloc, policy, trace, schedule.as_slice()) {
+        Ok(played) => Ok(played),
+        Err(_) => Err(Status::OutOfMemory),
+    }
+}

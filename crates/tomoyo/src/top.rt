@@ -1,0 +1,162 @@
+ghost use Rattle.std.specs.Prelude.{◌≡◌, ◌≤◌, ◌⊎◌, [], IfOk, IfErr, OnOk, map, string_bytes};
+ghost use Rattle.tm_io.specs.Causes.{Rose};
+ghost use Rattle.tm_io.specs.Files.{SameFiles};
+ghost use Rattle.tm_io.specs.Notes.{Noted};
+ghost use Rattle.tomoyo.specs.Fetches.{AllGiven, FetchStops};
+ghost use Rattle.tomoyo.specs.Calls.{FetchesOf, StoresOf};
+ghost use Rattle.tomoyo.specs.Ends.{outside, Ends};
+ghost use Rattle.tomoyo.specs.Play.{Refuses};
+ghost use Rattle.tomoyo.specs.Words.{read_words};
+ghost use Rattle.tomoyo.specs.Call.{wants_of, read_by, stored_by, stores_of, FetchesInOrder, StoresInOrder, StoresLast, outcome_of, Allows, CallEnds, HasCause, IsExact, IsComplete, KeepsOthers, HasPlayed};
+
+use crate::carry::{Outcome, carry_out};
+use crate::fetches::{Want, fetch_all};
+use crate::play::{Played, Printed, play_of};
+use crate::status::Status;
+use crate::words::{Command, read_command};
+use std::alloc::Global;
+use tm_io::{FileList, FileName, Shelf, Sink};
+use tm_list::NoMemory;
+use tm_word::Text;
+
+// Fetches what a command reads.
+fn fetch_for<S: Shelf>(alloc: Global, command: Command, shelf: &mut S) -> Result<FileList, Status>
+    ensures texts { IfOk result (λ texts. AllGiven (S.file shelf.old) (wants_of command) texts) }
+    ensures stops { IfErr result (FetchStops (S.file shelf.old) (wants_of command) (Rose (S.faults shelf.old) (S.faults shelf.new))) }
+    ensures kept { SameFiles (S.file shelf.old) (S.file shelf.new) }
+    ensures counts { S.faults shelf.old ≤ S.faults shelf.new }
+    ensures all { OnOk result (Noted (read_by command) (S.fetched shelf.old) (S.fetched shelf.new)) }
+    ensures last { IfErr result (λ status.
+        FetchesOf (read_by command) status (S.fetched shelf.old) (S.fetched shelf.new)) }
+    ensures no_store { Noted [] (S.stored shelf.old) (S.stored shelf.new) }
+{
+    match command {
+        Command::Step => {
+            let wants = [
+                Want::needed(FileName::Profile),
+                Want::optional(FileName::ExceptionPolicy),
+                Want::needed(FileName::DomainPolicy),
+                Want::optional(FileName::Manager),
+                Want::needed(FileName::Trace),
+                Want::optional(FileName::Edits),
+                Want::optional(FileName::Answers),
+                Want::optional(FileName::Schedule),
+            ];
+            fetch_all(alloc, shelf, &wants)
+        }
+    }
+}
+
+// The text of a run, its audit texts and a printed policy as files, in order.
+fn stores_of(alloc: Global, run: Text, audit: Text, policy: Printed) -> Result<FileList, NoMemory>
+    ensures { IfOk result (λ stores. stores ≡ stores_of run audit policy) }
+{
+    let Printed {
+        profile,
+        exception,
+        domain,
+        manager,
+    } = policy;
+    let mut stores = FileList::new(alloc);
+    stores.push((FileName::Run, run))?;
+    stores.push((FileName::Audit, audit))?;
+    stores.push((FileName::ProfileNew, profile))?;
+    stores.push((FileName::ExceptionPolicyNew, exception))?;
+    stores.push((FileName::DomainPolicyNew, domain))?;
+    stores.push((FileName::ManagerNew, manager))?;
+    Ok(stores)
+}
+
+// What a command stores and puts of what was played.
+fn outcome_of(alloc: Global, command: Command, played: Played) -> Result<Outcome, NoMemory>
+    ensures { IfOk result (λ outcome. outcome ≡ outcome_of command played) }
+{
+    match command {
+        Command::Step => {
+            let Played {
+                run,
+                audit,
+                policy,
+                summary,
+            } = played;
+            let stores = stores_of(alloc, run, audit, policy)?;
+            Ok(Outcome {
+                stores,
+                line: summary,
+            })
+        }
+    }
+}
+
+// What a command makes of what was read, or its refusal.
+fn make(alloc: Global, command: Command, texts: &FileList) -> Result<Outcome, Status>
+    ensures made { IfOk result (Allows command texts.now) }
+    ensures refused { IfErr result (Refuses texts.now) }
+{
+    match play_of(alloc, texts) {
+        Err(status) => Err(status),
+        Ok(played) => match outcome_of(alloc, command, played) {
+            Ok(outcome) => Ok(outcome),
+            Err(_) => Err(Status::OutOfMemory),
+        },
+    }
+}
+
+// Does a command.
+fn perform<S: Shelf, K: Sink>(alloc: Global, command: Command, shelf: &mut S, out: &mut K) -> Status
+    ensures ends { Ends (wants_of command) Refuses (Allows command)
+        (outside (S.file shelf.old) (S.faults shelf.old) (K.written out.old) (K.faults out.old))
+        (outside (S.file shelf.new) (S.faults shelf.new) (K.written out.new) (K.faults out.new)) result }
+    ensures fetches { FetchesOf (read_by command) result (S.fetched shelf.old) (S.fetched shelf.new) }
+    ensures stores { StoresOf (stored_by command) result (S.stored shelf.old) (S.stored shelf.new) }
+    ensures stores_last { Noted [] (S.stored shelf.old) (S.stored shelf.new)
+        ⊎ Noted (read_by command) (S.fetched shelf.old) (S.fetched shelf.new) }
+{
+    match fetch_for(alloc, command, shelf) {
+        Err(status) => status,
+        Ok(texts) => match make(alloc, command, &texts) {
+            Err(status) => status,
+            Ok(outcome) => carry_out(&outcome, shelf, out),
+        },
+    }
+}
+
+/// Does the command that the words name, over any shelf and sink, and answers how it ended. `step` plays the trace by the schedule
+/// under the policy and stores `run`, `audit`, and the final policy as `profile.new`, `exception_policy.new`, `domain_policy.new` and
+/// `manager.new`; nothing is stored before all is read and played.
+///
+/// The first fetch that gives neither a text nor a file that may be missing decides, and no later one is made: `Absent` where
+/// `profile`, `domain_policy` or `trace` isn't there, `TooLong` where a file has more than 16,777,216 bytes, `ReadFault` where reading
+/// failed. Of what was read, the first line that isn't built is `NotBuilt`.
+pub fn run_alone<S: Shelf, K: Sink>(
+    alloc: Global,
+    words: &[String],
+    shelf: &mut S,
+    out: &mut K,
+) -> Status
+    ensures headline { HasPlayed (read_words (map string_bytes words.now))
+        (outside (S.file shelf.old) (S.faults shelf.old) (K.written out.old) (K.faults out.old))
+        (outside (S.file shelf.new) (S.faults shelf.new) (K.written out.new) (K.faults out.new)) result }
+    ensures kept { KeepsOthers (read_words (map string_bytes words.now)) (S.file shelf.old) (S.file shelf.new) }
+    ensures causes { HasCause (read_words (map string_bytes words.now))
+        (outside (S.file shelf.old) (S.faults shelf.old) (K.written out.old) (K.faults out.old))
+        (outside (S.file shelf.new) (S.faults shelf.new) (K.written out.new) (K.faults out.new)) result }
+    ensures exact { IsExact (read_words (map string_bytes words.now)) (S.file shelf.old) result }
+    ensures complete { IsComplete (read_words (map string_bytes words.now))
+        (outside (S.file shelf.old) (S.faults shelf.old) (K.written out.old) (K.faults out.old))
+        (outside (S.file shelf.new) (S.faults shelf.new) (K.written out.new) (K.faults out.new)) result }
+    ensures fetches { FetchesInOrder (read_words (map string_bytes words.now)) result
+        (S.fetched shelf.old) (S.fetched shelf.new) }
+    ensures stores { StoresInOrder (read_words (map string_bytes words.now)) result
+        (S.stored shelf.old) (S.stored shelf.new) }
+    ensures stores_last { StoresLast (read_words (map string_bytes words.now))
+        (S.fetched shelf.old) (S.fetched shelf.new) (S.stored shelf.old) (S.stored shelf.new) }
+    ensures ends { CallEnds (read_words (map string_bytes words.now))
+        (outside (S.file shelf.old) (S.faults shelf.old) (K.written out.old) (K.faults out.old))
+        (outside (S.file shelf.new) (S.faults shelf.new) (K.written out.new) (K.faults out.new)) result }
+{
+    match read_command(words) {
+        Err(place) => Status::BadWords(place),
+        Ok(command) => perform(alloc, command, shelf, out),
+    }
+}
