@@ -138,9 +138,9 @@ print_entry entry = go entry.args
         codes "file " ++ unwrap_or (option_map (λ pair. pair.1) (find (λ pair. pair.0 == entry.perms.bits) permission_words)) [] ++ 32 ∷ name_text name ++ flat_map clause_text entry.cond.clauses
     go _ = []
 
-abbrev pub (begins_with_byte 47) : Text → Bool
-(begins_with_byte 47) [] = false
-(begins_with_byte 47) (b ∷ bs) = b == 47
+abbrev pub begins_with_slash : Text → Bool
+begins_with_slash [] = false
+begins_with_slash (b ∷ bs) = b == 47
 
 abbrev pub known_lines : List (Text × PolicyLine)
 known_lines =
@@ -160,7 +160,7 @@ abbrev pub grammar : Grammar
 grammar =
     record {
       read_line = read_line;
-      is_path = (begins_with_byte 47);
+      is_path = begins_with_slash;
       print_entry = print_entry;
       can_write = λ entry. true;
       print_request = print_request;

@@ -31,7 +31,7 @@ use Rattle.tm_legal.specs.Clean.{domain_names}
 use Rattle.tm_legal.specs.Replay.{rerun_scene}
 use Rattle.tm_legal.specs.Play.{rounds, start_of, run_of, NobodyCanMove}
 use Rattle.tm_rerun.specs.Summary.{summary_text}
-use Rattle.tm_examples.proofs.Examples.{computed, «<kernel>», no_groups, domain, policy_of, file_line, read, file_request, execute, no_attributes, (begins_with_byte 47), grammar}
+use Rattle.tm_examples.proofs.Examples.{computed, «<kernel>», no_groups, domain, policy_of, file_line, read, file_request, execute, no_attributes, begins_with_slash, grammar}
 
 abbrev logged : Mode → Profile
 logged mode = record { comment = []; max_audit_log = 1024; max_learning_entry = 2048; config = record { mode = mode; logs = record { grant = false; reject = true } }; slots = [] }
@@ -145,15 +145,15 @@ same_domains = refl
 
 -- The boot's requests are ones that a trace can hold
 
-boot_requests : list_all (λ (tree : Tree). list_all (item_is_request (begins_with_byte 47)) tree.records) boot_trace ≡ true
+boot_requests : list_all (λ (tree : Tree). list_all (item_is_request begins_with_slash) tree.records) boot_trace ≡ true
 unfolding computed is_request
 boot_requests = refl
 
 -- a pattern in a request, or an execute without its real path, is none
-no_pattern : is_request (begins_with_byte 47) (record { args = Args.Path (NameUnion.One tty); perm = 1; attributes = no_attributes }) ≡ false
+no_pattern : is_request begins_with_slash (record { args = Args.Path (NameUnion.One tty); perm = 1; attributes = no_attributes }) ≡ false
 unfolding computed is_request
 no_pattern = refl
 
-no_real_path : is_request (begins_with_byte 47) (file_request 0 (codes "/bin/ls")) ≡ false
+no_real_path : is_request begins_with_slash (file_request 0 (codes "/bin/ls")) ≡ false
 unfolding computed is_request
 no_real_path = refl
