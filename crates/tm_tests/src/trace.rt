@@ -26,8 +26,8 @@ fn a_trace_is_printed_as_it_was_read(rt: HostRuntime) -> Result<(), Fail> {
     assert_eq!(rt; tree_line_at(TREES, 1), Some(6));
     assert_eq!(rt; tree_line_at(TREES, 2), None);
     let mut requests = Vec::new(rt.alloc());
-    for tree in &trace {
-        for item in &tree.records {
+    for tree in trace.as_slice() {
+        for item in tree.records.as_slice() {
             if let Item::Do(_, request) = item {
                 print_request(rt.alloc(), request, &mut requests)?;
                 print_attributes(rt.alloc(), request, &mut requests)?;
