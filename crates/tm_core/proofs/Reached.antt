@@ -193,7 +193,9 @@ module _ (g : Grammar) (course : Course) (walks : List Walk) (t : ℕ) (walk : W
       let goes : going_on g way (after_step g h.begun h.steps (suc (length (history_of course))) (Reply.Learn h.makes.reply)) ≡ way_of new =
       ap (λ (n : ℕ). going_on g way (after_step g h.begun h.steps (suc n) (Reply.Learn h.makes.reply))) long ∙ h.makes.goes way.begun in
       let made : Player = record o { state = record o.state { policy = later.policy }; steps = o.steps ++ (Step.Learn h.domain h.line, Reply.Learn h.makes.reply) ∷ [] } in
-      let same : player_of later (slice_set walks t new) ≡ on_way g made t (way_of new) = rw (map-set way_of walks t new, len-set walks t new, h.makes.made) refl in
+      let history : history_of later ≡ history_of course ++ (Step.Learn h.domain h.line, Reply.Learn h.makes.reply) ∷ [] =
+      ap (λ (steps : List (Made × Reply)). map {B = Step × Reply} (λ (pair : Made × Reply). (pair.0.step, pair.1)) steps) h.makes.made ∙ map-append {B = Step × Reply} (λ (pair : Made × Reply). (pair.0.step, pair.1)) course.made _ in
+      let same : player_of later (slice_set walks t new) ≡ on_way g made t (way_of new) = rw (map-set way_of walks t new, len-set walks t new, history) refl in
       own-turn h.begun h.domain h.line h.steps h.is h.owes ∙ ap (option_map next) settled ∙ ap (λ (q : Player). Some q) (ap (on_way g made t) goes ∙ sym same)
 
   own-can : (b : InProgress) (d : ℕ) (line : Entry) (rest : List Step) (next : Player) → (way_of walk).begun ≡ Some b → b.stage ≡ Stage.Owing (Step.Learn d line ∷ rest) → tree_event g o false (suc t) ≡ Some next → (fits_entry g line ≡ true) × IsSome (learn course.policy d line)

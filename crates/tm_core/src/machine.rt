@@ -103,6 +103,7 @@ impl<R: Rep> Machine<R> {
         requires { IsSome (learn self.old.policy domain line) }
         ensures learns { IfOk result (λ reply. learn self.old.policy domain line ≡ Some (self.new.policy, reply)) }
         ensures made { IfOk result (λ reply. self.new.made ≡ self.old.made ++ (record { maker = Maker.Process pid; step = Step.Learn domain line }, Reply.Learn reply) ∷ []) }
+        ensures start { IfOk result (λ reply. self.new.start ≡ self.old.start) }
     {
         let reply = match self.rep.apply_learn(alloc, domain, &line) {
             Ok(reply) => reply,

@@ -51,13 +51,14 @@ fn begin_walks(alloc: Global, policy: &Policy, trees: Vec<Tree>) -> Result<Vec<W
     Ok(walks)
 }
 
-/// Every activity of a machine at version 0 and of this trace at its beginning.
+/// Every activity of a machine at version 0, opened for the trees of this trace and nobody else, and of this trace at its beginning.
 pub fn start_play<R: Rep>(
     alloc: Global,
     machine: Machine<R>,
     trace: Trace,
 ) -> Result<Player<R>, NoMemory>
-    requires { machine.made ≡ [] }
+    requires made { machine.made ≡ [] }
+    requires start { machine.start ≡ record { policy = machine.policy; editors = []; trees = length trace; desk = false } }
     ensures { IfOk result (λ player. (scene : Scene) → IsAlone scene → scene.policy ≡ machine.policy → scene.trace ≡ trace → player_of player.machine player.walks.items ≡ start_of scene) }
 {
     let walks = begin_walks(alloc, machine.policy(), trace.into_vec())?;

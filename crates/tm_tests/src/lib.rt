@@ -12,6 +12,8 @@ mod forms_schedule;
 #[cfg(test)]
 mod forms_trace;
 #[cfg(test)]
+mod policy;
+#[cfg(test)]
 mod policy_line;
 #[cfg(test)]
 mod query;
@@ -25,6 +27,8 @@ mod run_printing;
 mod run_reading;
 #[cfg(test)]
 mod run_steps;
+#[cfg(test)]
+mod samples;
 #[cfg(test)]
 mod script;
 #[cfg(test)]

@@ -1,6 +1,6 @@
 //! Takes as the text of a run has them.
 use std::alloc::Global;
-use tm_list::{NoMemory, Seq};
+use tm_list::{Copied, NoMemory, Seq};
 use tm_run::print_run;
 use tm_types::policy::Mode;
 use tm_types::step::{Answered, Heard, Look, Reply, Run, Step, Take};
@@ -36,7 +36,7 @@ fn printed(alloc: Global, take: Take) -> Result<Vec<u8>, NoMemory> {
     takes.push(take)?;
     let run = Run {
         steps: Seq::new(alloc),
-        takes,
+        takes: takes.copy(alloc)?,
     };
     let mut out = Vec::new(alloc);
     print_run(alloc, &run, &mut out)?;

@@ -1,11 +1,11 @@
 //! Steps as the text of a run has them.
 use std::alloc::{AllocError, Global};
 use tm_entry::read_entry;
-use tm_list::{NoMemory, Seq};
+use tm_list::{Copied, NoMemory, Seq};
 use tm_run::print_run;
 use tm_types::entry::LineKind;
 use tm_types::step::{
-    EditReply, FileKind, Held, LearnReply, LineFault, MakeReply, Reply, Run, Step,
+    EditReply, FileKind, Held, LearnReply, LineFault, Made, MakeReply, Maker, Reply, Run, Step,
 };
 use tm_word::normal_words;
 
@@ -14,6 +14,7 @@ fn printed(alloc: Global, step: Step, reply: Reply) -> Result<Vec<u8>, NoMemory>
     steps.push((step, reply))?;
     let mut out = Vec::new(alloc);
     let takes = Seq::new(alloc);
+    let steps = steps.copy(alloc)?;
     print_run(alloc, &Run { steps, takes }, &mut out)?;
     Ok(out)
 }
@@ -119,9 +120,22 @@ fn a_query_and_its_answer(rt: HostRuntime) -> Result<(), NoMemory> {
     steps.push((Step::End(1), Reply::End))?;
     let mut out = Vec::new(alloc);
     let takes = Seq::new(alloc);
+    let steps = steps.copy(alloc)?;
     print_run(alloc, &Run { steps, takes }, &mut out)?;
     let text =
         "run 1\nstep 1 done attach\nstep 2 held:1 ask 0 2 file read /x\nstep 3 done answer 1 3\nstep 4 was fail 2\nstep 5 done end 1\n";
     assert_eq!(rt; out.as_slice(), text.as_bytes());
+    Ok(())
+}
+
+#[test]
+fn a_step_is_copied_with_its_maker(rt: HostRuntime) -> Result<(), NoMemory> {
+    let made = Made {
+        maker: Maker::Editor(2),
+        step: Step::Fail(3),
+    };
+    let copied = made.copy(rt.alloc())?;
+    assert!(rt; matches!(copied.maker, Maker::Editor(2)));
+    assert!(rt; matches!(copied.step, Step::Fail(3)));
     Ok(())
 }

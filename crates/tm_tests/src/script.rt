@@ -1,10 +1,10 @@
 //! Calls of `tm_script`.
 use std::alloc::Global;
 use std::test::Fail;
-use tm_list::{NoMemory, Seq};
+use tm_list::{Copied, NoMemory, Seq};
 use tm_script::{book_answer, has_supervisor, read_answers, read_edits, read_schedule};
 use tm_types::request::{ScriptFault, ScriptKind};
-use tm_types::step::{Answer, FileKind, Query, Turn};
+use tm_types::step::{Answer, Book, FileKind, Query, Turn};
 
 /// A held query.
 fn query(alloc: Global, retry: u32, domain: &str, line: &str) -> Result<Query, NoMemory> {
@@ -17,7 +17,7 @@ fn query(alloc: Global, retry: u32, domain: &str, line: &str) -> Result<Query, N
 }
 
 #[test]
-fn editors_are_read_with_their_lines(rt: HostRuntime) -> Result<(), ScriptFault> {
+fn editors_are_read_with_their_lines(rt: HostRuntime) -> Result<(), Fail> {
     let text = b"editor 0 7 /usr\\040x <kernel>  /a\nmanager  /b\n\nprofile 0-CONFIG\nditor";
     assert!(rt;
         matches!(
@@ -25,8 +25,12 @@ fn editors_are_read_with_their_lines(rt: HostRuntime) -> Result<(), ScriptFault>
             Err(ScriptFault::Line(5, ScriptKind::Keyword))
         )
     );
-    let editors = read_edits(rt.alloc(), &text[..text.len() - 5])?;
-    for editor in &editors {
+    let Ok(editors) = read_edits(rt.alloc(), &text[..text.len() - 5]) else {
+        assert!(rt; false, "the script is not read");
+        return Ok(());
+    };
+    for read in &editors {
+        let editor = read.copy(rt.alloc())?;
         assert_eq!(rt; (editor.uid, editor.euid), (0, 7));
         assert_eq!(rt; editor.exe.bytes(), b"/usr x".as_slice());
         assert_eq!(rt; editor.domain.bytes(), b"<kernel> /a".as_slice());
@@ -53,6 +57,10 @@ fn the_first_rule_that_matches_answers(rt: HostRuntime) -> Result<(), Fail> {
         assert!(rt; false, "the book is not read");
         return Ok(());
     };
+    let book = Book {
+        rules: book.rules.copy(rt.alloc())?,
+        stop: book.stop,
+    };
     assert!(rt; has_supervisor(&book));
     assert_eq!(rt; book.stop, Some(9));
     for (retry, domain, line, wanted) in [
@@ -63,7 +71,7 @@ fn the_first_rule_that_matches_answers(rt: HostRuntime) -> Result<(), Fail> {
         (0, "</s>", "file write /a /b", Answer::Yes),
         (0, "</s>", "file", Answer::No),
     ] {
-        let asked = query(rt.alloc(), retry, domain, line)?;
+        let asked = query(rt.alloc(), retry, domain, line)?.copy(rt.alloc())?;
         assert!(rt; book_answer(&book, &asked) == wanted, "at {line}");
     }
     Ok(())

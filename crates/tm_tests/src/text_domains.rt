@@ -1,7 +1,7 @@
 //! The printed domain policy.
 use std::alloc::{AllocError, Global};
 use tm_entry::read_entry;
-use tm_list::{Map, NoMemory, Seq};
+use tm_list::{Copied, Map, NoMemory, Seq};
 use tm_text::print_domain;
 use tm_types::policy::{Domain, Policy};
 use tm_word::normal_words;
@@ -30,7 +30,7 @@ fn domain(
     })
 }
 
-// The printed domain policy of this domain, after what stood before.
+// The printed domain policy of a copy of this domain, after what stood before.
 fn printed(alloc: Global, domain: Domain) -> Result<Vec<u8>, NoMemory> {
     let mut domains = Seq::new(alloc);
     domains.push(domain)?;
@@ -42,7 +42,7 @@ fn printed(alloc: Global, domain: Domain) -> Result<Vec<u8>, NoMemory> {
         opened: false,
     };
     let mut out = Vec::from_slice(alloc, b"# ")?;
-    print_domain(alloc, &policy, &mut out)?;
+    print_domain(alloc, &policy.copy(alloc)?, &mut out)?;
     Ok(out)
 }
 

@@ -1,6 +1,6 @@
 //! The printed managers.
 use std::alloc::Global;
-use tm_list::{NoMemory, Seq};
+use tm_list::{Copied, NoMemory, Seq};
 use tm_text::print_manager;
 use tm_types::policy::Policy;
 
@@ -17,7 +17,7 @@ fn printed(alloc: Global, by_non_root: bool) -> Result<Vec<u8>, NoMemory> {
         opened: false,
     };
     let mut out = Vec::new(alloc);
-    print_manager(alloc, &policy, &mut out)?;
+    print_manager(alloc, &policy.copy(alloc)?, &mut out)?;
     Ok(out)
 }
 

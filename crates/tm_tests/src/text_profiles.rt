@@ -1,6 +1,6 @@
 //! The printed profiles.
 use std::alloc::Global;
-use tm_list::{Map, NoMemory, Seq};
+use tm_list::{Copied, Map, NoMemory, Seq};
 use tm_text::print_profile;
 use tm_types::policy::{Config, Logs, Mode, Namespace, Policy, Profile, Profiles};
 use tm_types::unions::Groups;
@@ -45,7 +45,7 @@ fn namespace(alloc: Global, name: &[u8], profiles: Profiles) -> Result<Namespace
     })
 }
 
-// The printed profiles of these namespaces.
+// The printed profiles of copies of these namespaces.
 fn printed(alloc: Global, first: Namespace, second: Namespace) -> Result<Vec<u8>, NoMemory> {
     let mut namespaces = Seq::new(alloc);
     namespaces.push(first)?;
@@ -58,7 +58,7 @@ fn printed(alloc: Global, first: Namespace, second: Namespace) -> Result<Vec<u8>
         opened: false,
     };
     let mut out = Vec::new(alloc);
-    print_profile(alloc, &policy, &mut out)?;
+    print_profile(alloc, &policy.copy(alloc)?, &mut out)?;
     Ok(out)
 }
 

@@ -1,5 +1,6 @@
 //! Calls of `tm_trace`.
 use std::test::Fail;
+use tm_list::Copied;
 use tm_trace::{print_attributes, print_request, print_trace, read_trace, tree_line_at};
 use tm_types::request::{Item, TraceFault, TraceKind};
 
@@ -20,6 +21,7 @@ fn a_trace_is_printed_as_it_was_read(rt: HostRuntime) -> Result<(), Fail> {
         return Ok(());
     };
     let mut text = Vec::new(rt.alloc());
+    let trace = trace.copy(rt.alloc())?;
     print_trace(rt.alloc(), &trace, &mut text)?;
     assert_eq!(rt; text.as_slice(), TREES);
     assert_eq!(rt; tree_line_at(TREES, 0), Some(1));

@@ -6,8 +6,6 @@
 #[cfg(test)]
 mod addr;
 #[cfg(test)]
-mod copies;
-#[cfg(test)]
 mod io;
 #[cfg(test)]
 mod list;
@@ -15,8 +13,6 @@ mod list;
 mod number;
 #[cfg(test)]
 mod pattern;
-#[cfg(test)]
-mod samples;
 #[cfg(test)]
 mod texts;
 #[cfg(test)]

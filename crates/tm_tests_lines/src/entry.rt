@@ -1,18 +1,18 @@
 //! ACL lines with their conditions.
 use std::alloc::{AllocError, Global};
 use tm_entry::{print_acl, print_entry, read_entry};
-use tm_list::NoMemory;
+use tm_list::{Copied, NoMemory};
 use tm_types::entry::{LineKind, Perms};
 use tm_types::step::LineFault;
 use tm_word::normal_words;
 
-// The printed line of the entry that a line is, or why it is none.
+// The printed line of a copy of the entry that a line is, or why it is none.
 fn printed(alloc: Global, line: &[u8]) -> Result<Result<Vec<u8>, LineKind>, NoMemory> {
     let words = normal_words(alloc, line)?;
     match read_entry(alloc, &words) {
         Ok(entry) => {
             let mut out = Vec::new(alloc);
-            print_entry(alloc, &entry, &mut out)?;
+            print_entry(alloc, &entry.copy(alloc)?, &mut out)?;
             Ok(Ok(out))
         }
         Err(LineFault::NoMemory) => Err(AllocError),

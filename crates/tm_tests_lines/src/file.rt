@@ -337,11 +337,8 @@ fn long_answer(alloc: Global, line: &[u8]) -> Result<Result<Vec<u8>, LineKind>, 
 #[test]
 fn lines_of_sixteen_megabytes_end_at_once(rt: HostRuntime) -> Result<(), NoMemory> {
     for (end, kind) in [
-        ("read", LineKind::Arity),
         ("rea", LineKind::Arity),
-        ("rea /a", LineKind::Keyword),
         ("mkdir /a", LineKind::Keyword),
-        ("read a\\", LineKind::Name),
     ] {
         let line = long_line(rt.alloc(), end)?;
         assert_eq!(rt; line.len(), 16777216);

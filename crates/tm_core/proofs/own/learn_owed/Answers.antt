@@ -1,7 +1,4 @@
-use Rattle.std.proofs.Common.{◌≡◌, ℕ, suc, List, ◌∷◌, [], ◌++◌, length, map, refl, sym, ap, ◌∙◌}
-use Rattle.std.proofs.lemmas.List.{map-append}
-use Rattle.tm_types.specs.declared.step.Made.{Made}
-use Rattle.tm_types.specs.declared.step.Step.{Step}
+use Rattle.std.proofs.Common.{◌≡◌, ℕ, suc, List, ◌∷◌, [], ◌++◌, length, refl, sym, ap, ◌∙◌}
 use Rattle.tm_types.specs.declared.step.Reply.{Reply}
 use Rattle.tm_legal.specs.Play.{Way, going_on, after_step}
 use Rattle.tm_core.specs.Stands.{begun_of, owed_steps, way_of}
@@ -18,7 +15,8 @@ returns-in_ok-go_on-in-Ok-note-clause-makes g c = λ g'.
     record {
       reply = c.in-Ok.field-0;
       learns = c.in-Ok.ensures.learns;
-      made = ap (λ (made : List (Made × Reply)). let f : Made × Reply → Step × Reply = λ pair. (pair.0.step, pair.1) in map f made) c.in-Ok.ensures.made ∙ map-append (λ (pair : Made × Reply). (pair.0.step, pair.1)) c.args.machine.now.made _;
+      start = c.in-Ok.ensures.start;
+      made = c.in-Ok.ensures.made;
       goes = λ was.
           let old : Way = record (way_of c.args.walk.now) { begun = was } in
           ap (λ (n : ℕ). going_on g' old (after_step g' (begun_of c.args.attempt) (owed_steps c.args.attempt.owed) n (Reply.Learn c.in-Ok.field-0))) (sym number) ∙ ap (going_on g' old) (sym noted) ∙ c.in_ok-go_on-in-Ok-note.ensures g' c.args.walk.now.lines was;

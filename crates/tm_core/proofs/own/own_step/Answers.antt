@@ -18,6 +18,6 @@ returns-clause-makes g c =
       line = c.in-Learn.line;
       steps = left;
       owes = ap (λ (s : Step). Stage.Owing (s ∷ left)) learns;
-      makes = record { reply = (makes g').reply; learns = (makes g').learns; made = (makes g').made; goes = (makes g').goes };
+      makes = record { reply = (makes g').reply; learns = (makes g').learns; start = (makes g').start; made = (makes g').made; goes = (makes g').goes };
     })
     c.learn_owed.ensures.makes

@@ -1,0 +1,162 @@
+//! Calls of `tm_policy` and of the verdict in `tm_core`.
+ghost use Rattle.tm_rules.specs.Few.{IsFew};
+
+use crate::samples::{policy, process, read, read_line};
+use std::alloc::{AllocError, Global};
+use std::test::Fail;
+use tm_core::{Machine, verdict};
+use tm_list::{Copied, NoMemory};
+use tm_policy::{Plain, PolicyCalls, Rep, apply_learn, domain_at, is_few, print_entry, profile_of};
+use tm_rules::{is_execute, is_manual};
+use tm_types::entry::Entry;
+use tm_types::function_at;
+use tm_types::policy::{Mode, Policy};
+use tm_types::request::Request;
+use tm_types::step::LearnReply;
+use tm_types::verdict::{EntryPlace, Reason, Verdict};
+use tm_word::bytes_equal;
+
+/// The reply to a line that the first domain learns; the domain and its profile are there.
+fn learn(alloc: Global, policy: &mut Policy, line: &Entry) -> Result<LearnReply, NoMemory> {
+    let Some(domain) = domain_at(policy, 0) else {
+        return Err(AllocError);
+    };
+    if profile_of(policy, domain).is_none() || !is_few(policy) {
+        return Err(AllocError);
+    }
+    apply_learn(alloc, policy, 0, line)
+}
+
+/// The verdict on a request in the first domain, which is there with its profile; the request is neither an execute nor a manual transition.
+fn verdict_on<R: Rep>(
+    alloc: Global,
+    machine: &Machine<R>,
+    request: &Request,
+) -> Result<Verdict, NoMemory> {
+    let Some(domain) = domain_at(machine.policy(), 0) else {
+        return Err(AllocError);
+    };
+    if profile_of(machine.policy(), domain).is_none() {
+        return Err(AllocError);
+    }
+    if function_at(request.args(), request.perm()).is_none() {
+        return Err(AllocError);
+    }
+    if is_execute(request) || is_manual(request) {
+        return Err(AllocError);
+    }
+    verdict(alloc, machine, 0, &process(), request)
+}
+
+/// The lines of the first domain, as they are printed, each with a newline behind it.
+fn lines(alloc: Global, policy: &Policy) -> Result<Vec<u8>, NoMemory> {
+    let mut text = Vec::new(alloc);
+    if let Some(domain) = domain_at(policy, 0) {
+        for entry in domain.entries.as_slice() {
+            print_entry(alloc, entry, &mut text)?;
+            text.push(b'\n')?;
+        }
+    }
+    Ok(text)
+}
+
+/// The plain representation of a policy that is few.
+fn plain(alloc: Global, policy: Policy) -> Result<Plain, NoMemory> {
+    if is_few(&policy) {
+        Plain::new(alloc, policy)
+    } else {
+        drop(policy);
+        Err(AllocError)
+    }
+}
+
+#[test]
+fn a_policy_begins_with_one_domain(rt: HostRuntime) -> Result<(), Fail> {
+    let policy = Policy::new(rt.alloc())?;
+    assert_eq!(rt; policy.domains.len(), 1);
+    assert_eq!(rt; policy.namespaces.len(), 0);
+    assert!(rt; !policy.opened);
+    match domain_at(&policy, 0) {
+        Some(domain) => {
+            assert!(rt; bytes_equal(domain.name.bytes(), b"<kernel>"));
+            assert!(rt; domain.live);
+            assert_eq!(rt; domain.profile, 0);
+            assert_eq!(rt; domain.entries.len(), 0);
+        }
+        None => assert!(rt; false),
+    }
+    Ok(())
+}
+
+#[test]
+fn lines_are_learned_up_to_the_quota(rt: HostRuntime) -> Result<(), Fail> {
+    let alloc = rt.alloc();
+    let mut learned = policy(alloc, Mode::Learning, None)?;
+    for (name, reply) in [
+        ("/a", LearnReply::There),
+        ("/b", LearnReply::Added),
+        ("/b", LearnReply::There),
+        ("/c", LearnReply::Quota),
+        ("/d", LearnReply::Quota),
+    ] {
+        let line = read_line(alloc, name.as_bytes(), None)?;
+        assert!(rt; learn(alloc, &mut learned, &line)? as u8 == reply as u8);
+    }
+    assert_eq!(rt;
+        lines(alloc, &learned)?.as_slice(),
+        b"file read /a\nfile read /b\n".as_slice()
+    );
+    let mut enforced = policy(alloc, Mode::Enforcing, None)?;
+    let line = read_line(alloc, b"/b", None)?;
+    assert!(rt; matches!(learn(alloc, &mut enforced, &line)?, LearnReply::Mode));
+    let copied = plain(alloc, learned)?.copy(alloc)?;
+    assert_eq!(rt;
+        lines(alloc, copied.policy())?.as_slice(),
+        b"file read /a\nfile read /b\n".as_slice()
+    );
+    Ok(())
+}
+
+#[test]
+fn reads_are_judged_by_the_mode(rt: HostRuntime) -> Result<(), Fail> {
+    let alloc = rt.alloc();
+    let missed = [
+        Reason::Disabled,
+        Reason::Learn,
+        Reason::Permissive,
+        Reason::NoEntry,
+    ];
+    let modes = [
+        Mode::Disabled,
+        Mode::Learning,
+        Mode::Permissive,
+        Mode::Enforcing,
+    ];
+    for place in 0..4 {
+        let rep = plain(alloc, policy(alloc, modes[place], None)?)?;
+        let machine = Machine::start(alloc, rep, Vec::new(alloc), 1, false)?;
+        assert_eq!(rt; machine.opening().copy(alloc)?.trees, 1);
+        assert!(rt; machine.step_at(0).is_none() && machine.step_at(1).is_none());
+        let other = verdict_on(alloc, &machine, &read(alloc, b"/b")?)?;
+        assert!(rt; reason_number(other.reason) == reason_number(missed[place]));
+        let own = verdict_on(alloc, &machine, &read(alloc, b"/a")?)?;
+        let by_entry = matches!(own.reason, Reason::Entry(EntryPlace::Own(0)));
+        assert!(rt; by_entry == (place != 0));
+    }
+    Ok(())
+}
+
+/// The case of a reason.
+fn reason_number(reason: Reason) -> u8 {
+    match reason {
+        Reason::Entry(_) => 0,
+        Reason::Disabled => 1,
+        Reason::Permissive => 2,
+        Reason::Quota => 3,
+        Reason::Learn => 4,
+        Reason::Ask => 5,
+        Reason::NoEntry => 6,
+        Reason::NotReady => 7,
+        Reason::NoManual => 8,
+    }
+}

@@ -1,0 +1,114 @@
+//! A small policy and its requests, for the tests.
+use std::alloc::Global;
+use tm_list::{Map, NoMemory, Seq};
+use tm_pattern::literal;
+use tm_types::entry::{Args, Cond, Entry, Perms};
+use tm_types::policy::{Config, Domain, Logs, Mode, Namespace, Policy, Profile};
+use tm_types::request::{Attributes, Ids, Proc, Request};
+use tm_types::unions::{Groups, NameUnion};
+
+/// The argument of a line on a file of this name.
+pub fn named(alloc: Global, name: &[u8]) -> Result<Args, NoMemory> {
+    let word = Seq::from_bytes(alloc, name)?;
+    Ok(Args::Path(NameUnion::One(literal(alloc, &word)?)))
+}
+
+/// The line `file read NAME` with this `grant_log`.
+pub fn read_line(alloc: Global, name: &[u8], grant_log: Option<bool>) -> Result<Entry, NoMemory> {
+    Ok(Entry {
+        args: named(alloc, name)?,
+        perms: Perms { bits: 2 },
+        cond: Cond {
+            clauses: Seq::new(alloc),
+            grant_log,
+        },
+    })
+}
+
+/// A profile of this mode, with both logs, which learns two permissions.
+fn profile(alloc: Global, mode: Mode) -> Profile {
+    let logs = Logs {
+        grant: true,
+        reject: true,
+    };
+    Profile {
+        comment: Seq::new(alloc),
+        max_audit_log: 1024,
+        max_learning_entry: 2,
+        config: Config { mode, logs },
+        slots: Map::new(alloc),
+    }
+}
+
+/// The namespace `<kernel>` with profile 1 of this mode, and nothing else.
+fn namespace(alloc: Global, mode: Mode) -> Result<Namespace, NoMemory> {
+    let mut profiles = Map::new(alloc);
+    profiles.put(1, profile(alloc, mode))?;
+    Ok(Namespace {
+        name: Seq::from_bytes(alloc, b"<kernel>")?,
+        profiles,
+        groups: Groups {
+            paths: Seq::new(alloc),
+            numbers: Seq::new(alloc),
+            addrs: Seq::new(alloc),
+        },
+        aggregators: Seq::new(alloc),
+        controls: Seq::new(alloc),
+        acl_groups: Map::new(alloc),
+    })
+}
+
+/// The domain `<kernel>` with profile 1, of this mode, and the line `file read /a` with this `grant_log`.
+pub fn policy(alloc: Global, mode: Mode, grant_log: Option<bool>) -> Result<Policy, NoMemory> {
+    let mut entries = Seq::new(alloc);
+    entries.push(read_line(alloc, b"/a", grant_log)?)?;
+    let mut namespaces = Seq::new(alloc);
+    namespaces.push(namespace(alloc, mode)?)?;
+    let mut domains = Seq::new(alloc);
+    domains.push(Domain {
+        name: Seq::from_bytes(alloc, b"<kernel>")?,
+        live: true,
+        profile: 1,
+        groups: Map::new(alloc),
+        quota_exceeded: false,
+        transition_failed: false,
+        entries,
+    })?;
+    Ok(Policy {
+        namespaces,
+        domains,
+        by_non_root: false,
+        managers: Seq::new(alloc),
+        opened: true,
+    })
+}
+
+/// A read of this file.
+pub fn read(alloc: Global, name: &[u8]) -> Result<Request, NoMemory> {
+    let attributes = Attributes {
+        real_path: None,
+        argv: Seq::new(alloc),
+        envp: Seq::new(alloc),
+        target: None,
+        stats: Seq::new(alloc),
+    };
+    Request::new(alloc, named(alloc, name)?, 1, attributes)
+}
+
+/// Process 7, of root.
+pub fn process() -> Proc {
+    Proc {
+        pid: 7,
+        ppid: 0,
+        ids: Ids {
+            uid: 0,
+            euid: 0,
+            suid: 0,
+            fsuid: 0,
+            gid: 0,
+            egid: 0,
+            sgid: 0,
+            fsgid: 0,
+        },
+    }
+}
