@@ -27,13 +27,15 @@ fn learn(alloc: Global, policy: &mut Policy, line: &Entry) -> Result<LearnReply,
     apply_learn(alloc, policy, 0, line)
 }
 
-/// The verdict on a request in the first domain, which is there with its profile; the request is neither an execute nor a manual transition.
+/// The verdict on a request in the domain of this number, which is there with its profile; the request is neither an execute nor a manual
+/// transition.
 fn verdict_on<R: Rep>(
     alloc: Global,
     machine: &Machine<R>,
+    number: u32,
     request: &Request,
 ) -> Result<Verdict, NoMemory> {
-    let Some(domain) = domain_at(machine.policy(), 0) else {
+    let Some(domain) = domain_at(machine.policy(), number) else {
         return Err(AllocError);
     };
     if profile_of(machine.policy(), domain).is_none() {
@@ -45,7 +47,7 @@ fn verdict_on<R: Rep>(
     if is_execute(request) || is_manual(request) {
         return Err(AllocError);
     }
-    verdict(alloc, machine, 0, &process(), request)
+    verdict(alloc, machine, number, &process(), request)
 }
 
 /// The lines of the first domain, as they are printed, each with a newline behind it.
@@ -96,7 +98,8 @@ fn lines_are_learned_up_to_the_quota(rt: HostRuntime) -> Result<(), Fail> {
         ("/a", LearnReply::There),
         ("/b", LearnReply::Added),
         ("/b", LearnReply::There),
-        ("/c", LearnReply::Quota),
+        ("/c", LearnReply::Added),
+        ("/d", LearnReply::Quota),
         ("/d", LearnReply::Quota),
     ] {
         let line = read_line(alloc, name.as_bytes(), None)?;
@@ -104,7 +107,7 @@ fn lines_are_learned_up_to_the_quota(rt: HostRuntime) -> Result<(), Fail> {
     }
     assert_eq!(rt;
         lines(alloc, &learned)?.as_slice(),
-        b"file read /a\nfile read /b\n".as_slice()
+        b"file read /a\nfile read /b\nfile read /c\n".as_slice()
     );
     let mut enforced = policy(alloc, Mode::Enforcing, None)?;
     let line = read_line(alloc, b"/b", None)?;
@@ -112,7 +115,7 @@ fn lines_are_learned_up_to_the_quota(rt: HostRuntime) -> Result<(), Fail> {
     let copied = plain(alloc, learned)?.copy(alloc)?;
     assert_eq!(rt;
         lines(alloc, copied.policy())?.as_slice(),
-        b"file read /a\nfile read /b\n".as_slice()
+        b"file read /a\nfile read /b\nfile read /c\n".as_slice()
     );
     Ok(())
 }
@@ -137,11 +140,13 @@ fn reads_are_judged_by_the_mode(rt: HostRuntime) -> Result<(), Fail> {
         let machine = Machine::start(alloc, rep, Vec::new(alloc), 1, false)?;
         assert_eq!(rt; machine.opening().copy(alloc)?.trees, 1);
         assert!(rt; machine.step_at(0).is_none() && machine.step_at(1).is_none());
-        let other = verdict_on(alloc, &machine, &read(alloc, b"/b")?)?;
-        assert!(rt; reason_number(other.reason) == reason_number(missed[place]));
-        let own = verdict_on(alloc, &machine, &read(alloc, b"/a")?)?;
-        let by_entry = matches!(own.reason, Reason::Entry(EntryPlace::Own(0)));
-        assert!(rt; by_entry == (place != 0));
+        for (number, name) in [(0, "/a"), (1, "/b")] {
+            let own = verdict_on(alloc, &machine, number, &read(alloc, name.as_bytes())?)?;
+            let by_entry = matches!(own.reason, Reason::Entry(EntryPlace::Own(0)));
+            assert!(rt; by_entry == (place != 0));
+            let other = verdict_on(alloc, &machine, 1 - number, &read(alloc, name.as_bytes())?)?;
+            assert!(rt; reason_number(other.reason) == reason_number(missed[place]));
+        }
     }
     Ok(())
 }

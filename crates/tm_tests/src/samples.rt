@@ -25,7 +25,7 @@ pub fn read_line(alloc: Global, name: &[u8], grant_log: Option<bool>) -> Result<
     })
 }
 
-/// A profile of this mode, with both logs, which learns two permissions.
+/// A profile of this mode, with both logs, which learns three permissions.
 fn profile(alloc: Global, mode: Mode) -> Profile {
     let logs = Logs {
         grant: true,
@@ -34,7 +34,7 @@ fn profile(alloc: Global, mode: Mode) -> Profile {
     Profile {
         comment: Seq::new(alloc),
         max_audit_log: 1024,
-        max_learning_entry: 2,
+        max_learning_entry: 3,
         config: Config { mode, logs },
         slots: Map::new(alloc),
     }
@@ -58,22 +58,28 @@ fn namespace(alloc: Global, mode: Mode) -> Result<Namespace, NoMemory> {
     })
 }
 
-/// The domain `<kernel>` with profile 1, of this mode, and the line `file read /a` with this `grant_log`.
-pub fn policy(alloc: Global, mode: Mode, grant_log: Option<bool>) -> Result<Policy, NoMemory> {
+/// A domain of this name with profile 1 and one line.
+fn domain(alloc: Global, name: &[u8], line: Entry) -> Result<Domain, NoMemory> {
     let mut entries = Seq::new(alloc);
-    entries.push(read_line(alloc, b"/a", grant_log)?)?;
-    let mut namespaces = Seq::new(alloc);
-    namespaces.push(namespace(alloc, mode)?)?;
-    let mut domains = Seq::new(alloc);
-    domains.push(Domain {
-        name: Seq::from_bytes(alloc, b"<kernel>")?,
+    entries.push(line)?;
+    Ok(Domain {
+        name: Seq::from_bytes(alloc, name)?,
         live: true,
         profile: 1,
         groups: Map::new(alloc),
         quota_exceeded: false,
         transition_failed: false,
         entries,
-    })?;
+    })
+}
+
+/// The domains `<kernel>`, with the line `file read /a` of this `grant_log`, and `<kernel> /x`, with `file read /b`; profile 1 of both has this mode.
+pub fn policy(alloc: Global, mode: Mode, grant_log: Option<bool>) -> Result<Policy, NoMemory> {
+    let mut namespaces = Seq::new(alloc);
+    namespaces.push(namespace(alloc, mode)?)?;
+    let mut domains = Seq::new(alloc);
+    domains.push(domain(alloc, b"<kernel>", read_line(alloc, b"/a", grant_log)?)?)?;
+    domains.push(domain(alloc, b"<kernel> /x", read_line(alloc, b"/b", None)?)?)?;
     Ok(Policy {
         namespaces,
         domains,

@@ -209,6 +209,10 @@ fn a_command_line_has_its_words_and_its_folder(rt: HostRuntime) -> Result<(), st
     let read = line_of(alloc, &[b"-C", b"/srv/policy", b"step"])?;
     assert!(rt; read.folder.as_str() == "/srv/policy");
     assert_eq!(rt; read.words.len(), 1);
+    let long = vec![in alloc; b'x'; 5_000]?;
+    let read = line_of(alloc, &[b"-C", &long, b"step"])?;
+    assert!(rt; read.folder.as_str() == "\u{fffd}");
+    assert_eq!(rt; read.words.len(), 1);
     let read = line_of(alloc, &[b"-C"])?;
     assert!(rt; read.folder.as_str() == ".");
     assert_eq!(rt; read.words.len(), 1);
