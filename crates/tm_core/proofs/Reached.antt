@@ -4,6 +4,7 @@ use Rattle.std.specs.Prelude.{Option, Some, None, IsSome, option_map, not, if◌
 use Rattle.std.specs.List.{AllByRecursion, list_all}
 use Rattle.std.specs.Option.{option_and_then, IfSome}
 use Rattle.std.proofs.lemmas.Bool.{and_parts}
+use Rattle.std.proofs.lemmas.List.{map-append}
 use Rattle.tm_types.specs.declared.request.Item.{Item}
 use Rattle.tm_types.specs.declared.request.Request.{Request}
 use Rattle.tm_types.specs.declared.step.Book.{Book}

@@ -1,5 +1,5 @@
 //! A machine and a trace at play: one event at a time, by turns.
-ghost use Rattle.std.specs.Prelude.{◌≡◌, ◌<◌, ◌≤◌, ◌+◌, [], suc, length, if◌then◌else◌, IfOk, OnOk, map};
+ghost use Rattle.std.specs.Prelude.{◌≡◌, ◌<◌, ◌≤◌, ◌+◌, [], false, suc, length, if◌then◌else◌, IfOk, OnOk, map};
 ghost use Rattle.tm_rules.specs.Few.{IsShort};
 ghost use Rattle.tm_legal.specs.Legal.{Scene};
 ghost use Rattle.tm_legal.specs.Play.{start_of, event, work_left, IsAlone};

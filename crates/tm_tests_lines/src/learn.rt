@@ -4,6 +4,7 @@ use std::alloc::Global;
 use tm_entry::{print_entry, read_entry};
 use tm_learn::{count, learned_line, permissions_of};
 use tm_list::{Map, NoMemory, Seq};
+use tm_types::entry::Entry;
 use tm_types::policy::Domain;
 use tm_types::request::{Attributes, Request};
 use tm_types::step::LineFault;
@@ -30,15 +31,25 @@ fn attributes(alloc: Global, has_target: bool) -> Result<Attributes, NoMemory> {
     Ok(recorded)
 }
 
-/// The line that is learned of the first permission of a line, with all attributes, where `/sh` is the name of its path.
-fn learned(alloc: Global, line: &str, has_target: bool) -> Result<Vec<u8>, LineFault> {
+/// The request for the first permission of a line, with all attributes.
+fn asked_by(alloc: Global, line: &str, has_target: bool) -> Result<Request, LineFault> {
     let asked = read_entry(alloc, &words(alloc, line)?)?;
     let place = asked.perms.bits.trailing_zeros().min(15) as u8;
-    let request = Request::new(alloc, asked.args, place, attributes(alloc, has_target)?)?;
-    let entry = learned_line(alloc, &request, &text(alloc, "/s h")?)?;
+    Ok(Request::new(alloc, asked.args, place, attributes(alloc, has_target)?)?)
+}
+
+/// The printed line of an entry.
+fn printed(alloc: Global, entry: &Entry) -> Result<Vec<u8>, NoMemory> {
     let mut out = Vec::new(alloc);
-    print_entry(alloc, &entry, &mut out)?;
+    print_entry(alloc, entry, &mut out)?;
     Ok(out)
+}
+
+/// The line that is learned of the first permission of a line, with all attributes, where `/sh` is the name of its path.
+fn learned(alloc: Global, line: &str, has_target: bool) -> Result<Vec<u8>, LineFault> {
+    let request = asked_by(alloc, line, has_target)?;
+    let entry = learned_line(alloc, &request, &text(alloc, "/s h")?)?;
+    Ok(printed(alloc, &entry)?)
 }
 
 #[test]

@@ -139,15 +139,35 @@ fn parts(alloc: Global, line: &str) -> Result<(Args, Perms), LineFault> {
     Ok((args, perms))
 }
 
-/// Where the first name of a request is found in a line.
-fn found(alloc: Global, line: &str, asked: &str) -> Result<Option<NamePlace>, LineFault> {
-    let (args, _) = parts(alloc, line)?;
+/// The request for the first permission of a line.
+fn asked_by(alloc: Global, asked: &str) -> Result<Request, LineFault> {
     let (literal, perms) = parts(alloc, asked)?;
+    Ok(request(alloc, literal, perms)?)
+}
+
+/// Where the first name of a request is found in these arguments, under the groups that there are.
+fn found_under(
+    alloc: Global,
+    args: &Args,
+    asked: &Request,
+) -> Result<Option<NamePlace>, LineFault> {
     let groups = groups(alloc)?;
     if groups.paths.len() != 3 {
         return Err(LineFault::Kind(LineKind::Arity));
     }
-    Ok(net_args_match(&args, &groups, &request(alloc, literal, perms)?))
+    Ok(net_args_match(args, &groups, asked))
+}
+
+/// Where the first name of a request is found in these arguments.
+fn found_in(alloc: Global, args: &Args, asked: &str) -> Result<Option<NamePlace>, LineFault> {
+    let asked = asked_by(alloc, asked)?;
+    found_under(alloc, args, &asked)
+}
+
+/// Where the first name of a request is found in a line.
+fn found(alloc: Global, line: &str, asked: &str) -> Result<Option<NamePlace>, LineFault> {
+    let (args, _) = parts(alloc, line)?;
+    found_in(alloc, &args, asked)
 }
 
 const OWN: Option<NamePlace> = Some(NamePlace::Own);
