@@ -7,6 +7,7 @@ use tm_file::{
 use tm_line::Row;
 use tm_list::{NoMemory, Seq};
 use tm_types::entry::{Args, LineKind, Perms};
+use tm_types::request::Request;
 use tm_types::step::LineFault;
 use tm_types::unions::NamePlace;
 use tm_word::normal_words;

@@ -8,6 +8,7 @@ use tm_net::{
     unix_kind, unix_permissions,
 };
 use tm_types::entry::{Args, InetKind, LineKind, Perms, UnixKind};
+use tm_types::request::Request;
 use tm_types::step::LineFault;
 use tm_types::unions::NamePlace;
 use tm_word::normal_words;
