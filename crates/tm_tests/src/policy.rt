@@ -21,7 +21,10 @@ fn learn(alloc: Global, policy: &mut Policy, line: &Entry) -> Result<LearnReply,
     let Some(domain) = domain_at(policy, 0) else {
         return Err(AllocError);
     };
-    if profile_of(policy, domain).is_none() || !is_few(policy) {
+    let Some(_profile) = profile_of(policy, domain) else {
+        return Err(AllocError);
+    };
+    if !is_few(policy) {
         return Err(AllocError);
     }
     apply_learn(alloc, policy, 0, line)
@@ -35,15 +38,16 @@ fn verdict_on<R: Rep>(
     number: u32,
     request: &Request,
 ) -> Result<Verdict, NoMemory> {
-    let Some(domain) = domain_at(machine.policy(), number) else {
+    let policy = machine.policy();
+    let Some(domain) = domain_at(policy, number) else {
         return Err(AllocError);
     };
-    if profile_of(machine.policy(), domain).is_none() {
+    let Some(_profile) = profile_of(policy, domain) else {
         return Err(AllocError);
-    }
-    if function_at(request.args(), request.perm()).is_none() {
+    };
+    let Some(_function) = function_at(request.args(), request.perm()) else {
         return Err(AllocError);
-    }
+    };
     if is_execute(request) || is_manual(request) {
         return Err(AllocError);
     }

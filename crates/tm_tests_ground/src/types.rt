@@ -83,26 +83,41 @@ fn request(alloc: Global, args: Args) -> Result<Request, NoMemory> {
     Request::new(alloc, args, 1, attributes)
 }
 
+/// The arguments of a row with one name.
+fn with_one_name(alloc: Global, row: u8) -> Result<Args, NoMemory> {
+    match row {
+        0 => Ok(Args::Path(name(alloc, "/a b")?)),
+        1 => Ok(Args::Execute(name(alloc, "/")?, Prefer::Keep)),
+        2 => Ok(Args::PathNumber(name(alloc, "/a/b")?, number())),
+        3 => Ok(Args::Device(name(alloc, "a/")?, number(), number(), number())),
+        _ => Ok(Args::Unix(UnixKind::Dgram, name(alloc, "\0u")?)),
+    }
+}
+
+/// The arguments of a mount.
+fn mount(alloc: Global) -> Result<Args, NoMemory> {
+    let device = name(alloc, "a")?;
+    let point = name(alloc, "/b")?;
+    Ok(Args::Mount(device, point, name(alloc, "c")?, number()))
+}
+
+/// The arguments of a row with another number of names, or with a name of another kind.
+fn with_names(alloc: Global, row: u8) -> Result<Args, NoMemory> {
+    match row {
+        5 => Ok(Args::Env(literal(alloc, &Seq::from_bytes(alloc, b"PATH")?)?)),
+        6 => mount(alloc),
+        7 => Ok(Args::Inet(InetKind::Raw, address(), number())),
+        _ => Ok(Args::Manual(Seq::from_bytes(alloc, b"<kernel> /a")?)),
+    }
+}
+
 /// A request of each row.
 fn asked(alloc: Global, row: u8) -> Result<Request, NoMemory> {
-    let args = match row {
-        0 => Args::Path(name(alloc, "/a b")?),
-        1 => Args::Execute(name(alloc, "/")?, Prefer::Keep),
-        2 => Args::PathNumber(name(alloc, "/a/b")?, number()),
-        3 => Args::Device(name(alloc, "a/")?, number(), number(), number()),
-        4 => Args::Unix(UnixKind::Dgram, name(alloc, "\0u")?),
-        5 => Args::Env(literal(alloc, &Seq::from_bytes(alloc, b"PATH")?)?),
-        6 => Args::Path2(name(alloc, "/a")?, name(alloc, "/b")?),
-        7 => Args::Mount(
-            name(alloc, "a")?,
-            name(alloc, "/b")?,
-            name(alloc, "c")?,
-            number(),
-        ),
-        8 => Args::Inet(InetKind::Raw, address(), number()),
-        _ => Args::Manual(Seq::from_bytes(alloc, b"<kernel> /a")?),
-    };
-    request(alloc, args)
+    if row < 5 {
+        request(alloc, with_one_name(alloc, row)?)
+    } else {
+        request(alloc, with_names(alloc, row)?)
+    }
 }
 
 /// The names of the request of a row, each in brackets.
@@ -128,10 +143,9 @@ fn a_request_has_the_words_of_its_names(rt: HostRuntime) -> Result<(), NoMemory>
         (3, "[a/]"),
         (4, "[\0u]"),
         (5, "[PATH]"),
-        (6, "[/a][/b]"),
-        (7, "[a][/b][c]"),
+        (6, "[a][/b][c]"),
+        (7, ""),
         (8, ""),
-        (9, ""),
     ] {
         let text = names_of(rt.alloc(), row)?;
         assert_eq!(rt; text.as_slice(), names.as_bytes());

@@ -45,11 +45,22 @@ fn printed(alloc: Global, entry: &Entry) -> Result<Vec<u8>, NoMemory> {
     Ok(out)
 }
 
-/// The line that is learned of the first permission of a line, with all attributes, where `/sh` is the name of its path.
+/// The printed line that is learned for a request whose path has this aggregated name.
+fn learned_by(alloc: Global, request: &Request, name: &Text) -> Result<Vec<u8>, NoMemory> {
+    let entry = learned_line(alloc, request, name)?;
+    printed(alloc, &entry)
+}
+
+/// The printed line that is learned for a request whose path has the aggregated name `/s h`.
+fn learned_text(alloc: Global, request: &Request) -> Result<Vec<u8>, NoMemory> {
+    let name = text(alloc, "/s h")?;
+    learned_by(alloc, request, &name)
+}
+
+/// The line that is learned of the first permission of a line, with all attributes.
 fn learned(alloc: Global, line: &str, has_target: bool) -> Result<Vec<u8>, LineFault> {
     let request = asked_by(alloc, line, has_target)?;
-    let entry = learned_line(alloc, &request, &text(alloc, "/s h")?)?;
-    Ok(printed(alloc, &entry)?)
+    Ok(learned_text(alloc, &request)?)
 }
 
 #[test]

@@ -4,10 +4,27 @@ use std::alloc::Global;
 use tm_entry::read_entry;
 use tm_list::{NoMemory, Seq};
 use tm_rules::{is_execute, is_manual, same_line};
-use tm_types::entry::{Args, Prefer};
+use tm_types::entry::{Args, Entry, Prefer};
 use tm_types::request::{Attributes, Request};
 use tm_types::step::LineFault;
 use tm_types::unions::NameUnion;
+
+/// The entry of a line.
+fn entry(alloc: Global, line: &str) -> Result<Entry, LineFault> {
+    read_entry(alloc, &words(alloc, line)?)
+}
+
+/// Whether a line shares this entry.
+fn is_shared(alloc: Global, entry_of_left: &Entry, right: &str) -> Result<bool, LineFault> {
+    let right = entry(alloc, right)?;
+    Ok(same_line(entry_of_left, &right))
+}
+
+/// Whether two lines share an entry.
+fn share(alloc: Global, left: &str, right: &str) -> Result<bool, LineFault> {
+    let left = entry(alloc, left)?;
+    is_shared(alloc, &left, right)
+}
 
 #[test]
 fn lines_share_an_entry(rt: HostRuntime) -> Result<(), LineFault> {
@@ -34,13 +51,7 @@ fn lines_share_an_entry(rt: HostRuntime) -> Result<(), LineFault> {
         ),
         ("file execute /a", "file execute /a keep", false),
     ] {
-        let left_entry = read_entry(alloc, &words(alloc, left)?)?;
-        let right_entry = read_entry(alloc, &words(alloc, right)?)?;
-        assert_eq!(rt;
-            same_line(&left_entry, &right_entry),
-            want,
-            "{left} and {right}"
-        );
+        assert_eq!(rt; share(alloc, left, right)?, want, "{left} and {right}");
     }
     Ok(())
 }
