@@ -33,6 +33,19 @@ fn namespace(alloc: Global, name: &[u8], number: u8, line: &[u8]) -> Result<Name
     })
 }
 
+// The printed exception policy of a copy of this policy.
+fn printed(alloc: Global, policy: &Policy) -> Result<Vec<u8>, NoMemory> {
+    let copied = policy.copy(alloc)?;
+    print_text(alloc, &copied)
+}
+
+// The printed exception policy.
+fn print_text(alloc: Global, policy: &Policy) -> Result<Vec<u8>, NoMemory> {
+    let mut out = Vec::new(alloc);
+    print_exception(alloc, policy, &mut out)?;
+    Ok(out)
+}
+
 #[test]
 fn acl_groups_by_the_names_of_namespaces(rt: HostRuntime) -> Result<(), NoMemory> {
     let alloc = rt.alloc();
@@ -46,45 +59,76 @@ fn acl_groups_by_the_names_of_namespaces(rt: HostRuntime) -> Result<(), NoMemory
         managers: Seq::new(alloc),
         opened: false,
     };
-    let mut out = Vec::new(alloc);
-    print_exception(alloc, &policy.copy(alloc)?, &mut out)?;
+    let out = printed(alloc, &policy)?;
     let text = "</s> acl_group 0 misc env PATH\n<kernel> acl_group 3 file read/write /a\n";
     assert_eq!(rt; out.as_slice(), text.as_bytes());
     Ok(())
 }
 
-// A namespace with one member of a group of each kind, an aggregator and a control.
-fn with_lists(alloc: Global) -> Result<Namespace, NoMemory> {
-    let mut made = namespace(alloc, b"<kernel>", 0, b"file read @P")?;
-    let a = Seq::from_bytes(alloc, b"/a")?;
-    let path = literal(alloc, &a)?;
-    made.aggregators.push((path, a))?;
-    let b = literal(alloc, &Seq::from_bytes(alloc, b"/b")?)?;
-    made.groups.paths.push((Seq::from_bytes(alloc, b"P")?, b))?;
-    let one = Number {
+// The member `/b` of the path group `P`.
+fn add_path(alloc: Global, made: &mut Namespace) -> Result<(), NoMemory> {
+    let path = literal(alloc, &Seq::from_bytes(alloc, b"/b")?)?;
+    made.groups
+        .paths
+        .push((Seq::from_bytes(alloc, b"P")?, path))
+}
+
+// The member 010 of the number group `N`.
+fn add_number(alloc: Global, made: &mut Namespace) -> Result<(), NoMemory> {
+    let eight = Number {
         value: 8,
         base: Base::Octal,
     };
     let range = Range {
-        low: one,
-        high: one,
+        low: eight,
+        high: eight,
     };
     made.groups
         .numbers
-        .push((Seq::from_bytes(alloc, b"N")?, range))?;
-    let addrs = AddrRange {
+        .push((Seq::from_bytes(alloc, b"N")?, range))
+}
+
+// Two addresses of the address group `A`.
+fn add_addresses(alloc: Global, made: &mut Namespace) -> Result<(), NoMemory> {
+    let range = AddrRange {
         low: Addr::V4(1),
         high: Addr::V4(2),
     };
     made.groups
         .addrs
-        .push((Seq::from_bytes(alloc, b"A")?, addrs))?;
+        .push((Seq::from_bytes(alloc, b"A")?, range))
+}
+
+// An aggregator of `/a`.
+fn add_aggregator(alloc: Global, made: &mut Namespace) -> Result<(), NoMemory> {
+    let word = Seq::from_bytes(alloc, b"/a")?;
+    let path = literal(alloc, &word)?;
+    made.aggregators.push((path, word))
+}
+
+// A control of every domain.
+fn add_control(alloc: Global, made: &mut Namespace) -> Result<(), NoMemory> {
     made.controls.push(Control {
         kind: ControlKind::NoKeep,
         program: Some(Seq::from_bytes(alloc, b"/bin/x")?),
         domain: None,
         last: false,
-    })?;
+    })
+}
+
+// One member of a group of each kind, an aggregator and a control.
+fn add_lists(alloc: Global, made: &mut Namespace) -> Result<(), NoMemory> {
+    add_path(alloc, made)?;
+    add_number(alloc, made)?;
+    add_addresses(alloc, made)?;
+    add_aggregator(alloc, made)?;
+    add_control(alloc, made)
+}
+
+// A namespace with an ACL line and a member of every other list.
+fn with_lists(alloc: Global) -> Result<Namespace, NoMemory> {
+    let mut made = namespace(alloc, b"<kernel>", 0, b"file read @P")?;
+    add_lists(alloc, &mut made)?;
     Ok(made)
 }
 
@@ -100,8 +144,7 @@ fn each_list_of_a_namespace(rt: HostRuntime) -> Result<(), NoMemory> {
         managers: Seq::new(alloc),
         opened: false,
     };
-    let mut out = Vec::new(alloc);
-    print_exception(alloc, &policy.copy(alloc)?, &mut out)?;
+    let out = printed(alloc, &policy)?;
     let text = "<kernel> path_group P /b\n\
 <kernel> number_group N 010\n\
 <kernel> address_group A 0.0.0.1-0.0.0.2\n\
