@@ -8,6 +8,7 @@ use tm_types::policy::Function;
 use tm_types::request::{Attributes, Request};
 use tm_types::unions::{AddrUnion, NameUnion, NumberUnion};
 use tm_types::{function_at, function_of};
+use tm_word::Word;
 
 #[test]
 fn each_permission_has_its_function(rt: HostRuntime) {
@@ -120,18 +121,28 @@ fn asked(alloc: Global, row: u8) -> Result<Request, NoMemory> {
     }
 }
 
-/// The names of the request of a row, each in brackets.
-fn names_of(alloc: Global, row: u8) -> Result<Vec<u8>, NoMemory> {
-    let request = asked(alloc, row)?;
+/// Appends a name in brackets.
+fn push_name(text: &mut Vec<u8>, name: &Word) -> Result<(), NoMemory> {
+    text.push(b'[')?;
+    text.extend_from_slice(name.bytes())?;
+    text.push(b']')
+}
+
+/// The names of a request, each in brackets.
+fn names_in(alloc: Global, request: &Request) -> Result<Vec<u8>, NoMemory> {
     let mut text = Vec::new(alloc);
     for place in 0..4 {
         if let Some(name) = request.name(place) {
-            text.push(b'[')?;
-            text.extend_from_slice(name.bytes())?;
-            text.push(b']')?;
+            push_name(&mut text, name)?;
         }
     }
     Ok(text)
+}
+
+/// The names of the request of a row, each in brackets.
+fn names_of(alloc: Global, row: u8) -> Result<Vec<u8>, NoMemory> {
+    let request = asked(alloc, row)?;
+    names_in(alloc, &request)
 }
 
 #[test]

