@@ -125,7 +125,8 @@ fn asked(alloc: Global, row: u8) -> Result<Request, NoMemory> {
 fn push_name(text: &mut Vec<u8>, name: &Word) -> Result<(), NoMemory> {
     text.push(b'[')?;
     text.extend_from_slice(name.bytes())?;
-    text.push(b']')
+    text.push(b']')?;
+    Ok(())
 }
 
 /// The names of a request, each in brackets.
