@@ -1,6 +1,6 @@
 -- What an exception line finds, takes out and adds.
-use Rattle.std.proofs.Common.{◌≡◌, ◌<◌, length, Bool, true, false, List, [], refl, sym, ap, ◌∙◌}
-use Rattle.std.specs.Prelude.{Option, Some, None, unwrap_or}
+use Rattle.std.proofs.Common.{◌≡◌, true, false, List, refl, sym, ap, ◌∙◌}
+use Rattle.std.specs.Prelude.{Option, None, unwrap_or}
 use Rattle.std.specs.List.{find, position_from}
 use Rattle.tm_word.specs.Words.{Text}
 use Rattle.tm_word.specs.Texts.{texts_equal}

@@ -1,7 +1,7 @@
 pub mod Tests
 pub mod Outcomes
 pub mod Places
-pub mod Numbered
+pub mod MapLaws
 pub mod Effects
 pub mod Exceptions
 pub mod ShortLists

@@ -1,5 +1,4 @@
 -- What stands after a call that may run out of memory.
-use Rattle.std.proofs.Common.{◌≡◌}
 use Rattle.std.specs.Prelude.{Result, Ok, Err, OnOk, OnErr}
 
 -- what follows from what stands where it is done

@@ -2,7 +2,6 @@
 use Rattle.std.proofs.Common.{◌≡◌, ℕ, zero, suc, ◌+◌, ◌<◌, subst, length, get_or, arith, Bool, true, false, List, [], ◌∷◌, ◌++◌, refl, sym, ap, ◌∙◌}
 use Rattle.std.specs.Prelude.{Some, None, if◌then◌else◌, slice_set}
 use Rattle.std.specs.List.{position_from, AllByRecursion, find}
-use Rattle.std.specs.Prelude.{Option, unwrap_or}
 use Rattle.tm_word.specs.Words.{Text}
 use Rattle.tm_word.specs.Texts.{texts_equal}
 use Rattle.tm_types.specs.declared.policy.Namespace.{Namespace}

@@ -1,11 +1,8 @@
 -- What a change keeps short.
-use Rattle.std.proofs.Common.{◌≡◌, ℕ, ◌<◌, ◌^◌, arith, subst, sym, List, []}
-use Rattle.std.specs.List.{AllByRecursion}
+use Rattle.std.proofs.Common.{◌<◌, ◌^◌, arith}
 use Rattle.tm_word.specs.Words.{Text}
-use Rattle.tm_types.specs.declared.entry.Entry.{Entry}
-use Rattle.tm_types.specs.declared.policy.Namespace.{Namespace}
 use Rattle.tm_rules.specs.Policy.{empty_namespace}
-use Rattle.tm_rules.specs.Few.{IsShort, IsFewHere}
+use Rattle.tm_rules.specs.Few.{IsFewHere}
 
 -- a namespace of which nothing was written is few
 pub few_empty : (name : Text) → IsFewHere (empty_namespace name)

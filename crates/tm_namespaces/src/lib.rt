@@ -5,6 +5,7 @@
 
 mod alike;
 mod namespaces;
+mod numbered;
 mod profiles;
 mod rules;
 
