@@ -1,7 +1,7 @@
 -- The entries of an ACL group: a group without entries isn't in the map.
 use Rattle.std.proofs.Common.{◌≡◌, ℕ, ◌<◌, ◌^◌, arith, subst, Bool, true, false, ◌&&◌, ◌==◌, List, [], ◌∷◌, refl, sym, ap, ◌∙◌}
 use Rattle.std.specs.Prelude.{Option, Some, None, if◌then◌else◌, unwrap_or, bit_or}
-use Rattle.std.specs.List.{AllByRecursion, find, position_from}
+use Rattle.std.specs.List.{find, position_from}
 use Rattle.tm_word.specs.Words.{Text}
 use Rattle.tm_word.specs.Texts.{texts_equal}
 use Rattle.tm_types.specs.declared.entry.Entry.{Entry}
@@ -10,7 +10,7 @@ use Rattle.tm_rules.specs.Policy.{adding, deleting, empty_namespace, at_key, has
 use Rattle.tm_rules.specs.Edit.{acl_group, put_group, put_key, remove_key}
 use Rattle.tm_namespaces.specs.Named.{named}
 use Rattle.tm_namespaces.proofs.Places.{none_found}
-use Rattle.tm_namespaces.specs.Taking.{takes_all}
+use Rattle.tm_namespaces.specs.AclGroups.{AreShort, takes_all}
 use Rattle.tm_namespaces.proofs.MapLaws.{each_put, each_without, each_at}
 use Rattle.tm_rules.specs.Few.{IsShort}
 
@@ -100,11 +100,7 @@ part_somewhere n line name spaces e h =
     let both : true ≡ false = sym h ∙ is in
     cc
 
--- the entries of each group are short
-abbrev pub AreShort : List (ℕ × List Entry) → Type 0
-AreShort groups = AllByRecursion (λ (group : ℕ × List Entry). IsShort group.1) groups
-
--- no entries are
+-- no entries are short entries
 pub none_short : (entries : List Entry) → entries ≡ [] → IsShort entries
 none_short entries e = subst (λ (t : List Entry). IsShort t) (sym e) below
   where

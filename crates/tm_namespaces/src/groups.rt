@@ -1,13 +1,11 @@
 //! What the line of an ACL group does to the entries of its group.
-ghost use Rattle.std.specs.Prelude.{◌≡◌, ◌<◌, ℕ, List, [], true, length, unwrap_or, OnOk, OnErr};
+ghost use Rattle.std.specs.Prelude.{◌≡◌, ◌<◌, [], true, length, unwrap_or, OnOk, OnErr};
 ghost use Rattle.std.specs.List.{AllByRecursion};
-ghost use Rattle.tm_types.specs.declared.entry.Entry.{Entry};
-ghost use Rattle.tm_types.specs.declared.policy.Namespace.{Namespace};
-ghost use Rattle.tm_rules.specs.Few.{IsShort, IsFewHere};
+ghost use Rattle.tm_rules.specs.Few.{IsFewHere};
 ghost use Rattle.tm_rules.specs.Policy.{adding, at_key, changed_at, deleting, has_part};
-ghost use Rattle.tm_rules.specs.Edit.{acl_group, in_namespace, put_group, with_group};
+ghost use Rattle.tm_rules.specs.Edit.{acl_group, in_namespace, put_group};
 ghost use Rattle.tm_namespaces.specs.Named.{named};
-ghost use Rattle.tm_namespaces.specs.Taking.{takes_all};
+ghost use Rattle.tm_namespaces.specs.AclGroups.{AreShort, line_added, line_taken, takes_all};
 
 use crate::namespaces::{Change, find_namespace, in_namespace, namespace_place};
 use crate::numbered::is_rising;
@@ -34,7 +32,7 @@ fn add_to_group(
 ) -> Result<(), NoMemory>
     ensures done { OnOk result (groups.new ≡ put_group number (adding line (unwrap_or (at_key groups.old number) [])) groups.old) }
     ensures kept { OnErr result (groups.new ≡ groups.old) }
-    ensures few { AllByRecursion (λ (group : ℕ × List Entry). IsShort group.1) groups.old → AllByRecursion (λ (group : ℕ × List Entry). IsShort group.1) groups.new }
+    ensures few { AreShort groups.old → AreShort groups.new }
 {
     if !is_rising(groups.as_slice()) {
         drop(line);
@@ -76,7 +74,7 @@ pub fn add_group_line(
     namespaces: &mut Seq<Namespace>,
     line: GroupLine,
 ) -> Result<(), NoMemory>
-    ensures done { OnOk result (namespaces.new ≡ in_namespace line.namespace (λ ns. with_group line.group (adding line.entry (acl_group ns line.group)) ns) namespaces.old) }
+    ensures done { OnOk result (namespaces.new ≡ in_namespace line.namespace (line_added line) namespaces.old) }
     ensures kept { OnErr result (namespaces.new ≡ namespaces.old) }
     ensures few { AllByRecursion IsFewHere namespaces.old → AllByRecursion IsFewHere namespaces.new }
 {
@@ -131,7 +129,7 @@ fn takes_group(groups: &Map<u8, Seq<Entry>>, number: u8, line: &Entry) -> bool
 // entries meanwhile.
 fn take_from_group(groups: &mut Map<u8, Seq<Entry>>, number: u8, empty: Seq<Entry>, line: &Entry)
     ensures done { groups.new ≡ put_group number (deleting line.now (unwrap_or (at_key groups.old number) [])) groups.old }
-    ensures few { AllByRecursion (λ (group : ℕ × List Entry). IsShort group.1) groups.old → AllByRecursion (λ (group : ℕ × List Entry). IsShort group.1) groups.new }
+    ensures few { AreShort groups.old → AreShort groups.new }
 {
     if takes_group(groups, number, line) {
         groups.remove(&number);
@@ -143,7 +141,7 @@ fn take_from_group(groups: &mut Map<u8, Seq<Entry>>, number: u8, empty: Seq<Entr
 
 // Takes the line of an ACL group out of a namespace.
 fn take_line(namespace: &mut Namespace, line: &GroupLine)
-    ensures done { namespace.new ≡ with_group line.now.group (deleting line.now.entry (acl_group namespace.old line.now.group)) namespace.old }
+    ensures done { namespace.new ≡ line_taken line.now namespace.old }
     ensures few { IsFewHere namespace.old → IsFewHere namespace.new }
 {
     let empty = namespace.name.fresh();
@@ -153,7 +151,7 @@ fn take_line(namespace: &mut Namespace, line: &GroupLine)
 // Takes the line of an ACL group out of the namespace at this place.
 fn take_line_at(namespaces: &mut Seq<Namespace>, place: usize, line: &GroupLine)
     requires { place < length namespaces.old }
-    ensures done { namespaces.new ≡ changed_at place (λ (ns : Namespace). with_group line.now.group (deleting line.now.entry (acl_group ns line.now.group)) ns) namespaces.old }
+    ensures done { namespaces.new ≡ changed_at place (line_taken line.now) namespaces.old }
     ensures few { AllByRecursion IsFewHere namespaces.old → AllByRecursion IsFewHere namespaces.new }
 {
     let mut list = namespaces.take();
@@ -165,7 +163,7 @@ fn take_line_at(namespaces: &mut Seq<Namespace>, place: usize, line: &GroupLine)
 /// shares loses its permissions and goes away without any, and a group without entries is no longer in the namespace. Takes no memory.
 pub fn remove_group_line(namespaces: &mut Seq<Namespace>, line: &GroupLine)
     requires { has_part line.now.entry (acl_group (named line.now.namespace namespaces.old) line.now.group) ≡ true }
-    ensures done { namespaces.new ≡ in_namespace line.now.namespace (λ ns. with_group line.now.group (deleting line.now.entry (acl_group ns line.now.group)) ns) namespaces.old }
+    ensures done { namespaces.new ≡ in_namespace line.now.namespace (line_taken line.now) namespaces.old }
     ensures few { AllByRecursion IsFewHere namespaces.old → AllByRecursion IsFewHere namespaces.new }
 {
     if let Some(place) = namespace_place(namespaces.as_slice(), line.namespace.bytes()) {

@@ -5,8 +5,9 @@ use Rattle.tm_rules.specs.Policy.{at_key}
 use Rattle.tm_rules.specs.Edit.{put_key}
 use Rattle.tm_namespaces.specs.Rising.{rises_after}
 use Rattle.tm_namespaces.proofs.Outcomes.{done_so, either_so, kept_anyway}
+use Rattle.tm_namespaces.specs.AclGroups.{AreShort}
 use Rattle.tm_namespaces.proofs.MapLaws.{put_again, put_back, rising_by_test}
-use Rattle.tm_namespaces.proofs.GroupLaws.{AreShort, group_with, none_short, short_at, short_put}
+use Rattle.tm_namespaces.proofs.GroupLaws.{group_with, none_short, short_at, short_put}
 use Rattle.tm_namespaces.proofs.groups.add_to_group.Goals as goal
 
 pub returns-in_err-outcome-in-Some-clause-kept : goal.returns-in_err-outcome-in-Some-clause-kept

@@ -2,7 +2,7 @@ use Rattle.std.proofs.Common.{◌≡◌, [], true, false, refl, sym, subst, ◌�
 use Rattle.std.specs.Prelude.{Some, IsSome, unwrap_or}
 use Rattle.tm_rules.specs.Policy.{at_key}
 use Rattle.tm_rules.specs.Edit.{put_key}
-use Rattle.tm_namespaces.specs.Taking.{takes_all}
+use Rattle.tm_namespaces.specs.AclGroups.{takes_all}
 use Rattle.tm_namespaces.proofs.MapLaws.{put_again}
 use Rattle.tm_namespaces.proofs.GroupLaws.{group_gone, group_left, short_at, short_put, short_without}
 use Rattle.tm_namespaces.proofs.groups.take_from_group.Goals as goal
