@@ -1,4 +1,5 @@
 //! Calls of `tm_policy` and of the verdict in `tm_core`.
+ghost use Rattle.std.specs.Prelude.{IfOk};
 ghost use Rattle.tm_rules.specs.Few.{IsFew};
 
 use crate::samples::{policy, process, read, read_line};
@@ -67,7 +68,9 @@ fn lines(alloc: Global, policy: &Policy) -> Result<Vec<u8>, NoMemory> {
 }
 
 /// The plain representation of a policy that is few.
-fn plain(alloc: Global, policy: Policy) -> Result<Plain, NoMemory> {
+fn plain(alloc: Global, policy: Policy) -> Result<Plain, NoMemory>
+    ensures { IfOk result (λ made. IsFew made) }
+{
     if is_few(&policy) {
         Plain::new(alloc, policy)
     } else {

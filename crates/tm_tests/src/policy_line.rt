@@ -38,10 +38,12 @@ fn text_of(alloc: Global, line: &PolicyLine) -> Result<Vec<u8>, NoMemory> {
     Ok(text)
 }
 
-/// What is printed of a line.
-fn printed_again(alloc: Global, file: FileKind, line: &str) -> Result<Vec<u8>, LineFault> {
-    let said = read_line(alloc, file, line.as_bytes())?;
-    Ok(text_of(alloc, &said)?)
+/// What is printed of a line, None where it is refused.
+fn printed_again(alloc: Global, file: FileKind, line: &str) -> Option<Vec<u8>> {
+    match read_line(alloc, file, line.as_bytes()) {
+        Ok(said) => text_of(alloc, &said).ok(),
+        Err(_) => None,
+    }
 }
 
 /// The kind of a line that is refused.
@@ -80,8 +82,8 @@ fn lines_are_printed_in_their_normal_form(rt: HostRuntime) {
         (FileKind::Profile, " \t", ""),
     ] {
         match printed_again(rt.alloc(), file, line) {
-            Ok(text) => assert_eq!(rt; text.as_slice(), printed.as_bytes(), "at {line}"),
-            Err(_) => assert!(rt; false, "refused {line}"),
+            Some(text) => assert_eq!(rt; text.as_slice(), printed.as_bytes(), "at {line}"),
+            None => assert!(rt; false, "refused {line}"),
         }
     }
 }
