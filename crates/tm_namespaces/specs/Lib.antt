@@ -1,0 +1,4 @@
+pub mod Named
+pub mod Effects
+pub mod Pairs
+pub mod Rising
