@@ -1,9 +1,8 @@
 //! Manager lines, and who is a manager.
-ghost use Rattle.std.specs.Prelude.{◌≡◌, ◌||◌, List, true, false, OnOk, OnErr, IfOk};
+ghost use Rattle.std.specs.Prelude.{◌≡◌, ◌||◌, true, false, OnOk, OnErr, IfOk};
 ghost use Rattle.std.specs.List.{list_any};
 ghost use Rattle.tm_types.specs.declared.policy.ManagerRule.{ManagerRule};
-ghost use Rattle.tm_types.specs.declared.step.FileKind.{FileKind};
-ghost use Rattle.tm_word.specs.Words.{Text};
+ghost use Rattle.tm_types.specs.declared.step.Editor.{Editor};
 ghost use Rattle.tm_word.specs.Texts.{texts_equal};
 ghost use Rattle.tm_word.specs.Spelling.{spell};
 ghost use Rattle.tm_rules.specs.Few.{IsFew};
@@ -153,8 +152,8 @@ fn is_named(managers: &[Text], domain: &[u8], exe: &[u8]) -> bool
 /// domain or by a program that is a manager line. Takes no memory.
 #[tactic(auto, unfolding(tm_rules::specs::Changes::is_manager))]
 pub fn is_manager(policy: &Policy, domain: &[u8], uid: u32, euid: u32, exe: &[u8]) -> bool
-    ensures { (lines : List (FileKind × Text)) → result ≡ is_manager policy.now
-        (record { uid = uid; euid = euid; exe = exe.now; domain = domain.now; lines = lines }) }
+    ensures { (editor : Editor) → editor.uid ≡ uid → editor.euid ≡ euid → editor.exe ≡ exe.now →
+        editor.domain ≡ domain.now → result ≡ is_manager policy.now editor }
 {
     (policy.by_non_root || uid == 0 && euid == 0)
         && is_named(policy.managers.as_slice(), domain, exe)
