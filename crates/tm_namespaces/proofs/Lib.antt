@@ -4,4 +4,4 @@ pub mod Places
 pub mod MapLaws
 pub mod Effects
 pub mod Exceptions
-pub mod ShortLists
+pub mod GroupLaws

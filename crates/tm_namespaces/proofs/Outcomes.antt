@@ -15,3 +15,8 @@ kept_so (Err e) h p = h p
 pub either_so : {X E : Type 0} {P Q R : Type 0} (r : Result X E) → (P → R) → (Q → R) → OnOk r P → OnErr r Q → R
 either_so (Ok x) h k p q = h p
 either_so (Err e) h k p q = k q
+
+-- what stands anyway
+pub kept_anyway : {X E : Type 0} {P : Type 0} (r : Result X E) → P → OnErr r P
+kept_anyway (Ok x) p = tt
+kept_anyway (Err e) p = p

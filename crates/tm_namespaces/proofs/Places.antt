@@ -1,7 +1,7 @@
 -- A change of the element at a place, and of the first element that a test finds.
-use Rattle.std.proofs.Common.{◌≡◌, ℕ, zero, suc, ◌+◌, ◌<◌, subst, length, get_or, arith, Bool, true, false, List, [], ◌∷◌, ◌++◌, refl, sym, ap, ◌∙◌}
+use Rattle.std.proofs.Common.{◌≡◌, ℕ, zero, suc, ◌+◌, get_or, arith, Bool, true, false, List, [], ◌∷◌, ◌++◌, refl, sym, ap, ◌∙◌}
 use Rattle.std.specs.Prelude.{Some, None, if◌then◌else◌, slice_set}
-use Rattle.std.specs.List.{position_from, AllByRecursion, find}
+use Rattle.std.specs.List.{position_from, find}
 use Rattle.tm_word.specs.Words.{Text}
 use Rattle.tm_word.specs.Texts.{texts_equal}
 use Rattle.tm_types.specs.declared.policy.Namespace.{Namespace}
@@ -13,23 +13,6 @@ pub changed_there : {A : Type 0} (change : A → A) (xs : List A) (k : ℕ) (x y
 changed_there change [] k x y is done = refl
 changed_there change (z ∷ xs) zero x y is done = ap (λ t. t ∷ xs) (done ∙ ap change is)
 changed_there change (z ∷ xs) (suc k) x y is done = ap (λ t. z ∷ t) (changed_there change xs k x y is done)
-
--- the element that stands there, put back in its place
-pub kept_there : {A : Type 0} (xs : List A) (k : ℕ) (x y : A) → x ≡ get_or xs k x → y ≡ x → slice_set xs k y ≡ xs
-kept_there [] k x y is same = refl
-kept_there (z ∷ xs) zero x y is same = ap (λ t. t ∷ xs) (same ∙ is)
-kept_there (z ∷ xs) (suc k) x y is same = ap (λ t. z ∷ t) (kept_there xs k x y is same)
-
--- another element in a place keeps what each element has
-pub each_set : {A : Type 0} (P : A → Type 0) (xs : List A) (k : ℕ) (x y : A) → k < length xs → x ≡ get_or xs k x → (P x → P y) → AllByRecursion P xs → AllByRecursion P (slice_set xs k y)
-each_set P [] k x y less is keeps each = tt
-each_set P (z ∷ xs) zero x y less is keeps each = (keeps (subst P (sym is) each.0), each.1)
-each_set P (z ∷ xs) (suc k) x y less is keeps each = (each.0, each_set P xs k x y (omega (arith, less)) is keeps each.1)
-
--- and so does a new last one
-pub each_last : {A : Type 0} (P : A → Type 0) (xs : List A) (y : A) → AllByRecursion P xs → P y → AllByRecursion P (xs ++ y ∷ [])
-each_last P [] y each h = (h, tt)
-each_last P (x ∷ xs) y each h = (each.0, each_last P xs y each.1 h)
 
 -- the first element that passes is changed, or a new one goes last
 abbrev changing : {A : Type 0} → (A → Bool) → (A → A) → A → List A → List A
