@@ -4,6 +4,7 @@
 #![tactic(auto)]
 
 mod exceptions;
+mod groups;
 mod lines;
 
 pub use lines::{apply_line, apply_read};

@@ -6,6 +6,7 @@ ghost use Rattle.tm_rules.specs.Edit.{apply_read, apply_line};
 ghost use Rattle.tm_grammar.specs.Tomoyo.{tomoyo_grammar};
 
 use crate::exceptions::apply_exception;
+use crate::groups::apply_group;
 use std::alloc::{AllocError, Global};
 use tm_domains::{apply_domain, apply_manager};
 use tm_list::NoMemory;
@@ -52,7 +53,7 @@ pub fn apply_read(
         PolicyLine::Nothing => Ok(EditReply::Done),
         PolicyLine::Profile(line) => apply_setting(alloc, policy, *cursor, line),
         PolicyLine::Exception(line) => apply_exception(alloc, policy, *cursor, line),
-        PolicyLine::Group(_) => Err(AllocError),
+        PolicyLine::Group(line) => apply_group(alloc, policy, *cursor, line),
         PolicyLine::Domain(rule) => apply_domain(alloc, policy, cursor, rule),
         PolicyLine::Manager(delete, rule) => apply_manager(policy, *cursor, delete, rule),
     }

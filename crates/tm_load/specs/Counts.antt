@@ -1,6 +1,5 @@
 -- How much of a policy is live.
-use Rattle.std.specs.Prelude.{ℕ, length, filter, List}
-use Rattle.std.specs.List.{sum_by}
+use Rattle.std.specs.Prelude.{ℕ, ◌+◌, List, [], ◌∷◌, length, filter}
 use Rattle.tm_types.specs.declared.policy.Domain.{Domain}
 use Rattle.tm_types.specs.declared.policy.Policy.{Policy}
 
@@ -10,7 +9,8 @@ live_domains domains = filter (λ (domain : Domain). domain.live) domains
 
 -- how many entries these domains have
 abbrev pub entries_of : List Domain → ℕ
-entries_of domains = sum_by (λ (domain : Domain). length domain.entries) domains
+entries_of [] = 0
+entries_of (domain ∷ domains) = length domain.entries + entries_of domains
 
 -- how many domains are live, and how many entries these have
 abbrev pub counted : Policy → ℕ × ℕ

@@ -6,6 +6,7 @@ ghost use Rattle.tm_load.specs.Counts.{counted};
 use tm_types::policy::Policy;
 
 /// How many domains of the policy are live, and how many entries these have. Takes no memory.
+#[tactic(auto, using(crate::proofs::CountLaws::live_fewer, crate::proofs::CountLaws::live_entries))]
 pub fn count_live(policy: &Policy) -> (u64, u64)
     requires { IsFew policy.now }
     ensures { result ≡ counted policy.now }
@@ -13,10 +14,11 @@ pub fn count_live(policy: &Policy) -> (u64, u64)
     let mut domains = 0;
     let mut entries = 0;
     for domain in policy.domains.as_slice() {
-        if domain.live {
-            domains += 1;
-            entries += domain.entries.len() as u64;
+        if !domain.live {
+            continue;
         }
+        domains += 1;
+        entries += domain.entries.len() as u64;
     }
     (domains, entries)
 }

@@ -26,10 +26,10 @@ fn load_line(
     requires { IsFew policy.old }
     ensures done { MatchResult result
         (λ _. (lines : List Text) →
-            load_lines tomoyo_grammar file number (line.now ∷ lines) policy.old cursor.old ≡
-            load_lines tomoyo_grammar file (suc number) lines policy.new cursor.new)
+        load_lines tomoyo_grammar file number (line.now ∷ lines) policy.old cursor.old ≡
+        load_lines tomoyo_grammar file (suc number) lines policy.new cursor.new)
         (λ fault. (lines : List Text) →
-            Fails (load_cause fault) (load_lines tomoyo_grammar file number (line.now ∷ lines) policy.old cursor.old)) }
+        Fails (load_cause fault) (load_lines tomoyo_grammar file number (line.now ∷ lines) policy.old cursor.old)) }
     ensures few { IsFew policy.new }
 {
     match apply_line(alloc, policy, file, cursor, line) {
