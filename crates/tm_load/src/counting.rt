@@ -6,7 +6,7 @@ ghost use Rattle.tm_load.specs.Counts.{counted};
 use tm_types::policy::Policy;
 
 /// How many domains of the policy are live, and how many entries these have. Takes no memory.
-#[tactic(auto, using(crate::proofs::CountLaws::live_fewer, crate::proofs::CountLaws::live_entries))]
+#[tactic(auto, using(crate::proofs::CountLaws::live_fewer))]
 pub fn count_live(policy: &Policy) -> (u64, u64)
     requires { IsFew policy.now }
     ensures { result ≡ counted policy.now }

@@ -3,7 +3,7 @@ ghost use Rattle.std.specs.Prelude.{◌≡◌, ◌∷◌, suc, List, None, IfOk,
 ghost use Rattle.tm_word.specs.Words.{Text};
 ghost use Rattle.tm_word.specs.Gives.{Gives, Fails};
 ghost use Rattle.tm_rules.specs.Few.{IsFew};
-ghost use Rattle.tm_rules.specs.Load.{load_lines, load_file};
+ghost use Rattle.tm_rules.specs.Load.{is_done, load_lines, load_file};
 ghost use Rattle.tm_grammar.specs.Tomoyo.{tomoyo_grammar};
 ghost use Rattle.tm_load.specs.Faults.{load_cause};
 
@@ -12,6 +12,20 @@ use tm_edit::apply_line;
 use tm_types::policy::{Cursor, Policy};
 use tm_types::step::{EditReply, FileKind, LoadFault};
 use tm_word::cut_at;
+
+// Whether a line was done.
+fn is_done(reply: EditReply) -> bool
+    ensures { result ≡ is_done reply }
+{
+    match reply {
+        EditReply::Done => true,
+        EditReply::NotManager
+        | EditReply::BadLine(_)
+        | EditReply::NoDomain
+        | EditReply::NoProfile
+        | EditReply::NoSuchLine => false,
+    }
+}
 
 // Does the line with this number, which has to be done.
 #[tactic(auto, unfolding(tm_rules::specs::Load::load_lines))]
@@ -33,8 +47,13 @@ fn load_line(
     ensures few { IsFew policy.new }
 {
     match apply_line(alloc, policy, file, cursor, line) {
-        Ok(EditReply::Done) => Ok(()),
-        Ok(reply) => Err(LoadFault::Line(file, number, reply)),
+        Ok(reply) => {
+            if is_done(reply) {
+                Ok(())
+            } else {
+                Err(LoadFault::Line(file, number, reply))
+            }
+        }
         Err(_) => Err(LoadFault::NoMemory),
     }
 }

@@ -1,4 +1,4 @@
-use Rattle.std.proofs.Common.{◌≡◌, ◌+◌, ◌*◌, ◌^◌, ◌≤◌, length, drop}
+use Rattle.std.proofs.Common.{◌≡◌, ◌+◌, length, drop}
 use Rattle.tm_load.specs.Counts.{live_domains, entries_of}
 use Rattle.tm_load.proofs.counting.count_live.Given as goal
 

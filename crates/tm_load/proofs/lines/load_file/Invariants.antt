@@ -9,7 +9,7 @@ use Rattle.tm_load.proofs.lines.load_file.Given as goal
 -- from here on it gives what the whole gives
 abbrev pub invariant-loop-line : goal.invariant-loop-line
 invariant-loop-line l = record {
-  goes_on : load_lines tomoyo_grammar l.file l.number (lines_of l.rest) l.policy l.cursor ≡ load_lines tomoyo_grammar l.file 1 (lines_of l.text) l.start None;
+  goes_on : load_lines tomoyo_grammar l.file l.number (lines_of l.rest) l.policy l.cursor ≡ load_lines tomoyo_grammar l.file 1 (lines_of l.text) l.fn.start None;
   few : IsFew l.policy;
   counted : l.number + length l.rest ≤ length l.text + 1;
 }
