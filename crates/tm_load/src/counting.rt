@@ -5,7 +5,8 @@ ghost use Rattle.tm_load.specs.Counts.{counted};
 
 use tm_types::policy::Policy;
 
-/// How many domains of the policy are live, and how many entries these have. Takes no memory.
+/// How many domains of the policy are live, and how many entries these have. Its lists are short, as those of each policy that is loaded
+/// or edited are. Takes no memory.
 #[tactic(auto, using(crate::proofs::CountLaws::live_fewer))]
 pub fn count_live(policy: &Policy) -> (u64, u64)
     requires { IsFew policy.now }
