@@ -21,7 +21,7 @@ use Rattle.tm_rules.specs.Condition.{is_execute, is_manual}
 use Rattle.tm_types.specs.declared.policy.Profile.{Profile}
 use Rattle.tm_rules.specs.Policy.{profile_of, namespace_named, changed_at, with_domain, same_line, adding}
 use Rattle.tm_rules.specs.Changes.{learn, learned_domain}
-use Rattle.tm_policy.proofs.LearnLaws.{IsLearned, learned}
+use Rattle.tm_domains.proofs.LearnLaws.{IsLearned, learned}
 use Rattle.tm_legal.specs.Verdict.{verdict}
 use Rattle.tm_rules.specs.Queries.{no_queries}
 use Rattle.tm_legal.specs.Run.{Situation, Situations, at_start}

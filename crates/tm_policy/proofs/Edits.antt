@@ -1,12 +1,11 @@
 -- A change of the first element that a test finds, or of a new one.
-use Rattle.std.proofs.Common.{◌≡◌, ℕ, zero, suc, ◌+◌, subst, get_or, arith, Bool, true, false, List, [], ◌∷◌, ◌++◌, refl, sym, ap, ◌∙◌}
-use Rattle.std.specs.Prelude.{Some, None, if◌then◌else◌, slice_set, bit_or}
-use Rattle.std.specs.List.{position_from, AllByRecursion}
+use Rattle.std.proofs.Common.{◌≡◌, ℕ, suc, ◌+◌, subst, get_or, arith, Bool, true, false, List, [], ◌∷◌, ◌++◌, refl, sym, ap, ◌∙◌}
+use Rattle.std.specs.Prelude.{Some, None, if◌then◌else◌, slice_set}
+use Rattle.std.specs.List.{position_from}
 use Rattle.tm_word.specs.Words.{Text}
-use Rattle.tm_types.specs.declared.entry.Entry.{Entry}
 use Rattle.tm_types.specs.declared.policy.Namespace.{Namespace}
 use Rattle.tm_word.specs.Texts.{texts_equal}
-use Rattle.tm_rules.specs.Policy.{changed_at, empty_namespace, adding, same_line}
+use Rattle.tm_rules.specs.Policy.{empty_namespace}
 use Rattle.tm_rules.specs.Edit.{in_namespace}
 
 -- the first element that passes is changed, or a new one goes last
@@ -47,27 +46,6 @@ changing-there test change new xs k d e =
     let same : found.0 ≡ k = omega (arith, place) in
     subst (λ j. changing test change new xs ≡ slice_set xs j (change (get_or xs j d))) same found.2
 
--- an entry with the permissions of a line too
-abbrev pub joined_entry : Entry → Entry → Entry
-joined_entry line entry = record entry { perms = record { bits = bit_or entry.perms.bits line.perms.bits } }
-
-adding-changing : (line : Entry) (entries : List Entry) → adding line entries ≡ changing (λ entry. same_line entry line) (joined_entry line) line entries
-unfolding adding
-adding-changing line [] = refl
-adding-changing line (e ∷ es) = ap (λ t. if same_line e line then joined_entry line e ∷ es else e ∷ t) (adding-changing line es)
-
--- a line that shares no entry goes last
-pub adding_last : (line : Entry) (entries : List Entry) → position_from (λ (entry : Entry). same_line entry line) 0 entries ≡ None → adding line entries ≡ entries ++ line ∷ []
-adding_last line entries e = adding-changing line entries ∙ changing-none (λ entry. same_line entry line) (joined_entry line) line 0 entries e
-
--- a line joins the entry that it shares
-pub adding_there : (line : Entry) (entries : List Entry) (k : ℕ) (d : Entry) → position_from (λ (entry : Entry). same_line entry line) 0 entries ≡ Some k → adding line entries ≡ slice_set entries k (joined_entry line (get_or entries k d))
-adding_there line entries k d e = adding-changing line entries ∙ changing-there (λ entry. same_line entry line) (joined_entry line) line entries k d e
-
--- the same of the entry that stands there
-pub adding_at : (line : Entry) (entries : List Entry) (k : ℕ) (e : Entry) → position_from (λ (entry : Entry). same_line entry line) 0 entries ≡ Some k → e ≡ get_or entries k e → slice_set entries k (joined_entry line e) ≡ adding line entries
-adding_at line entries k e found is = ap (λ t. slice_set entries k (joined_entry line t)) is ∙ sym (adding_there line entries k e found)
-
 namespace-changing : (name : Text) (change : Namespace → Namespace) (spaces : List Namespace) → in_namespace name change spaces ≡ changing (λ (ns : Namespace). texts_equal ns.name name) change (change (empty_namespace name)) spaces
 namespace-changing name change [] = refl
 namespace-changing name change (n ∷ ns) = ap (λ t. if texts_equal n.name name then change n ∷ ns else n ∷ t) (namespace-changing name change ns)
@@ -84,20 +62,3 @@ namespace_there name change spaces k d e = namespace-changing name change spaces
 pub namespace_at : (name : Text) (change : Namespace → Namespace) (spaces : List Namespace) (k : ℕ) (n m : Namespace) → position_from (λ (ns : Namespace). texts_equal ns.name name) 0 spaces ≡ Some k → n ≡ get_or spaces k n → m ≡ change n
     → slice_set spaces k m ≡ in_namespace name change spaces
 namespace_at name change spaces k n m found is done = ap (slice_set spaces k) (done ∙ ap change is) ∙ sym (namespace_there name change spaces k n found)
-
--- another element in a place
-pub set_changed : {A : Type 0} (xs : List A) (k : ℕ) (y : A) → slice_set xs k y ≡ changed_at k (λ x. y) xs
-set_changed [] k y = refl
-set_changed (x ∷ xs) zero y = refl
-set_changed (x ∷ xs) (suc k) y = ap (λ t. x ∷ t) (set_changed xs k y)
-
--- it keeps what each element has
-pub each_set : {A : Type 0} (P : A → Type 0) (xs : List A) (k : ℕ) (y : A) → AllByRecursion P xs → P y → AllByRecursion P (slice_set xs k y)
-each_set P [] k y each h = tt
-each_set P (x ∷ xs) zero y each h = (h, each.1)
-each_set P (x ∷ xs) (suc k) y each h = (each.0, each_set P xs k y each.1 h)
-
--- and so does a new last one
-pub each_last : {A : Type 0} (P : A → Type 0) (xs : List A) (y : A) → AllByRecursion P xs → P y → AllByRecursion P (xs ++ y ∷ [])
-each_last P [] y each h = (h, tt)
-each_last P (x ∷ xs) y each h = (each.0, each_last P xs y each.1 h)

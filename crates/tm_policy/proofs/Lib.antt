@@ -1,7 +1,5 @@
 pub mod Built
 pub mod Edits
-pub mod Domains
-pub mod Places
 pub mod LearnLaws
 pub mod Executes
 pub mod ShortLists

@@ -46,12 +46,6 @@ short_group (pair ∷ pairs) group short entries e = go (short_group pairs group
     go ih true h e = subst IsShort (let same : pair.1 ≡ entries = cc in same) short.0
     go ih false h e = ih e
 
--- the element at a place has what each element has
-pub each_at : {A : Type 0} (P : A → Type 0) (xs : List A) (k : ℕ) (x : A) → AllByRecursion P xs → slice_get xs k ≡ Some x → P x
-each_at P [] k x each e = absurd cc
-each_at P (y ∷ ys) zero x each e = subst P (let same : y ≡ x = cc in same) each.0
-each_at P (y ∷ ys) (suc k) x each e = each_at P ys k x each.1 e
-
 -- what is looked for and found has what each element has
 pub each_found : {A : Type 0} (P : A → Type 0) (test : A → Bool) (xs : List A) (x : A) → AllByRecursion P xs → find test xs ≡ Some x → P x
 each_found P test [] x each e = absurd cc

@@ -1,22 +1,15 @@
 -- What a line keeps few.
-use Rattle.std.proofs.Common.{◌≡◌, ℕ, ◌<◌, ◌^◌, arith, subst, sym, Bool, true, false, List, [], ◌∷◌, ◌++◌}
-use Rattle.std.specs.Prelude.{Some, Result, Ok, Err, OnOk, OnErr, slice_get, if◌then◌else◌}
+use Rattle.std.proofs.Common.{◌≡◌, ◌<◌, ◌^◌, arith, subst, sym, Bool, true, false, List, [], ◌∷◌}
+use Rattle.std.specs.Prelude.{Result, Ok, Err, OnOk, OnErr, if◌then◌else◌}
 use Rattle.std.specs.List.{AllByRecursion}
 use Rattle.tm_word.specs.Words.{Text}
 use Rattle.tm_types.specs.declared.policy.Namespace.{Namespace}
-use Rattle.tm_types.specs.declared.policy.Domain.{Domain}
 use Rattle.tm_types.specs.declared.policy.Policy.{Policy}
 use Rattle.tm_types.specs.declared.policy.ProfileEffect.{ProfileEffect}
 use Rattle.tm_word.specs.Texts.{texts_equal}
 use Rattle.tm_rules.specs.Policy.{empty_namespace}
 use Rattle.tm_rules.specs.Edit.{profile_line, in_namespace}
-use Rattle.tm_rules.specs.Few.{IsShort, IsFewHere, IsFew}
-use Rattle.tm_policy.proofs.Lists.{each_at}
-use Rattle.tm_policy.proofs.Edits.{each_last}
-
--- the entries of a domain of a policy that is few
-pub short_entries : (policy : Policy) (k : ℕ) (domain : Domain) → slice_get policy.domains k ≡ Some domain → IsFew policy → IsShort domain.entries
-short_entries policy k domain e few = each_at (λ (d : Domain). IsShort d.entries) policy.domains k domain few.entries e
+use Rattle.tm_rules.specs.Few.{IsFewHere, IsFew}
 
 -- a profile line leaves groups and ACL groups alone
 pub few_profile : (effect : ProfileEffect) (ns : Namespace) → IsFewHere ns → IsFewHere (profile_line effect ns)
@@ -49,11 +42,6 @@ few_namespaces name effect spaces made e each = subst (AllByRecursion IsFewHere)
 -- a policy with other namespaces
 pub few_with_namespaces : (policy : Policy) (spaces : List Namespace) → IsFew policy → AllByRecursion IsFewHere spaces → IsFew (record policy { namespaces = spaces })
 few_with_namespaces policy spaces few each = record { domains = few.domains; entries = few.entries; namespaces = each }
-
--- a policy with one more domain
-pub few_with_domain : (policy : Policy) (domain : Domain) → IsFew policy → IsShort (policy.domains ++ domain ∷ []) → IsShort domain.entries → IsFew (record policy { domains = policy.domains ++ domain ∷ [] })
-few_with_domain policy domain few short own =
-    record { domains = short; entries = each_last (λ (d : Domain). IsShort d.entries) policy.domains domain few.entries own; namespaces = few.namespaces }
 
 -- the same where memory may have run out
 pub few_after : {X E : Type 0} (result : Result X E) (name : Text) (effect : ProfileEffect) (spaces made : List Namespace) → OnOk result (made ≡ in_namespace name (profile_line effect) spaces) → OnErr result (made ≡ spaces)

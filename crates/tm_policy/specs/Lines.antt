@@ -1,5 +1,5 @@
 -- Reading a policy line: the forms built so far. Every other line is read by later stages, and until then is a bad keyword.
-use Rattle.std.specs.Prelude.{ℕ, ◌==◌, nat_lt, ◌&&◌, not, if◌then◌else◌, Bool, true, false, List, [], ◌∷◌, take, drop, length, Option, Some, None, Result, Ok, Err, codes}
+use Rattle.std.specs.Prelude.{ℕ, ◌==◌, nat_lt, ◌&&◌, if◌then◌else◌, Bool, true, false, List, [], ◌∷◌, take, drop, length, Option, Some, None, Result, Ok, Err, codes}
 use Rattle.std.specs.List.{position}
 use Rattle.tm_word.specs.Words.{Text}
 use Rattle.tm_word.specs.Spelling.{words_of}
@@ -177,22 +177,11 @@ is_built_effect (ProfileEffect.Preference n audit learning) = true
 is_built_effect (ProfileEffect.Config n setting) = true
 is_built_effect (ProfileEffect.Slot n name setting) = false
 
--- what a line of a domain does is built
-abbrev pub is_built_rule : DomainRule → Bool
-is_built_rule (DomainRule.Choose name) = true
-is_built_rule (DomainRule.Select name) = false
-is_built_rule (DomainRule.Delete name) = false
-is_built_rule (DomainRule.UseProfile n) = true
-is_built_rule (DomainRule.UseGroup delete n) = false
-is_built_rule (DomainRule.QuotaExceeded delete) = not delete
-is_built_rule (DomainRule.TransitionFailed delete) = false
-is_built_rule (DomainRule.Acl delete entry) = not delete
-
 -- what a line does is built
 abbrev pub is_built : PolicyLine → Bool
 is_built PolicyLine.Nothing = true
 is_built (PolicyLine.Profile line) = is_built_effect line.effect
 is_built (PolicyLine.Exception line) = false
 is_built (PolicyLine.Group line) = false
-is_built (PolicyLine.Domain rule) = is_built_rule rule
+is_built (PolicyLine.Domain rule) = true
 is_built (PolicyLine.Manager delete rule) = false

@@ -1,32 +1,26 @@
 //! What a line of a policy file does to a policy.
-ghost use Rattle.std.specs.Prelude.{◌≡◌, ◌<◌, ℕ, List, [], true, false, Some, None, length, unwrap_or, option_map, is_some, IfOk, IfSome, OnOk, OnErr};
+ghost use Rattle.std.specs.Prelude.{◌≡◌, ◌<◌, [], true, None, length, unwrap_or, IfOk, IfSome, OnOk, OnErr};
 ghost use Rattle.std.specs.List.{AllByRecursion, position_from};
-ghost use Rattle.tm_types.specs.declared.policy.Domain.{Domain};
 ghost use Rattle.tm_types.specs.declared.policy.Namespace.{Namespace};
-ghost use Rattle.tm_types.specs.declared.policy.DomainRule.{DomainRule};
 ghost use Rattle.tm_types.specs.declared.policy.ProfileEffect.{ProfileEffect};
 ghost use Rattle.tm_word.specs.Texts.{texts_equal};
 ghost use Rattle.tm_rules.specs.Few.{IsShort, IsFewHere, IsFew};
-ghost use Rattle.tm_rules.specs.Policy.{at_key, namespace_word, empty_namespace, profile_numbered, live_domain, with_domain, adding, same_line};
-ghost use Rattle.tm_rules.specs.Edit.{Edited, new_domain, new_profile, set_config, profile_line, in_namespace, chosen, domain_line, apply_read, apply_parsed};
+ghost use Rattle.tm_rules.specs.Policy.{at_key, empty_namespace};
+ghost use Rattle.tm_rules.specs.Edit.{Edited, new_domain, new_profile, set_config, profile_line, in_namespace, apply_read, apply_parsed};
 ghost use Rattle.tm_rules.specs.Load.{new_policy, wants_profile};
-ghost use Rattle.tm_policy.specs.Lines.{read_line, is_built_effect, is_built_rule, is_built};
+ghost use Rattle.tm_policy.specs.Lines.{read_line, is_built_effect, is_built};
 
-use crate::finding::{live_domain, profile_numbered};
 use crate::lines::read_line;
-use crate::placing::{add_line, close_quota, put_domain};
 use std::alloc::{AllocError, Global};
-use tm_domain::namespace;
+use tm_domains::apply_domain;
 use tm_list::{Copied, Map, NoMemory, Seq};
-use tm_rules::same_line;
-use tm_types::entry::Entry;
 use tm_types::policy::{
-    Config, Cursor, Domain, DomainRule, Logs, Mode, Namespace, Policy, PolicyLine, Profile,
-    ProfileEffect, ProfileLine, Profiles, Setting,
+    Config, Cursor, Domain, Logs, Mode, Namespace, Policy, PolicyLine, Profile, ProfileEffect,
+    ProfileLine, Profiles, Setting,
 };
 use tm_types::step::{EditReply, FileKind, LineFault};
 use tm_types::unions::{DomainName, Groups};
-use tm_word::{Text, bytes_equal, texts_equal};
+use tm_word::{Text, texts_equal};
 
 // A live domain without flags and entries.
 fn new_domain(alloc: Global, name: DomainName) -> Domain
@@ -237,148 +231,6 @@ fn in_namespace(
     }
 }
 
-// Whether a namespace has a profile of this number.
-fn has_profile(policy: &Policy, name: &[u8], number: u8) -> bool
-    ensures { result ≡ is_some (profile_numbered policy.now name.now number) }
-{
-    profile_numbered(policy, name, number).is_some()
-}
-
-// The chosen domain, where it is live.
-#[tactic(auto, using(crate::proofs::ShortLists::short_entries))]
-fn chosen(policy: &Policy, cursor: Cursor) -> Option<(u32, &Domain)>
-    ensures found { option_map (λ (pair : _). (pair.0, pair.1.now)) result ≡ chosen policy.now cursor }
-    ensures within { IfSome result (λ pair. pair.0 < length policy.now.domains) }
-    ensures short { IfSome result (λ pair. IsFew policy.now → IsShort pair.1.now.entries) }
-{
-    match cursor {
-        Some(number) => match policy.domains.get(number as usize) {
-            Some(domain) => {
-                if domain.live {
-                    Some((number, domain))
-                } else {
-                    None
-                }
-            }
-            None => None,
-        },
-        None => None,
-    }
-}
-
-// Gives the chosen domain a profile.
-#[tactic(auto, unfolding(tm_rules::specs::Edit::domain_line))]
-fn use_profile(
-    alloc: Global,
-    policy: &mut Policy,
-    cursor: Cursor,
-    number: u8,
-) -> Result<EditReply, NoMemory>
-    ensures done { IfOk result (λ reply. domain_line policy.old cursor (DomainRule.UseProfile number) ≡ record { policy = policy.new; cursor = cursor; reply = reply }) }
-    ensures kept { OnErr result (policy.new ≡ policy.old) }
-    ensures few { IsFew policy.old → IsFew policy.new }
-{
-    match chosen(policy, cursor) {
-        Some((place, domain)) => {
-            if !has_profile(policy, namespace(&domain.name), number) {
-                return Ok(EditReply::NoProfile);
-            }
-            let mut changed = domain.copy(alloc)?;
-            changed.profile = number;
-            put_domain(policy, place, changed);
-            Ok(EditReply::Done)
-        }
-        None => Ok(EditReply::NoDomain),
-    }
-}
-
-// Adds a line to the entries of the chosen domain.
-#[tactic(auto, unfolding(tm_rules::specs::Edit::domain_line))]
-fn add_entry(policy: &mut Policy, cursor: Cursor, line: Entry) -> Result<EditReply, NoMemory>
-    ensures done { IfOk result (λ reply. domain_line policy.old cursor (DomainRule.Acl false line) ≡ record { policy = policy.new; cursor = cursor; reply = reply }) }
-    ensures kept { OnErr result (policy.new ≡ policy.old) }
-    ensures few { IsFew policy.old → IsFew policy.new }
-{
-    match chosen(policy, cursor) {
-        Some((place, _)) => {
-            add_line(policy, place, line)?;
-            Ok(EditReply::Done)
-        }
-        None => Ok(EditReply::NoDomain),
-    }
-}
-
-// Raises the flag of the chosen domain whose quota is full.
-#[tactic(auto, unfolding(tm_rules::specs::Edit::domain_line))]
-fn raise_quota(policy: &mut Policy, cursor: Cursor) -> EditReply
-    ensures done { domain_line policy.old cursor (DomainRule.QuotaExceeded false) ≡ record { policy = policy.new; cursor = cursor; reply = result } }
-    ensures few { IsFew policy.old → IsFew policy.new }
-{
-    match chosen(policy, cursor) {
-        Some((place, _)) => {
-            close_quota(policy, place);
-            EditReply::Done
-        }
-        None => EditReply::NoDomain,
-    }
-}
-
-// Chooses the live domain of a name, or makes one.
-#[tactic(auto, using(crate::proofs::ShortLists::few_with_domain), unfolding(tm_rules::specs::Edit::domain_line))]
-fn choose(
-    alloc: Global,
-    policy: &mut Policy,
-    cursor: &mut Cursor,
-    name: DomainName,
-) -> Result<EditReply, NoMemory>
-    requires { IsShort policy.old.domains }
-    ensures done { IfOk result (λ reply. domain_line policy.old cursor.old (DomainRule.Choose name) ≡ record { policy = policy.new; cursor = cursor.new; reply = reply }) }
-    ensures kept { OnErr result ((policy.new ≡ policy.old) × (cursor.new ≡ cursor.old)) }
-    ensures few { IsFew policy.old → IsFew policy.new }
-{
-    if let Some(place) = live_domain(policy, &name) {
-        *cursor = Some(place);
-        return Ok(EditReply::Done);
-    }
-    if policy.opened && !has_profile(policy, namespace(&name), 0) {
-        return Ok(EditReply::NoProfile);
-    }
-    let place = policy.domains.len();
-    if place >= 4294967295 {
-        return Err(AllocError);
-    }
-    policy.domains.push(new_domain(alloc, name))?;
-    *cursor = Some(place as u32);
-    Ok(EditReply::Done)
-}
-
-// What a line of a domain does.
-fn apply_rule(
-    alloc: Global,
-    policy: &mut Policy,
-    cursor: &mut Cursor,
-    rule: DomainRule,
-) -> Result<EditReply, NoMemory>
-    requires built { is_built_rule rule ≡ true }
-    requires short { IsShort policy.old.domains }
-    ensures done { IfOk result (λ reply. domain_line policy.old cursor.old rule ≡ record { policy = policy.new; cursor = cursor.new; reply = reply }) }
-    ensures kept { OnErr result ((policy.new ≡ policy.old) × (cursor.new ≡ cursor.old)) }
-    ensures few { IsFew policy.old → IsFew policy.new }
-{
-    match rule {
-        DomainRule::Choose(name) => choose(alloc, policy, cursor, name),
-        DomainRule::UseProfile(number) => use_profile(alloc, policy, *cursor, number),
-        DomainRule::Acl(false, line) => add_entry(policy, *cursor, line),
-        DomainRule::Acl(true, _) => unreachable!(),
-        DomainRule::Select(_) => unreachable!(),
-        DomainRule::Delete(_) => unreachable!(),
-        DomainRule::UseGroup(_, _) => unreachable!(),
-        DomainRule::QuotaExceeded(false) => Ok(raise_quota(policy, *cursor)),
-        DomainRule::QuotaExceeded(true) => unreachable!(),
-        DomainRule::TransitionFailed(_) => unreachable!(),
-    }
-}
-
 // What a line that was read does.
 #[tactic(auto, using(crate::proofs::ShortLists::few_with_namespaces), unfolding(tm_rules::specs::Edit::apply_read))]
 fn apply_read(
@@ -399,7 +251,7 @@ fn apply_read(
             in_namespace(alloc, &mut policy.namespaces, line)?;
             Ok(EditReply::Done)
         }
-        PolicyLine::Domain(rule) => apply_rule(alloc, policy, cursor, rule),
+        PolicyLine::Domain(rule) => apply_domain(alloc, policy, cursor, rule),
         PolicyLine::Exception(_) => unreachable!(),
         PolicyLine::Group(_) => unreachable!(),
         PolicyLine::Manager(_, _) => unreachable!(),

@@ -6,16 +6,18 @@ use tm_list::NoMemory;
 use tm_types::entry::Entry;
 use tm_types::policy::Policy;
 use tm_types::request::{Proc, Request};
-use tm_types::step::LearnReply;
+use tm_types::step::{LearnReply, MakeReply};
+use tm_types::unions::DomainName;
 use tm_types::verdict::Found;
 
 /// A representation of a policy, such as the plain one or one with an index. Each call answers of its policy what its definition
-/// says. (The calls that change a policy come with the steps that need them.)
+/// says.
 pub trait Rep: Sized + Drop {
     ghost use Rattle.tm_types.specs.declared.policy.Policy.{Policy};
     ghost use Rattle.tm_rules.specs.Few.{IsFew};
+    ghost use Rattle.tm_rules.specs.Policy.{live_domain};
     ghost use Rattle.tm_rules.specs.Search.{found};
-    ghost use Rattle.tm_rules.specs.Changes.{learn};
+    ghost use Rattle.tm_rules.specs.Changes.{learn, make, fail};
 
     ghost policy: { Self → Policy };
 
@@ -28,6 +30,11 @@ pub trait Rep: Sized + Drop {
     fn search(&self, domain: u32, process: &Proc, request: &Request) -> Option<Found>
         requires { IsFew (policy self.now) }
         ensures { result ≡ found (policy self.now) domain process.now request.now };
+
+    /// The number of the live domain of that name. Takes no memory.
+    fn live_domain(&self, name: &DomainName) -> Option<u32>
+        requires { IsFew (policy self.now) }
+        ensures { result ≡ live_domain (policy self.now) name.now };
 
     /// Learns a line in the domain of this number, and gives the reply: `Mode` where the mode isn't learning, else `There` where the
     /// domain has the line, else `Quota` where it is full, which raises its flag `quota_exceeded`, else `Added`. The domain and its
@@ -42,6 +49,29 @@ pub trait Rep: Sized + Drop {
         requires there { IsSome (learn (policy self.old) domain entry.now) }
         ensures done { IfOk result (λ reply. learn (policy self.old) domain entry.now ≡ Some (policy self.new, reply)) }
         ensures kept { OnErr result (policy self.new ≡ policy self.old) }
+        ensures few { IsFew (policy self.new) };
+
+    /// Makes a domain for a transition out of the domain of this number, whose profile and groups it takes: the reply is its number. A
+    /// live domain of that name is taken instead. The domain and its profile are there. Errors: want of memory, also where the policy
+    /// would have 2^32 domains; the policy is then as before.
+    fn apply_make(
+        &mut self,
+        alloc: Global,
+        domain: u32,
+        name: DomainName,
+    ) -> Result<MakeReply, NoMemory>
+        requires few { IsFew (policy self.old) }
+        requires there { IsSome (make (policy self.old) domain name) }
+        ensures done { IfOk result (λ reply. make (policy self.old) domain name ≡ Some (policy self.new, reply)) }
+        ensures kept { OnErr result (policy self.new ≡ policy self.old) }
+        ensures few { IsFew (policy self.new) };
+
+    /// Marks the domain of this number as one that a transition couldn't leave, and tells whether it wasn't marked before. The domain and
+    /// its profile are there. Takes no memory.
+    fn apply_fail(&mut self, domain: u32) -> bool
+        requires few { IsFew (policy self.old) }
+        requires there { IsSome (fail (policy self.old) domain) }
+        ensures done { fail (policy self.old) domain ≡ Some (policy self.new, result) }
         ensures few { IsFew (policy self.new) };
 
     /// A representation with the equal policy.

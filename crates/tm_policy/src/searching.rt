@@ -11,9 +11,9 @@ ghost use Rattle.tm_rules.specs.Policy.{at_key, has_permission, namespace_word, 
 ghost use Rattle.tm_rules.specs.Search.{args_grant, grants, aggregated, path_of, placed, first, found, found_of};
 ghost use Rattle.tm_policy.specs.Searching.{asked_as, place_in, found_in, acl_entries};
 
-use crate::finding::find_namespace;
 use tm_cond::holds;
 use tm_domain::namespace;
+use tm_domains::find_namespace;
 use tm_except::aggregated;
 use tm_file::{file_args_match, path_args_match};
 use tm_list::{Map, Seq};
@@ -27,7 +27,7 @@ use tm_types::verdict::{EntryPlace, Found};
 use tm_word::{Word, bytes_equal};
 
 // Whether the permission at a place, from 0, of its row is among these.
-pub(crate) fn has_permission(bits: u16, place: u8) -> bool
+fn has_permission(bits: u16, place: u8) -> bool
     ensures { result ≡ has_permission bits place }
 {
     if place < 16 {

@@ -68,11 +68,11 @@ fn lines(alloc: Global, policy: &Policy) -> Result<Vec<u8>, NoMemory> {
 }
 
 /// The plain representation of a policy that is few.
-fn plain(alloc: Global, policy: Policy) -> Result<Plain, NoMemory>
+fn plain(policy: Policy) -> Result<Plain, NoMemory>
     ensures { IfOk result (λ made. IsFew made) }
 {
     if is_few(&policy) {
-        Plain::new(alloc, policy)
+        Ok(Plain::new(policy))
     } else {
         drop(policy);
         Err(AllocError)
@@ -119,7 +119,7 @@ fn lines_are_learned_up_to_the_quota(rt: HostRuntime) -> Result<(), Fail> {
     let mut enforced = policy(alloc, Mode::Enforcing, None)?;
     let line = read_line(alloc, b"/b", None)?;
     assert!(rt; matches!(learn(alloc, &mut enforced, &line)?, LearnReply::Mode));
-    let copied = plain(alloc, learned)?.copy(alloc)?;
+    let copied = plain(learned)?.copy(alloc)?;
     assert_eq!(rt;
         lines(alloc, copied.policy())?.as_slice(),
         b"file read /a\nfile read /b\nfile read /c\n".as_slice()
@@ -143,7 +143,7 @@ fn reads_are_judged_by_the_mode(rt: HostRuntime) -> Result<(), Fail> {
         Mode::Enforcing,
     ];
     for place in 0..4 {
-        let rep = plain(alloc, policy(alloc, modes[place], None)?)?;
+        let rep = plain(policy(alloc, modes[place], None)?)?;
         let machine = Machine::start(alloc, rep, Vec::new(alloc), 1, false)?;
         assert_eq!(rt; machine.opening().copy(alloc)?.trees, 1);
         assert!(rt; machine.step_at(0).is_none() && machine.step_at(1).is_none());

@@ -55,7 +55,7 @@ fn run_of(
     ensures { IfOk result (λ ended. PlaysOn opening.now trace schedule.now ended.0 ended.1.policy) }
 {
     let policy = opening.copy(alloc)?;
-    let rep = Plain::new(alloc, policy)?;
+    let rep = Plain::new(policy);
     let Ok(trees) = u32::try_from(trace.len()) else {
         return Err(AllocError);
     };
