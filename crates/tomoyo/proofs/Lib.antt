@@ -9,3 +9,4 @@ pub mod Exact
 pub mod Headline
 pub mod Openings
 pub mod Playing
+pub mod CountLaws

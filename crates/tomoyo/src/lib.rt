@@ -6,7 +6,9 @@
 mod carry;
 mod fetches;
 mod forms;
+mod loading;
 mod play;
+mod print;
 mod status;
 mod top;
 mod words;
