@@ -1,0 +1,86 @@
+//! The lines of one policy file, one after another.
+ghost use Rattle.std.specs.Prelude.{◌≡◌, ◌∷◌, suc, List, None, IfOk, MatchResult};
+ghost use Rattle.tm_word.specs.Words.{Text};
+ghost use Rattle.tm_word.specs.Gives.{Gives, Fails};
+ghost use Rattle.tm_rules.specs.Few.{IsFew};
+ghost use Rattle.tm_rules.specs.Load.{is_done, load_lines, load_file};
+ghost use Rattle.tm_grammar.specs.Tomoyo.{tomoyo_grammar};
+ghost use Rattle.tm_load.specs.Faults.{load_cause};
+
+use std::alloc::Global;
+use tm_edit::apply_line;
+use tm_types::policy::{Cursor, Policy};
+use tm_types::step::{EditReply, FileKind, LoadFault};
+use tm_word::cut_at;
+
+// Whether a line was done.
+fn is_done(reply: EditReply) -> bool
+    ensures { result ≡ is_done reply }
+{
+    match reply {
+        EditReply::Done => true,
+        EditReply::NotManager
+        | EditReply::BadLine(_)
+        | EditReply::NoDomain
+        | EditReply::NoProfile
+        | EditReply::NoSuchLine => false,
+    }
+}
+
+// Does the line with this number, which has to be done.
+#[tactic(auto, unfolding(tm_rules::specs::Load::load_lines))]
+fn load_line(
+    alloc: Global,
+    file: FileKind,
+    number: u64,
+    line: &[u8],
+    policy: &mut Policy,
+    cursor: &mut Cursor,
+) -> Result<(), LoadFault>
+    requires { IsFew policy.old }
+    ensures done { MatchResult result
+        (λ _. (lines : List Text) →
+        load_lines tomoyo_grammar file number (line.now ∷ lines) policy.old cursor.old ≡
+        load_lines tomoyo_grammar file (suc number) lines policy.new cursor.new)
+        (λ fault. (lines : List Text) →
+        Fails (load_cause fault) (load_lines tomoyo_grammar file number (line.now ∷ lines) policy.old cursor.old)) }
+    ensures few { IsFew policy.new }
+{
+    match apply_line(alloc, policy, file, cursor, line) {
+        Ok(reply) => {
+            if is_done(reply) {
+                Ok(())
+            } else {
+                Err(LoadFault::Line(file, number, reply))
+            }
+        }
+        Err(_) => Err(LoadFault::NoMemory),
+    }
+}
+
+/// Does all lines of a file, the first of which has number 1, with an empty cursor at first.
+///
+/// Errors: the first line that isn't done, or want of memory.
+#[tactic(auto, unfolding(tm_rules::specs::Load::load_lines))]
+pub(crate) fn load_file(
+    alloc: Global,
+    file: FileKind,
+    text: &[u8],
+    start: Policy,
+) -> Result<Policy, LoadFault>
+    requires { IsFew start }
+    ensures exact { Gives load_cause (λ policy. policy) result (load_file tomoyo_grammar file text.now start) }
+    ensures few { IfOk result IsFew }
+{
+    let mut policy = start;
+    let mut cursor = None;
+    let mut rest = text;
+    let mut number = 1;
+    while let Some((line, after)) = cut_at(b'\n', rest) {
+        load_line(alloc, file, number, line, &mut policy, &mut cursor)?;
+        rest = after;
+        number += 1;
+    }
+    load_line(alloc, file, number, rest, &mut policy, &mut cursor)?;
+    Ok(policy)
+}

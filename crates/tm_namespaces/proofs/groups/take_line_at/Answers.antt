@@ -1,0 +1,10 @@
+use Rattle.std.proofs.Common.{◌≡◌, get_or, slice_set, ◌∙◌, rules}
+use Rattle.tm_namespaces.specs.AclGroups.{line_taken}
+use Rattle.tm_namespaces.proofs.Places.{changed_there}
+use Rattle.tm_namespaces.proofs.groups.take_line_at.Goals as goal
+
+pub returns-clause-done : goal.returns-clause-done
+returns-clause-done c =
+    let made : c.from_vec.result ≡ slice_set c.args.namespaces.now c.args.place c.take_line.new.namespace = search rules in
+    let at : c.index_mut.result.now ≡ get_or c.args.namespaces.now c.args.place c.index_mut.result.now = search rules in
+    made ∙ changed_there (line_taken c.args.line.now) c.args.namespaces.now c.args.place c.index_mut.result.now c.take_line.new.namespace at c.take_line.ensures.done

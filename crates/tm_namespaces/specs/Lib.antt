@@ -1,0 +1,5 @@
+pub mod Named
+pub mod Effects
+pub mod Pairs
+pub mod Rising
+pub mod AclGroups
