@@ -9,4 +9,3 @@ pub mod Exact
 pub mod Headline
 pub mod Openings
 pub mod Playing
-pub mod CountLaws

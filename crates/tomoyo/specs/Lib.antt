@@ -6,6 +6,5 @@ pub mod Calls
 pub mod Ends
 pub mod Forms
 pub mod Play
-pub mod Loading
 pub mod Print
 pub mod Call

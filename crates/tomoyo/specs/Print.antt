@@ -6,6 +6,7 @@ use Rattle.tm_types.specs.declared.step.PolicyFiles.{PolicyFiles}
 use Rattle.tm_types.specs.declared.step.LoadFault.{LoadFault}
 use Rattle.tm_rules.specs.Load.{load}
 use Rattle.tm_grammar.specs.Tomoyo.{tomoyo_grammar}
+use Rattle.tm_load.specs.Counts.{counted}
 use Rattle.tm_text.specs.DomainText.{domain_text}
 use Rattle.tm_text.specs.ExceptionText.{exception_text}
 use Rattle.tm_text.specs.ManagerText.{manager_text}
@@ -14,7 +15,6 @@ use Rattle.tm_io.specs.declared.names.FileName.{FileName}
 use Rattle.tomoyo.specs.declared.status.Status.{Status}
 use Rattle.tomoyo.specs.declared.play.Printed.{Printed}
 use Rattle.tomoyo.specs.Fetches.{Texts, content}
-use Rattle.tomoyo.specs.Loading.{counted}
 
 -- the four policy files
 abbrev pub policy_files : Texts → PolicyFiles

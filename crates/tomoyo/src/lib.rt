@@ -6,7 +6,6 @@
 mod carry;
 mod fetches;
 mod forms;
-mod loading;
 mod play;
 mod print;
 mod status;

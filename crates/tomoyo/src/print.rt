@@ -5,11 +5,11 @@ ghost use Rattle.tomoyo.specs.Play.{RefusedBy};
 ghost use Rattle.tomoyo.specs.Print.{policy_files, policy_of, print_refusal, counts_text};
 
 use crate::fetches::text_at;
-use crate::loading::{count_live, load};
 use crate::status::Status;
 use std::alloc::Global;
 use tm_io::{FileList, FileName};
 use tm_list::NoMemory;
+use tm_load::{count_live, load};
 use tm_number::{Base, Number, write_number};
 use tm_types::policy::Policy;
 use tm_types::step::{LoadFault, PolicyFiles};
