@@ -3,6 +3,8 @@ use std::alloc::Global;
 use std::test::Fail;
 use tm_io::{FileList, FileName, MemoryShelf, MemorySink};
 use tm_list::NoMemory;
+use tm_types::entry::LineKind;
+use tm_types::step::{EditReply, FileKind};
 use tm_word::Text;
 use tomoyo::{OutName, Status, run_alone};
 
@@ -19,7 +21,10 @@ const TRACE: &[u8] = b"tree 7 <kernel>\ndo 7 file read /a\ndo 7 file read /b\n";
 struct Ended {
     status: Status,
     run: Text,
+    profile: Text,
+    exception: Text,
     domain: Text,
+    manager: Text,
     line: Text,
 }
 
@@ -43,7 +48,10 @@ fn call(alloc: Global, word: &str, files: FileList, fails: Vec<u32>) -> Result<E
     Ok(Ended {
         status,
         run: held(alloc, &shelf, FileName::Run)?,
+        profile: held(alloc, &shelf, FileName::ProfileNew)?,
+        exception: held(alloc, &shelf, FileName::ExceptionPolicyNew)?,
         domain: held(alloc, &shelf, FileName::DomainPolicyNew)?,
+        manager: held(alloc, &shelf, FileName::ManagerNew)?,
         line: Text::from_bytes(alloc, out.bytes())?,
     })
 }
@@ -234,5 +242,133 @@ fn a_failing_first_store_is_a_write_fault(rt: HostRuntime) -> Result<(), Fail> {
         )
     );
     assert!(rt; ended.line.is_empty());
+    Ok(())
+}
+
+// A policy of every kind of line, as an administrator may write it, with a domain that is deleted.
+fn written_policy(alloc: Global) -> Result<FileList, NoMemory> {
+    let profile = b"PROFILE_VERSION=20110903\n\
+1-CONFIG::file::execute={ mode=permissive }\n\
+1-CONFIG={ mode=learning grant_log=no reject_log=no }\n\
+1-PREFERENCE={ max_learning_entry=7 }\n\
+1-COMMENT=two   words\n\
+0-CONFIG={ mode=disabled }\n";
+    let exception = b"acl_group 0 file read @P\n\
+initialize_domain /bin/x\n\
+aggregator /bin/a /bin/b\n\
+address_group A 192.0.2.1-192.0.2.9\n\
+number_group N 010\n\
+path_group P /b";
+    let domain = b"<kernel>\nuse_profile 1\nuse_group 0\nquota_exceeded\n\
+file write/read /a\nmisc env PATH\n\
+<kernel> /b\ntransition_failed\nnetwork inet stream connect 192.0.2.1 80\n\
+<kernel> /gone\nfile read /c\ndelete <kernel> /gone\n";
+    let manager = b"/bin/m\n<kernel> /b\nmanage_by_non_root\n";
+    let mut files = FileList::new(alloc);
+    files.push((FileName::Profile, Text::from_bytes(alloc, profile)?))?;
+    files.push((
+        FileName::ExceptionPolicy,
+        Text::from_bytes(alloc, exception)?,
+    ))?;
+    files.push((FileName::DomainPolicy, Text::from_bytes(alloc, domain)?))?;
+    files.push((FileName::Manager, Text::from_bytes(alloc, manager)?))?;
+    Ok(files)
+}
+
+#[test]
+fn a_policy_is_printed_in_its_normal_form(rt: HostRuntime) -> Result<(), Fail> {
+    let alloc = rt.alloc();
+    let ended = call(alloc, "print", written_policy(alloc)?, Vec::new(alloc))?;
+    let profile: &[u8] = b"<kernel> PROFILE_VERSION=20150505\n\
+<kernel> 0-COMMENT=\n\
+<kernel> 0-PREFERENCE={ max_audit_log=1024 max_learning_entry=2048 }\n\
+<kernel> 0-CONFIG={ mode=disabled grant_log=yes reject_log=yes }\n\
+<kernel> 1-COMMENT=two words\n\
+<kernel> 1-PREFERENCE={ max_audit_log=1024 max_learning_entry=7 }\n\
+<kernel> 1-CONFIG={ mode=learning grant_log=no reject_log=no }\n\
+<kernel> 1-CONFIG::file::execute={ mode=permissive grant_log=yes reject_log=yes }\n";
+    let exception: &[u8] = b"<kernel> path_group P /b\n\
+<kernel> number_group N 010\n\
+<kernel> address_group A 192.0.2.1-192.0.2.9\n\
+<kernel> aggregator /bin/a /bin/b\n\
+<kernel> initialize_domain /bin/x from any\n\
+<kernel> acl_group 0 file read @P\n";
+    let domain: &[u8] = b"<kernel>\nuse_profile 1\nuse_group 0\nquota_exceeded\n\
+file read/write /a\nmisc env PATH\n\n\
+<kernel> /b\nuse_profile 0\ntransition_failed\n\
+network inet stream connect 192.0.2.1 80\n\n";
+    assert!(rt; matches!(ended.status, Status::Done));
+    assert_eq!(rt; ended.profile.bytes(), profile);
+    assert_eq!(rt; ended.exception.bytes(), exception);
+    assert_eq!(rt; ended.domain.bytes(), domain);
+    assert_eq!(rt;
+        ended.manager.bytes(),
+        b"manage_by_non_root\n/bin/m\n<kernel> /b\n".as_slice()
+    );
+    assert_eq!(rt; ended.line.bytes(), b"domains 2 entries 3\n".as_slice());
+    assert!(rt; ended.run.is_empty());
+    Ok(())
+}
+
+#[test]
+fn a_deletion_of_a_line_that_is_not_there_is_refused(rt: HostRuntime) -> Result<(), Fail> {
+    let alloc = rt.alloc();
+    let exception = b"path_group P /b\n\ndelete path_group P /c\n";
+    let mut texts = policy_files(alloc, b"<kernel>\n")?;
+    texts.push((
+        FileName::ExceptionPolicy,
+        Text::from_bytes(alloc, exception)?,
+    ))?;
+    let ended = call(alloc, "print", texts, Vec::new(alloc))?;
+    assert!(rt;
+        matches!(
+            ended.status,
+            Status::BadPolicy(FileKind::Exception, 3, EditReply::NoSuchLine)
+        )
+    );
+    assert!(rt; ended.exception.is_empty());
+    assert!(rt; ended.line.is_empty());
+    Ok(())
+}
+
+#[test]
+fn a_preference_stands_after_execute_alone(rt: HostRuntime) -> Result<(), Fail> {
+    let alloc = rt.alloc();
+    let domain = b"<kernel>\nfile execute /b keep\nfile execute/read /b keep\n";
+    let texts = policy_files(alloc, domain)?;
+    let ended = call(alloc, "print", texts, Vec::new(alloc))?;
+    assert!(rt;
+        matches!(
+            ended.status,
+            Status::BadPolicy(FileKind::Domain, 3, EditReply::BadLine(LineKind::Condition))
+        )
+    );
+    Ok(())
+}
+
+#[test]
+fn a_domain_whose_profile_is_not_defined_is_named(rt: HostRuntime) -> Result<(), Fail> {
+    let alloc = rt.alloc();
+    let mut texts = FileList::new(alloc);
+    let profile = b"PROFILE_VERSION=20150505\n1-CONFIG={ mode=enforcing }\n";
+    texts.push((FileName::Profile, Text::from_bytes(alloc, profile)?))?;
+    texts.push((
+        FileName::DomainPolicy,
+        Text::from_bytes(alloc, b"<kernel>\nfile read /a\n")?,
+    ))?;
+    let ended = call(alloc, "print", texts, Vec::new(alloc))?;
+    assert!(rt; matches!(ended.status, Status::UndefinedProfile(0)));
+    assert!(rt; ended.domain.is_empty());
+    Ok(())
+}
+
+#[test]
+fn a_file_that_is_printed_has_its_bound_too(rt: HostRuntime) -> Result<(), Fail> {
+    let alloc = rt.alloc();
+    let mut texts = FileList::new(alloc);
+    let profile = Text::from_vec(vec![in alloc; b'#'; 16_777_217]?);
+    texts.push((FileName::Profile, profile))?;
+    let ended = call(alloc, "print", texts, Vec::new(alloc))?;
+    assert!(rt; matches!(ended.status, Status::TooLong(FileName::Profile)));
     Ok(())
 }

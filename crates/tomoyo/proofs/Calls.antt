@@ -13,7 +13,8 @@ use Rattle.tomoyo.specs.declared.carry.Outcome.{Outcome}
 use Rattle.tomoyo.specs.Fetches.{Texts, FetchCause, FetchStops}
 use Rattle.tomoyo.specs.Calls.{Names, FirstCalls, LastCall, FetchesOf, StoresOf}
 use Rattle.tomoyo.specs.Ends.{Outside, CarriedOut}
-use Rattle.tomoyo.specs.Play.{Refuses}
+use Rattle.tomoyo.specs.declared.words.Command.{Command}
+use Rattle.tomoyo.specs.Call.{Refuses}
 use Rattle.tomoyo.proofs.Refusals.{refusal-kind}
 
 -- no call before, or none after
@@ -83,35 +84,35 @@ stores-unfetched files held wants rose Status.OutOfMemory a b stops none = first
 stores-unfetched files held wants rose (Status.NotBuilt name line) a b stops none = none
 
 -- what was read is refused after all fetches, and before anything is stored
-pub fetches-refused : (files : List FileName) (texts : Texts) (status : Status) (a b : Names) → Refuses texts status → Noted files a b → FetchesOf files status a b
-fetches-refused files texts Status.Done a b refused all = all
-fetches-refused files texts (Status.BadWords place) a b refused all = all
-fetches-refused files texts (Status.ReadFault name) a b refused all = absurd (refusal-kind texts (Status.ReadFault name) refused)
-fetches-refused files texts (Status.Absent name) a b refused all = absurd (refusal-kind texts (Status.Absent name) refused)
-fetches-refused files texts (Status.TooLong name) a b refused all = absurd (refusal-kind texts (Status.TooLong name) refused)
-fetches-refused files texts (Status.BadPolicy file line reply) a b refused all = all
-fetches-refused files texts (Status.UndefinedProfile domain) a b refused all = all
-fetches-refused files texts (Status.BadTrace line kind) a b refused all = all
-fetches-refused files texts (Status.BadScript name line kind) a b refused all = all
-fetches-refused files texts (Status.TooMany what) a b refused all = all
-fetches-refused files texts (Status.WriteFault name) a b refused all = all
-fetches-refused files texts Status.OutOfMemory a b refused all = first-all files a b all
-fetches-refused files texts (Status.NotBuilt name line) a b refused all = all
+pub fetches-refused : (command : Command) (files : List FileName) (texts : Texts) (status : Status) (a b : Names) → Refuses command texts status → Noted files a b → FetchesOf files status a b
+fetches-refused command files texts Status.Done a b refused all = all
+fetches-refused command files texts (Status.BadWords place) a b refused all = all
+fetches-refused command files texts (Status.ReadFault name) a b refused all = absurd (refusal-kind command texts (Status.ReadFault name) refused)
+fetches-refused command files texts (Status.Absent name) a b refused all = absurd (refusal-kind command texts (Status.Absent name) refused)
+fetches-refused command files texts (Status.TooLong name) a b refused all = absurd (refusal-kind command texts (Status.TooLong name) refused)
+fetches-refused command files texts (Status.BadPolicy file line reply) a b refused all = all
+fetches-refused command files texts (Status.UndefinedProfile domain) a b refused all = all
+fetches-refused command files texts (Status.BadTrace line kind) a b refused all = all
+fetches-refused command files texts (Status.BadScript name line kind) a b refused all = all
+fetches-refused command files texts (Status.TooMany what) a b refused all = all
+fetches-refused command files texts (Status.WriteFault name) a b refused all = all
+fetches-refused command files texts Status.OutOfMemory a b refused all = first-all files a b all
+fetches-refused command files texts (Status.NotBuilt name line) a b refused all = all
 
-pub stores-refused : (files : List FileName) (texts : Texts) (status : Status) (a b : Names) → Refuses texts status → Noted [] a b → StoresOf files status a b
-stores-refused files texts Status.Done a b refused none = absurd (refusal-kind texts Status.Done refused)
-stores-refused files texts (Status.BadWords place) a b refused none = none
-stores-refused files texts (Status.ReadFault name) a b refused none = none
-stores-refused files texts (Status.Absent name) a b refused none = none
-stores-refused files texts (Status.TooLong name) a b refused none = none
-stores-refused files texts (Status.BadPolicy file line reply) a b refused none = none
-stores-refused files texts (Status.UndefinedProfile domain) a b refused none = none
-stores-refused files texts (Status.BadTrace line kind) a b refused none = none
-stores-refused files texts (Status.BadScript name line kind) a b refused none = none
-stores-refused files texts (Status.TooMany what) a b refused none = none
-stores-refused files texts (Status.WriteFault name) a b refused none = absurd (refusal-kind texts (Status.WriteFault name) refused)
-stores-refused files texts Status.OutOfMemory a b refused none = first-none files a b none
-stores-refused files texts (Status.NotBuilt name line) a b refused none = none
+pub stores-refused : (command : Command) (files : List FileName) (texts : Texts) (status : Status) (a b : Names) → Refuses command texts status → Noted [] a b → StoresOf files status a b
+stores-refused command files texts Status.Done a b refused none = absurd (refusal-kind command texts Status.Done refused)
+stores-refused command files texts (Status.BadWords place) a b refused none = none
+stores-refused command files texts (Status.ReadFault name) a b refused none = none
+stores-refused command files texts (Status.Absent name) a b refused none = none
+stores-refused command files texts (Status.TooLong name) a b refused none = none
+stores-refused command files texts (Status.BadPolicy file line reply) a b refused none = none
+stores-refused command files texts (Status.UndefinedProfile domain) a b refused none = none
+stores-refused command files texts (Status.BadTrace line kind) a b refused none = none
+stores-refused command files texts (Status.BadScript name line kind) a b refused none = none
+stores-refused command files texts (Status.TooMany what) a b refused none = none
+stores-refused command files texts (Status.WriteFault name) a b refused none = absurd (refusal-kind command texts (Status.WriteFault name) refused)
+stores-refused command files texts Status.OutOfMemory a b refused none = first-none files a b none
+stores-refused command files texts (Status.NotBuilt name line) a b refused none = none
 
 -- an outcome is carried out after all fetches
 pub fetches-carried : (files : List FileName) (outcome : Outcome) (old new : Outside) (status : Status) (a b : Names) → CarriedOut outcome old new status → Noted files a b → FetchesOf files status a b

@@ -9,9 +9,8 @@ use Rattle.tomoyo.specs.declared.words.Command.{Command}
 use Rattle.tomoyo.specs.Fetches.{Texts, AllGiven, FetchStops}
 use Rattle.tomoyo.specs.Stores.{is_named}
 use Rattle.tomoyo.specs.Ends.{Outside, Untouched, Ends, CarriedOut}
-use Rattle.tomoyo.specs.Play.{Refuses}
-use Rattle.tomoyo.specs.Call.{wants_of, Allows, CommandCause}
-use Rattle.tomoyo.proofs.Refusals.{refusal-kind, names-allowed}
+use Rattle.tomoyo.specs.Call.{wants_of, Refuses, Allows, CommandCause}
+use Rattle.tomoyo.proofs.Refusals.{refusal-kind, not-built, bad-policy, undefined-profile, names-allowed}
 use Rattle.tomoyo.proofs.Others.{named-at, self-same}
 
 -- a fetch that ends the call
@@ -31,20 +30,20 @@ fetch-cause command old new (Status.BadScript name line kind) stops untouched = 
 fetch-cause command old new (Status.TooMany what) stops untouched = absurd stops.cause
 
 -- a refusal of what was read
-refused-cause : (command : Command) (old new : Outside) (texts : Texts) (status : Status) → AllGiven old.files (wants_of command) texts → Refuses texts status → Untouched old new → CommandCause command old new status
+refused-cause : (command : Command) (old new : Outside) (texts : Texts) (status : Status) → AllGiven old.files (wants_of command) texts → Refuses command texts status → Untouched old new → CommandCause command old new status
 refused-cause command old new texts Status.Done given refused untouched = tt
-refused-cause command old new texts (Status.ReadFault name) given refused untouched = absurd (refusal-kind texts (Status.ReadFault name) refused)
-refused-cause command old new texts (Status.WriteFault name) given refused untouched = absurd (refusal-kind texts (Status.WriteFault name) refused)
+refused-cause command old new texts (Status.ReadFault name) given refused untouched = absurd (refusal-kind command texts (Status.ReadFault name) refused)
+refused-cause command old new texts (Status.WriteFault name) given refused untouched = absurd (refusal-kind command texts (Status.WriteFault name) refused)
 refused-cause command old new texts Status.OutOfMemory given refused untouched = untouched.written
-refused-cause command old new texts (Status.NotBuilt name line) given refused untouched = ((texts, given, refused), untouched)
-refused-cause command old new texts (Status.BadWords place) given refused untouched = absurd (refusal-kind texts (Status.BadWords place) refused)
-refused-cause command old new texts (Status.Absent name) given refused untouched = absurd (refusal-kind texts (Status.Absent name) refused)
-refused-cause command old new texts (Status.TooLong name) given refused untouched = absurd (refusal-kind texts (Status.TooLong name) refused)
-refused-cause command old new texts (Status.BadPolicy file line reply) given refused untouched = absurd (refusal-kind texts (Status.BadPolicy file line reply) refused)
-refused-cause command old new texts (Status.UndefinedProfile domain) given refused untouched = absurd (refusal-kind texts (Status.UndefinedProfile domain) refused)
-refused-cause command old new texts (Status.BadTrace line kind) given refused untouched = absurd (refusal-kind texts (Status.BadTrace line kind) refused)
-refused-cause command old new texts (Status.BadScript name line kind) given refused untouched = absurd (refusal-kind texts (Status.BadScript name line kind) refused)
-refused-cause command old new texts (Status.TooMany what) given refused untouched = absurd (refusal-kind texts (Status.TooMany what) refused)
+refused-cause command old new texts (Status.NotBuilt name line) given refused untouched = (not-built command old.files texts name line given refused, untouched)
+refused-cause command old new texts (Status.BadWords place) given refused untouched = absurd (refusal-kind command texts (Status.BadWords place) refused)
+refused-cause command old new texts (Status.Absent name) given refused untouched = absurd (refusal-kind command texts (Status.Absent name) refused)
+refused-cause command old new texts (Status.TooLong name) given refused untouched = absurd (refusal-kind command texts (Status.TooLong name) refused)
+refused-cause command old new texts (Status.BadPolicy file line reply) given refused untouched = (bad-policy command old.files texts file line reply given refused, untouched)
+refused-cause command old new texts (Status.UndefinedProfile domain) given refused untouched = (undefined-profile command old.files texts domain given refused, untouched)
+refused-cause command old new texts (Status.BadTrace line kind) given refused untouched = absurd (refusal-kind command texts (Status.BadTrace line kind) refused)
+refused-cause command old new texts (Status.BadScript name line kind) given refused untouched = absurd (refusal-kind command texts (Status.BadScript name line kind) refused)
+refused-cause command old new texts (Status.TooMany what) given refused untouched = absurd (refusal-kind command texts (Status.TooMany what) refused)
 
 -- an outcome that is carried out
 carried-cause : (command : Command) (old new : Outside) (texts : Texts) (outcome : Outcome) (status : Status) → Allows command texts outcome → CarriedOut outcome old new status → CommandCause command old new status
@@ -64,7 +63,7 @@ carried-cause command old new texts outcome (Status.BadTrace line kind) allowed 
 carried-cause command old new texts outcome (Status.BadScript name line kind) allowed h = absurd h.0
 carried-cause command old new texts outcome (Status.TooMany what) allowed h = absurd h.0
 
-pub cause-of : (command : Command) (old new : Outside) (status : Status) → Ends (wants_of command) Refuses (Allows command) old new status → CommandCause command old new status
+pub cause-of : (command : Command) (old new : Outside) (status : Status) → Ends (wants_of command) (Refuses command) (Allows command) old new status → CommandCause command old new status
 cause-of command old new status (Ends.Not_fetched stops untouched) = fetch-cause command old new status stops untouched
 cause-of command old new status (Ends.Refused texts given refused untouched) = refused-cause command old new texts status given refused untouched
 cause-of command old new status (Ends.Made texts outcome given allowed carried) = carried-cause command old new texts outcome status allowed carried

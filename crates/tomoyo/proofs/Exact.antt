@@ -8,8 +8,7 @@ use Rattle.tomoyo.specs.declared.carry.Outcome.{Outcome}
 use Rattle.tomoyo.specs.declared.words.Command.{Command}
 use Rattle.tomoyo.specs.Fetches.{Texts, AllGiven, FetchStops, TellsAll, told_texts}
 use Rattle.tomoyo.specs.Ends.{Outside, Ends, CarriedOut}
-use Rattle.tomoyo.specs.Play.{refusal_of, Refuses}
-use Rattle.tomoyo.specs.Call.{wants_of, Allows, CommandCause, answer_of, Answers}
+use Rattle.tomoyo.specs.Call.{wants_of, refusal_of, Refuses, Allows, CommandCause, answer_of, Answers}
 use Rattle.tomoyo.proofs.Refusals.{refusal-kind}
 use Rattle.tomoyo.proofs.Told.{texts-told, all-read, absent-unread, too-long-unread, stop-unread}
 
@@ -32,21 +31,21 @@ fetch-exact command files rose (Status.BadScript name line kind) tells stops = a
 fetch-exact command files rose (Status.TooMany what) tells stops = absurd stops.cause
 
 -- what was read decides
-refused-answer : (command : Command) (files : Files) (texts : Texts) (status : Status) → TellsAll files → AllGiven files (wants_of command) texts → refusal_of texts ≡ Some status → answer_of command files ≡ status
+refused-answer : (command : Command) (files : Files) (texts : Texts) (status : Status) → TellsAll files → AllGiven files (wants_of command) texts → refusal_of command texts ≡ Some status → answer_of command files ≡ status
 refused-answer command files texts status tells given refused =
-    let same : refusal_of (told_texts (wants_of command) files) ≡ Some status = ap refusal_of (sym (texts-told files (wants_of command) texts tells given)) ∙ refused in
+    let same : refusal_of command (told_texts (wants_of command) files) ≡ Some status = ap (refusal_of command) (sym (texts-told files (wants_of command) texts tells given)) ∙ refused in
     rw (all-read files (wants_of command) texts tells given, same) refl
 
-done-answer : (command : Command) (files : Files) (texts : Texts) → TellsAll files → AllGiven files (wants_of command) texts → refusal_of texts ≡ None → answer_of command files ≡ Status.Done
+done-answer : (command : Command) (files : Files) (texts : Texts) → TellsAll files → AllGiven files (wants_of command) texts → refusal_of command texts ≡ None → answer_of command files ≡ Status.Done
 done-answer command files texts tells given allowed =
-    let same : refusal_of (told_texts (wants_of command) files) ≡ None = ap refusal_of (sym (texts-told files (wants_of command) texts tells given)) ∙ allowed in
+    let same : refusal_of command (told_texts (wants_of command) files) ≡ None = ap (refusal_of command) (sym (texts-told files (wants_of command) texts tells given)) ∙ allowed in
     rw (all-read files (wants_of command) texts tells given, same) refl
 
 -- a refusal of what was read
-refused-exact : (command : Command) (files : Files) (texts : Texts) (status : Status) → TellsAll files → AllGiven files (wants_of command) texts → Refuses texts status → Answers (answer_of command files) status
-refused-exact command files texts Status.Done tells given refused = absurd (refusal-kind texts Status.Done refused)
+refused-exact : (command : Command) (files : Files) (texts : Texts) (status : Status) → TellsAll files → AllGiven files (wants_of command) texts → Refuses command texts status → Answers (answer_of command files) status
+refused-exact command files texts Status.Done tells given refused = absurd (refusal-kind command texts Status.Done refused)
 refused-exact command files texts (Status.ReadFault name) tells given refused = tt
-refused-exact command files texts (Status.WriteFault name) tells given refused = absurd (refusal-kind texts (Status.WriteFault name) refused)
+refused-exact command files texts (Status.WriteFault name) tells given refused = absurd (refusal-kind command texts (Status.WriteFault name) refused)
 refused-exact command files texts Status.OutOfMemory tells given refused = tt
 refused-exact command files texts (Status.NotBuilt name line) tells given refused = refused-answer command files texts (Status.NotBuilt name line) tells given refused
 refused-exact command files texts (Status.BadWords place) tells given refused = refused-answer command files texts (Status.BadWords place) tells given refused
@@ -74,7 +73,7 @@ carried-exact answer old new outcome (Status.BadTrace line kind) is h = absurd h
 carried-exact answer old new outcome (Status.BadScript name line kind) is h = absurd h.0
 carried-exact answer old new outcome (Status.TooMany what) is h = absurd h.0
 
-pub exact-of : (command : Command) (old new : Outside) (status : Status) → Ends (wants_of command) Refuses (Allows command) old new status → TellsAll old.files → Answers (answer_of command old.files) status
+pub exact-of : (command : Command) (old new : Outside) (status : Status) → Ends (wants_of command) (Refuses command) (Allows command) old new status → TellsAll old.files → Answers (answer_of command old.files) status
 exact-of command old new status (Ends.Not_fetched stops untouched) tells = fetch-exact command old.files _ status tells stops
 exact-of command old new status (Ends.Refused texts given refused untouched) tells = refused-exact command old.files texts status tells given refused
 exact-of command old new status (Ends.Made texts outcome given allowed carried) tells =

@@ -1,5 +1,6 @@
 -- What a call that is done has stored, and what every call leaves.
 use Rattle.std.proofs.Common.{◌≡◌, ◌∙◌, ℕ, ◌∷◌, [], ◌++◌, List, take, drop, true, false, Ok, ap, refl, subst}
+use Rattle.tm_types.specs.declared.policy.Policy.{Policy}
 use Rattle.tm_io.specs.declared.names.FileName.{FileName}
 use Rattle.tm_io.specs.Names.{same_name}
 use Rattle.tm_io.specs.Files.{FileState, changed}
@@ -7,12 +8,14 @@ use Rattle.tm_io.specs.Bytes.{then_bytes}
 use Rattle.tomoyo.specs.declared.status.Status.{Status}
 use Rattle.tomoyo.specs.declared.status.OutName.{OutName}
 use Rattle.tomoyo.specs.declared.carry.Outcome.{Outcome}
+use Rattle.tomoyo.specs.declared.play.Played.{Played}
 use Rattle.tomoyo.specs.declared.words.Command.{Command}
 use Rattle.tomoyo.specs.Fetches.{Texts, IsTold, TellsAll}
 use Rattle.tomoyo.specs.Stores.{stored, Leaves, names_of, is_named}
 use Rattle.tomoyo.specs.Ends.{Outside, Ends, CarriedOut}
-use Rattle.tomoyo.specs.Play.{Refuses, Plays}
-use Rattle.tomoyo.specs.Call.{wants_of, stored_by, step_stores, Allows, IsPlayed, HasPlayed}
+use Rattle.tomoyo.specs.Play.{Plays}
+use Rattle.tomoyo.specs.Print.{policy_of, counts_text, printed_policy}
+use Rattle.tomoyo.specs.Call.{wants_of, stored_by, step_stores, policy_stores, Refuses, Allows, IsPlayed, IsShown, HasDone}
 use Rattle.tomoyo.proofs.Refusals.{refusal-kind, names-allowed}
 use Rattle.tomoyo.proofs.Others.{changed-other, not-first, not-later, stored-other, leaves-other, cut-other, first-other}
 use Rattle.tomoyo.proofs.Told.{texts-told}
@@ -34,7 +37,7 @@ carried-others old new outcome (Status.BadTrace line kind) name h e = absurd h.0
 carried-others old new outcome (Status.BadScript named line kind) name h e = absurd h.0
 carried-others old new outcome (Status.TooMany what) name h e = absurd h.0
 
-pub kept-of : (command : Command) (old new : Outside) (status : Status) → Ends (wants_of command) Refuses (Allows command) old new status → (name : FileName) → is_named (stored_by command) name ≡ false → new.files name ≡ old.files name
+pub kept-of : (command : Command) (old new : Outside) (status : Status) → Ends (wants_of command) (Refuses command) (Allows command) old new status → (name : FileName) → is_named (stored_by command) name ≡ false → new.files name ≡ old.files name
 kept-of command old new status (Ends.Not_fetched stops untouched) name e = untouched.files name
 kept-of command old new status (Ends.Refused texts given refused untouched) name e = untouched.files name
 kept-of command old new status (Ends.Made texts outcome given allowed carried) name e =
@@ -54,19 +57,40 @@ stored-holds (s ∷ before) after name bytes state told self none later =
     ∙ stored-holds before after name bytes state told self (not-later (same_name s.0 name) (is_named (names_of before) name) none) later
 
 -- a step that is done
-step-done : (old new : Outside) → Ends (wants_of Command.Step) Refuses (Allows Command.Step) old new Status.Done → TellsAll old.files → IsPlayed old new
+step-done : (old new : Outside) → Ends (wants_of Command.Step) (Refuses Command.Step) (Allows Command.Step) old new Status.Done → TellsAll old.files → IsPlayed old new
 step-done old new (Ends.Not_fetched stops untouched) tells = absurd stops.cause
-step-done old new (Ends.Refused texts given refused untouched) tells = absurd (refusal-kind texts Status.Done refused)
+step-done old new (Ends.Refused texts given refused untouched) tells = absurd (refusal-kind Command.Step texts Status.Done refused)
 step-done old new (Ends.Made texts outcome given allowed carried) tells =
-    let played = allowed.1 in
-    let leaves : Leaves (step_stores played) old.files new.files = subst (λ (o : Outcome). Leaves o.stores old.files new.files) allowed.3 carried.0 in
+    let played : Played = allowed.1.0 in
+    let leaves : Leaves (step_stores played) old.files new.files = subst (λ (o : Outcome). Leaves o.stores old.files new.files) allowed.1.2 carried.0 in
     record {
       played = played;
-      plays = subst (λ (ts : Texts). Plays ts played) (texts-told old.files (wants_of Command.Step) texts tells given) allowed.2;
+      plays = subst (λ (ts : Texts). Plays ts played) (texts-told old.files (wants_of Command.Step) texts tells given) allowed.1.1;
       stored = (leaves FileName.Run ∙ stored-holds [] (drop 1 (step_stores played)) FileName.Run played.run (old.files FileName.Run) (tells FileName.Run) refl refl refl, (leaves FileName.Audit ∙ stored-holds (take 1 (step_stores played)) (drop 2 (step_stores played)) FileName.Audit played.audit (old.files FileName.Audit) (tells FileName.Audit) refl refl refl, (leaves FileName.ProfileNew ∙ stored-holds (take 2 (step_stores played)) (drop 3 (step_stores played)) FileName.ProfileNew played.policy.profile (old.files FileName.ProfileNew) (tells FileName.ProfileNew) refl refl refl, (leaves FileName.ExceptionPolicyNew ∙ stored-holds (take 3 (step_stores played)) (drop 4 (step_stores played)) FileName.ExceptionPolicyNew played.policy.exception (old.files FileName.ExceptionPolicyNew) (tells FileName.ExceptionPolicyNew) refl refl refl, (leaves FileName.DomainPolicyNew ∙ stored-holds (take 4 (step_stores played)) (drop 5 (step_stores played)) FileName.DomainPolicyNew played.policy.domain (old.files FileName.DomainPolicyNew) (tells FileName.DomainPolicyNew) refl refl refl, (leaves FileName.ManagerNew ∙ stored-holds (take 5 (step_stores played)) (drop 6 (step_stores played)) FileName.ManagerNew played.policy.manager (old.files FileName.ManagerNew) (tells FileName.ManagerNew) refl refl refl, tt))))));
-      summary = carried.1 ∙ ap (λ (o : Outcome). then_bytes o.line old.written) allowed.3;
+      summary = carried.1 ∙ ap (λ (o : Outcome). then_bytes o.line old.written) allowed.1.2;
     }
 
-pub headline-of : (command : Command) (old new : Outside) (status : Status) → Ends (wants_of command) Refuses (Allows command) old new status → HasPlayed (Ok command) old new status
+-- a print that is done
+print-done : (old new : Outside) → Ends (wants_of Command.Print) (Refuses Command.Print) (Allows Command.Print) old new Status.Done → TellsAll old.files → IsShown old new
+print-done old new (Ends.Not_fetched stops untouched) tells = absurd stops.cause
+print-done old new (Ends.Refused texts given refused untouched) tells = absurd (refusal-kind Command.Print texts Status.Done refused)
+print-done old new (Ends.Made texts outcome given allowed carried) tells =
+    let policy : Policy = allowed.1.0 in
+    let stores : Texts = policy_stores (printed_policy policy) in
+    let leaves : Leaves stores old.files new.files = subst (λ (o : Outcome). Leaves o.stores old.files new.files) allowed.1.2 carried.0 in
+    let printed = printed_policy policy in
+    record {
+      policy = policy;
+      loads = subst (λ (ts : Texts). policy_of ts ≡ Ok policy) (texts-told old.files (wants_of Command.Print) texts tells given) allowed.1.1;
+      profile = leaves FileName.ProfileNew ∙ stored-holds [] (drop 1 stores) FileName.ProfileNew printed.profile (old.files FileName.ProfileNew) (tells FileName.ProfileNew) refl refl refl;
+      exception = leaves FileName.ExceptionPolicyNew ∙ stored-holds (take 1 stores) (drop 2 stores) FileName.ExceptionPolicyNew printed.exception (old.files FileName.ExceptionPolicyNew) (tells FileName.ExceptionPolicyNew) refl refl refl;
+      domain = leaves FileName.DomainPolicyNew ∙ stored-holds (take 2 stores) (drop 3 stores) FileName.DomainPolicyNew printed.domain (old.files FileName.DomainPolicyNew) (tells FileName.DomainPolicyNew) refl refl refl;
+      manager = leaves FileName.ManagerNew ∙ stored-holds (take 3 stores) (drop 4 stores) FileName.ManagerNew printed.manager (old.files FileName.ManagerNew) (tells FileName.ManagerNew) refl refl refl;
+      counts = carried.1 ∙ ap (λ (o : Outcome). then_bytes o.line old.written) allowed.1.2;
+    }
+
+pub headline-of : (command : Command) (old new : Outside) (status : Status) → Ends (wants_of command) (Refuses command) (Allows command) old new status → HasDone (Ok command) old new status
 headline-of Command.Step old new status ends = λ tells is.
-    step-done old new (subst (λ (s : Status). Ends (wants_of Command.Step) Refuses (Allows Command.Step) old new s) is ends) tells
+    step-done old new (subst (λ (s : Status). Ends (wants_of Command.Step) (Refuses Command.Step) (Allows Command.Step) old new s) is ends) tells
+headline-of Command.Print old new status ends = λ tells is.
+    print-done old new (subst (λ (s : Status). Ends (wants_of Command.Print) (Refuses Command.Print) (Allows Command.Print) old new s) is ends) tells

@@ -2,6 +2,12 @@
 use Rattle.std.specs.Prelude.{◌≡◌, ℕ, ◌⊎◌, List, [], ◌∷◌, Result, Ok, Err, Bool, true, false, Option, Some, None, ⊤}
 use Rattle.std.specs.List.{AllByRecursion}
 use Rattle.tm_io.specs.declared.names.FileName.{FileName}
+use Rattle.tm_types.specs.declared.policy.Policy.{Policy}
+use Rattle.tm_types.specs.declared.step.LoadFault.{LoadFault}
+use Rattle.tm_text.specs.DomainText.{domain_text}
+use Rattle.tm_text.specs.ExceptionText.{exception_text}
+use Rattle.tm_text.specs.ManagerText.{manager_text}
+use Rattle.tm_text.specs.ProfileText.{profile_text}
 use Rattle.tm_io.specs.Causes.{Rose}
 use Rattle.tm_io.specs.Bytes.{then_bytes}
 use Rattle.tm_io.specs.Files.{FileState, Files, SameFiles}
@@ -18,7 +24,8 @@ use Rattle.tomoyo.specs.Stores.{is_named}
 use Rattle.tm_io.specs.Notes.{Noted}
 use Rattle.tomoyo.specs.Calls.{Names, wanted, FetchesOf, StoresOf}
 use Rattle.tomoyo.specs.Ends.{Outside, Untouched, Ends}
-use Rattle.tomoyo.specs.Play.{refusal_of, Refuses, Plays}
+use Rattle.tomoyo.specs.Play.{step_refusal, RefusedBy, Plays}
+use Rattle.tomoyo.specs.Print.{policy_of, print_refusal, counts_text, printed_policy}
 
 abbrev pub want : FileName → Bool → Want
 want name needed = record { name = name; needed = needed }
@@ -28,6 +35,8 @@ abbrev pub wants_of : Command → List Want
 wants_of Command.Step =
     want FileName.Profile true ∷ want FileName.ExceptionPolicy false ∷ want FileName.DomainPolicy true ∷ want FileName.Manager false
     ∷ want FileName.Trace true ∷ want FileName.Edits false ∷ want FileName.Answers false ∷ want FileName.Schedule false ∷ []
+wants_of Command.Print =
+    want FileName.Profile true ∷ want FileName.ExceptionPolicy false ∷ want FileName.DomainPolicy true ∷ want FileName.Manager false ∷ []
 
 -- the files that a command reads, in order
 abbrev pub read_by : Command → List FileName
@@ -36,33 +45,61 @@ read_by command = wanted (wants_of command)
 -- the files that a command stores, in order
 abbrev pub stored_by : Command → List FileName
 stored_by Command.Step = FileName.Run ∷ FileName.Audit ∷ FileName.ProfileNew ∷ FileName.ExceptionPolicyNew ∷ FileName.DomainPolicyNew ∷ FileName.ManagerNew ∷ []
+stored_by Command.Print = FileName.ProfileNew ∷ FileName.ExceptionPolicyNew ∷ FileName.DomainPolicyNew ∷ FileName.ManagerNew ∷ []
+
+-- a printed policy as files, in order
+abbrev pub policy_stores : Printed → Texts
+policy_stores policy =
+    (FileName.ProfileNew, policy.profile) ∷ (FileName.ExceptionPolicyNew, policy.exception) ∷ (FileName.DomainPolicyNew, policy.domain) ∷ (FileName.ManagerNew, policy.manager) ∷ []
 
 -- the text of a run, its audit texts and a printed policy as files, in order
 abbrev pub stores_of : Text → Text → Printed → Texts
-stores_of run audit policy =
-    (FileName.Run, run) ∷ (FileName.Audit, audit) ∷ (FileName.ProfileNew, policy.profile) ∷ (FileName.ExceptionPolicyNew, policy.exception) ∷ (FileName.DomainPolicyNew, policy.domain)
-    ∷ (FileName.ManagerNew, policy.manager) ∷ []
+stores_of run audit policy = (FileName.Run, run) ∷ (FileName.Audit, audit) ∷ policy_stores policy
 
 -- what `step` stores, in order
 abbrev pub step_stores : Played → Texts
 step_stores played = stores_of played.run played.audit played.policy
 
--- what a command stores and puts of what was played
-abbrev pub outcome_of : Command → Played → Outcome
-outcome_of Command.Step played = record { stores = step_stores played; line = played.summary }
+-- what `step` stores and puts of what was played
+abbrev pub step_outcome : Played → Outcome
+step_outcome played = record { stores = step_stores played; line = played.summary }
+
+-- what `print` stores and puts of the policy that the files load to
+abbrev pub print_outcome : Policy → Outcome
+print_outcome policy = record { stores = policy_stores (printed_policy policy); line = counts_text policy }
+
+-- what a command makes of what was read
+abbrev pub Makes : Command → Texts → Outcome → Type 0
+Makes Command.Step texts outcome = (played : Played) × Plays texts played × (outcome ≡ step_outcome played)
+Makes Command.Print texts outcome = (policy : Policy) × (policy_of texts ≡ Ok policy) × (outcome ≡ print_outcome policy)
+
+-- the refusal of what a command reads
+abbrev pub refusal_of : Command → Texts → Option Status
+refusal_of Command.Step texts = step_refusal texts
+refusal_of Command.Print texts = print_refusal texts
+
+-- a refusal of what was read; want of memory is free
+abbrev pub Refuses : Command → Texts → Status → Type 0
+Refuses command texts status = RefusedBy (refusal_of command texts) status
 
 -- the outcomes that a command may have
 abbrev pub Allows : Command → Texts → Outcome → Type 0
-Allows command texts outcome = (refusal_of texts ≡ None) × (played : Played) × Plays texts played × (outcome ≡ outcome_of command played)
+Allows command texts outcome = (refusal_of command texts ≡ None) × Makes command texts outcome
 
 -- how the top call ends
 abbrev pub CallEnds : Result Command ℕ → Outside → Outside → Status → Type 0
 CallEnds (Err place) old new status = (status ≡ Status.BadWords place) × Untouched old new
-CallEnds (Ok command) old new status = Ends (wants_of command) Refuses (Allows command) old new status
+CallEnds (Ok command) old new status = Ends (wants_of command) (Refuses command) (Allows command) old new status
 
--- a line of what was read that isn't built
+-- a line of what `step` reads that isn't built
 abbrev pub IsNotBuilt : Command → Files → Status → Type 0
-IsNotBuilt command files status = (texts : Texts) × AllGiven files (wants_of command) texts × (refusal_of texts ≡ Some status)
+IsNotBuilt Command.Step files status = (texts : Texts) × AllGiven files (wants_of Command.Step) texts × (step_refusal texts ≡ Some status)
+IsNotBuilt Command.Print files status = ⊥
+
+-- a fault of loading what `print` reads
+abbrev pub IsLoadFault : Command → Files → LoadFault → Type 0
+IsLoadFault Command.Step files fault = ⊥
+IsLoadFault Command.Print files fault = (texts : Texts) × AllGiven files (wants_of Command.Print) texts × (policy_of texts ≡ Err fault)
 
 -- a fetch that ends the call: nothing is stored, and nothing is put
 abbrev pub IsUnfetched : Command → Outside → Outside → Status → Type 0
@@ -75,6 +112,8 @@ CommandCause command old new (Status.ReadFault name) = IsUnfetched command old n
 CommandCause command old new (Status.Absent name) = IsUnfetched command old new (Status.Absent name)
 CommandCause command old new (Status.TooLong name) = IsUnfetched command old new (Status.TooLong name)
 CommandCause command old new (Status.NotBuilt name line) = IsNotBuilt command old.files (Status.NotBuilt name line) × Untouched old new
+CommandCause command old new (Status.BadPolicy file line reply) = IsLoadFault command old.files (LoadFault.Line file line reply) × Untouched old new
+CommandCause command old new (Status.UndefinedProfile domain) = IsLoadFault command old.files (LoadFault.UndefinedProfile domain) × Untouched old new
 CommandCause command old new (Status.WriteFault (OutName.File name)) =
     Rose old.shelf_faults new.shelf_faults × (is_named (stored_by command) name ≡ true) × (new.written ≡ old.written)
 CommandCause command old new (Status.WriteFault OutName.StandardOutput) = Rose old.sink_faults new.sink_faults
@@ -92,7 +131,7 @@ or_done (Some status) = status
 
 -- the status of a command on told files, by the files alone: the first fetch that ends it, else the refusal of what they hold, else Done
 abbrev pub answer_of : Command → Files → Status
-answer_of command files = or_done (or_else (first_unread (wants_of command) files) (refusal_of (told_texts (wants_of command) files)))
+answer_of command files = or_done (or_else (first_unread (wants_of command) files) (refusal_of command (told_texts (wants_of command) files)))
 
 -- a status that no fault and no want of memory has caused is the answer; a store is begun only where the answer is Done
 abbrev pub Answers : Status → Status → Type 0
@@ -139,7 +178,18 @@ pub record IsPlayed (old new : Outside) : Type 0 where
   pub stored : AllByRecursion (λ (store : FileName × List ℕ). new.files store.0 ≡ FileState.Holds store.1) (step_stores played)
   pub summary : new.written ≡ then_bytes played.summary old.written
 
--- the headline: on told files, a call that is done has played them
-abbrev pub HasPlayed : Result Command ℕ → Outside → Outside → Status → Type 0
-HasPlayed (Err place) old new status = ¬ (status ≡ Status.Done)
-HasPlayed (Ok Command.Step) old new status = TellsAll old.files → status ≡ Status.Done → IsPlayed old new
+-- what a `print` that is done has stored and put: the printed texts of the policy that the told files load to, and the line of its counts
+pub record IsShown (old new : Outside) : Type 0 where
+  pub policy : Policy
+  pub loads : policy_of (told_texts (wants_of Command.Print) old.files) ≡ Ok policy
+  pub profile : new.files FileName.ProfileNew ≡ FileState.Holds (profile_text policy)
+  pub exception : new.files FileName.ExceptionPolicyNew ≡ FileState.Holds (exception_text policy)
+  pub domain : new.files FileName.DomainPolicyNew ≡ FileState.Holds (domain_text policy)
+  pub manager : new.files FileName.ManagerNew ≡ FileState.Holds (manager_text policy)
+  pub counts : new.written ≡ then_bytes (counts_text policy) old.written
+
+-- the headline: on told files, a call that is done has played or printed them
+abbrev pub HasDone : Result Command ℕ → Outside → Outside → Status → Type 0
+HasDone (Err place) old new status = ¬ (status ≡ Status.Done)
+HasDone (Ok Command.Step) old new status = TellsAll old.files → status ≡ Status.Done → IsPlayed old new
+HasDone (Ok Command.Print) old new status = TellsAll old.files → status ≡ Status.Done → IsShown old new

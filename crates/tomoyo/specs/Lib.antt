@@ -6,4 +6,5 @@ pub mod Calls
 pub mod Ends
 pub mod Forms
 pub mod Play
+pub mod Print
 pub mod Call

@@ -33,14 +33,14 @@ abbrev pub not_built_at : Option (FileName × ℕ) → Option Status
 not_built_at None = None
 not_built_at (Some place) = Some (Status.NotBuilt place.0 place.1)
 
--- the refusal of what was read: a line that isn't built
-unfoldable pub refusal_of : Texts → Option Status
-refusal_of texts = not_built_at (first_not_built texts)
+-- the refusal of what `step` reads: a line that isn't built
+unfoldable pub step_refusal : Texts → Option Status
+step_refusal texts = not_built_at (first_not_built texts)
 
--- a refusal of what was read; want of memory is free
-abbrev pub Refuses : Texts → Status → Type 0
-Refuses texts Status.OutOfMemory = ⊤
-Refuses texts status = refusal_of texts ≡ Some status
+-- what ends with this refusal; want of memory is free
+abbrev pub RefusedBy : Option Status → Status → Type 0
+RefusedBy refusal Status.OutOfMemory = ⊤
+RefusedBy refusal status = refusal ≡ Some status
 
 -- a policy and a trace, without editors and without a supervisor
 abbrev pub alone : Grammar → Policy → Trace → Scene

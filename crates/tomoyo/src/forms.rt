@@ -1,7 +1,7 @@
 //! What the files load to, and their first line that isn't built.
 ghost use Rattle.std.specs.Prelude.{◌≡◌, IfOk, IfErr, None};
 ghost use Rattle.tomoyo.specs.Forms.{has_words, first_line_with_words, IsPolicyLoaded, IsLoaded};
-ghost use Rattle.tomoyo.specs.Play.{refusal_of, Refuses};
+ghost use Rattle.tomoyo.specs.Play.{step_refusal, RefusedBy};
 
 use crate::fetches::text_at;
 use crate::status::Status;
@@ -49,10 +49,10 @@ pub fn first_line_with_words(text: &[u8]) -> Option<u64>
 }
 
 // Loads the policy from the first four files that are fetched, of which two have no line with words.
-#[tactic(auto, unfolding(crate::specs::Play::refusal_of, crate::specs::Forms::first_not_built))]
+#[tactic(auto, unfolding(crate::specs::Play::step_refusal, crate::specs::Forms::first_not_built))]
 fn load_policy(alloc: Global, texts: &FileList) -> Result<Policy, Status>
     ensures loaded { IfOk result (IsPolicyLoaded texts.now) }
-    ensures refused { IfErr result (Refuses texts.now) }
+    ensures refused { IfErr result (RefusedBy (step_refusal texts.now)) }
 {
     let profiles = match read_profile(alloc, text_at(texts, FileName::Profile)) {
         Ok(profiles) => profiles,
@@ -75,10 +75,10 @@ fn load_policy(alloc: Global, texts: &FileList) -> Result<Policy, Status>
 
 /// Loads the policy, the trace and the schedule, where the other four files have no line with words; or names the first file, in the
 /// order of the fetches, with a line that isn't built, and its first such line.
-#[tactic(auto, unfolding(crate::specs::Play::refusal_of, crate::specs::Forms::first_not_built))]
+#[tactic(auto, unfolding(crate::specs::Play::step_refusal, crate::specs::Forms::first_not_built))]
 pub fn load(alloc: Global, texts: &FileList) -> Result<Loaded, Status>
-    ensures loaded { IfOk result (λ loaded. (refusal_of texts.now ≡ None) × IsLoaded texts.now loaded) }
-    ensures refused { IfErr result (Refuses texts.now) }
+    ensures loaded { IfOk result (λ loaded. (step_refusal texts.now ≡ None) × IsLoaded texts.now loaded) }
+    ensures refused { IfErr result (RefusedBy (step_refusal texts.now)) }
 {
     let policy = match load_policy(alloc, texts) {
         Ok(policy) => policy,

@@ -7,6 +7,7 @@ mod carry;
 mod fetches;
 mod forms;
 mod play;
+mod print;
 mod status;
 mod top;
 mod words;

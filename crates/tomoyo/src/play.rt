@@ -7,7 +7,7 @@ ghost use Rattle.tm_text.specs.DomainText.{domain_text};
 ghost use Rattle.tm_text.specs.ExceptionText.{exception_text};
 ghost use Rattle.tm_text.specs.ManagerText.{manager_text};
 ghost use Rattle.tm_text.specs.ProfileText.{profile_text};
-ghost use Rattle.tomoyo.specs.Play.{opened, refusal_of, Refuses, CanBePlayed, PlaysOn, PlaysLoaded, Plays, audit_word, audits_of, IsPrinted, IsPolicyPrinted};
+ghost use Rattle.tomoyo.specs.Play.{opened, step_refusal, RefusedBy, CanBePlayed, PlaysOn, PlaysLoaded, Plays, audit_word, audits_of, IsPrinted, IsPolicyPrinted};
 
 use crate::forms::{Loaded, load};
 use crate::status::Status;
@@ -87,8 +87,8 @@ fn audits_of(alloc: Global, takes: &[Take]) -> Result<Text, NoMemory>
     Ok(Text::from_vec(text))
 }
 
-// The printed files of a policy.
-fn print_policy(alloc: Global, policy: &Policy) -> Result<Printed, NoMemory>
+/// The printed files of a policy.
+pub fn print_policy(alloc: Global, policy: &Policy) -> Result<Printed, NoMemory>
     ensures { IfOk result (IsPolicyPrinted policy.now) }
 {
     let mut profile = Vec::new(alloc);
@@ -145,8 +145,8 @@ fn play_loaded(
 /// Plays what was read, or refuses it.
 #[tactic(auto, using(crate::proofs::Playing::can_be_played, crate::proofs::Playing::plays_texts))]
 pub fn play_of(alloc: Global, texts: &FileList) -> Result<Played, Status>
-    ensures played { IfOk result (λ played. (refusal_of texts.now ≡ None) × Plays texts.now played) }
-    ensures refused { IfErr result (Refuses texts.now) }
+    ensures played { IfOk result (λ played. (step_refusal texts.now ≡ None) × Plays texts.now played) }
+    ensures refused { IfErr result (RefusedBy (step_refusal texts.now)) }
 {
     let Loaded {
         policy,

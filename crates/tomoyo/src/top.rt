@@ -1,22 +1,27 @@
-ghost use Rattle.std.specs.Prelude.{◌≡◌, ◌≤◌, ◌⊎◌, [], IfOk, IfErr, OnOk, map, string_bytes};
+ghost use Rattle.std.specs.Prelude.{◌≡◌, ◌≤◌, ◌⊎◌, ◌++◌, [], IfOk, IfErr, OnOk, map, string_bytes};
+ghost use Rattle.tm_rules.specs.Few.{IsFew};
 ghost use Rattle.tm_io.specs.Causes.{Rose};
 ghost use Rattle.tm_io.specs.Files.{SameFiles};
 ghost use Rattle.tm_io.specs.Notes.{Noted};
 ghost use Rattle.tomoyo.specs.Fetches.{AllGiven, FetchStops};
 ghost use Rattle.tomoyo.specs.Calls.{FetchesOf, StoresOf};
 ghost use Rattle.tomoyo.specs.Ends.{outside, Ends};
-ghost use Rattle.tomoyo.specs.Play.{Refuses};
 ghost use Rattle.tomoyo.specs.Words.{read_words};
-ghost use Rattle.tomoyo.specs.Call.{wants_of, read_by, stored_by, stores_of, FetchesInOrder, StoresInOrder, StoresLast, outcome_of, Allows, CallEnds, HasCause, IsExact, IsComplete, KeepsOthers, HasPlayed};
+ghost use Rattle.tomoyo.specs.Call.{wants_of, read_by, stored_by, stores_of, policy_stores, step_outcome, print_outcome};
+ghost use Rattle.tomoyo.specs.Call.{Refuses, Allows, CallEnds, HasCause, IsExact, IsComplete, KeepsOthers, HasDone};
+ghost use Rattle.tomoyo.specs.Call.{FetchesInOrder, StoresInOrder, StoresLast};
+ghost use Rattle.tomoyo.specs.declared.words.Command.{Command};
 
 use crate::carry::{Outcome, carry_out};
 use crate::fetches::{Want, fetch_all};
-use crate::play::{Played, Printed, play_of};
+use crate::play::{Played, Printed, play_of, print_policy};
+use crate::print::{counts_line, load_files};
 use crate::status::Status;
 use crate::words::{Command, read_command};
 use std::alloc::Global;
 use tm_io::{FileList, FileName, Shelf, Sink};
 use tm_list::NoMemory;
+use tm_types::policy::Policy;
 use tm_word::Text;
 
 // Fetches what a command reads.
@@ -44,12 +49,21 @@ fn fetch_for<S: Shelf>(alloc: Global, command: Command, shelf: &mut S) -> Result
             ];
             fetch_all(alloc, shelf, &wants)
         }
+        Command::Print => {
+            let wants = [
+                Want::needed(FileName::Profile),
+                Want::optional(FileName::ExceptionPolicy),
+                Want::needed(FileName::DomainPolicy),
+                Want::optional(FileName::Manager),
+            ];
+            fetch_all(alloc, shelf, &wants)
+        }
     }
 }
 
-// The text of a run, its audit texts and a printed policy as files, in order.
-fn stores_of(alloc: Global, run: Text, audit: Text, policy: Printed) -> Result<FileList, NoMemory>
-    ensures { IfOk result (λ stores. stores ≡ stores_of run audit policy) }
+// Appends a printed policy as files, in order.
+fn push_policy(policy: Printed, stores: &mut FileList) -> Result<(), NoMemory>
+    ensures { OnOk result (stores.new ≡ stores.old ++ policy_stores policy) }
 {
     let Printed {
         profile,
@@ -57,54 +71,95 @@ fn stores_of(alloc: Global, run: Text, audit: Text, policy: Printed) -> Result<F
         domain,
         manager,
     } = policy;
-    let mut stores = FileList::new(alloc);
-    stores.push((FileName::Run, run))?;
-    stores.push((FileName::Audit, audit))?;
     stores.push((FileName::ProfileNew, profile))?;
     stores.push((FileName::ExceptionPolicyNew, exception))?;
     stores.push((FileName::DomainPolicyNew, domain))?;
     stores.push((FileName::ManagerNew, manager))?;
+    Ok(())
+}
+
+// The text of a run, its audit texts and a printed policy as files, in order.
+fn stores_of(alloc: Global, run: Text, audit: Text, policy: Printed) -> Result<FileList, NoMemory>
+    ensures { IfOk result (λ stores. stores ≡ stores_of run audit policy) }
+{
+    let mut stores = FileList::new(alloc);
+    stores.push((FileName::Run, run))?;
+    stores.push((FileName::Audit, audit))?;
+    push_policy(policy, &mut stores)?;
     Ok(stores)
 }
 
-// What a command stores and puts of what was played.
-fn outcome_of(alloc: Global, command: Command, played: Played) -> Result<Outcome, NoMemory>
-    ensures { IfOk result (λ outcome. outcome ≡ outcome_of command played) }
+// What `step` stores and puts of what was played.
+fn step_outcome(alloc: Global, played: Played) -> Result<Outcome, NoMemory>
+    ensures { IfOk result (λ outcome. outcome ≡ step_outcome played) }
 {
-    match command {
-        Command::Step => {
-            let Played {
-                run,
-                audit,
-                policy,
-                summary,
-            } = played;
-            let stores = stores_of(alloc, run, audit, policy)?;
-            Ok(Outcome {
-                stores,
-                line: summary,
-            })
-        }
-    }
+    let Played {
+        run,
+        audit,
+        policy,
+        summary,
+    } = played;
+    let stores = stores_of(alloc, run, audit, policy)?;
+    Ok(Outcome {
+        stores,
+        line: summary,
+    })
 }
 
-// What a command makes of what was read, or its refusal.
-fn make(alloc: Global, command: Command, texts: &FileList) -> Result<Outcome, Status>
-    ensures made { IfOk result (Allows command texts.now) }
-    ensures refused { IfErr result (Refuses texts.now) }
+// What `print` stores and puts of the policy that the files load to.
+fn print_outcome(alloc: Global, policy: &Policy) -> Result<Outcome, NoMemory>
+    requires { IsFew policy.now }
+    ensures { IfOk result (λ outcome. outcome ≡ print_outcome policy.now) }
+{
+    let printed = print_policy(alloc, policy)?;
+    let line = counts_line(alloc, policy)?;
+    let mut stores = FileList::new(alloc);
+    push_policy(printed, &mut stores)?;
+    Ok(Outcome { stores, line })
+}
+
+// Plays what was read, or refuses it.
+fn make_step(alloc: Global, texts: &FileList) -> Result<Outcome, Status>
+    ensures made { IfOk result (Allows Command.Step texts.now) }
+    ensures refused { IfErr result (Refuses Command.Step texts.now) }
 {
     match play_of(alloc, texts) {
         Err(status) => Err(status),
-        Ok(played) => match outcome_of(alloc, command, played) {
+        Ok(played) => match step_outcome(alloc, played) {
             Ok(outcome) => Ok(outcome),
             Err(_) => Err(Status::OutOfMemory),
         },
     }
 }
 
+// Prints the policy that was read, or refuses it.
+fn make_print(alloc: Global, texts: &FileList) -> Result<Outcome, Status>
+    ensures made { IfOk result (Allows Command.Print texts.now) }
+    ensures refused { IfErr result (Refuses Command.Print texts.now) }
+{
+    match load_files(alloc, texts) {
+        Err(status) => Err(status),
+        Ok(policy) => match print_outcome(alloc, &policy) {
+            Ok(outcome) => Ok(outcome),
+            Err(_) => Err(Status::OutOfMemory),
+        },
+    }
+}
+
+// What a command makes of what was read, or its refusal.
+fn make(alloc: Global, command: Command, texts: &FileList) -> Result<Outcome, Status>
+    ensures made { IfOk result (Allows command texts.now) }
+    ensures refused { IfErr result (Refuses command texts.now) }
+{
+    match command {
+        Command::Print => make_print(alloc, texts),
+        Command::Step => make_step(alloc, texts),
+    }
+}
+
 // Does a command.
 fn perform<S: Shelf, K: Sink>(alloc: Global, command: Command, shelf: &mut S, out: &mut K) -> Status
-    ensures ends { Ends (wants_of command) Refuses (Allows command)
+    ensures ends { Ends (wants_of command) (Refuses command) (Allows command)
         (outside (S.file shelf.old) (S.faults shelf.old) (K.written out.old) (K.faults out.old))
         (outside (S.file shelf.new) (S.faults shelf.new) (K.written out.new) (K.faults out.new)) result }
     ensures fetches { FetchesOf (read_by command) result (S.fetched shelf.old) (S.fetched shelf.new) }
@@ -121,20 +176,22 @@ fn perform<S: Shelf, K: Sink>(alloc: Global, command: Command, shelf: &mut S, ou
     }
 }
 
-/// Does the command that the words name, over any shelf and sink, and answers how it ended. `step` plays the trace by the schedule
-/// under the policy and stores `run`, `audit`, and the final policy as `profile.new`, `exception_policy.new`, `domain_policy.new` and
-/// `manager.new`; nothing is stored before all is read and played.
+/// Does the command that the words name, over any shelf and sink, and answers how it ended. `print` loads the policy and stores its
+/// printed texts as `profile.new`, `exception_policy.new`, `domain_policy.new` and `manager.new`. `step` plays the trace by the schedule
+/// under the policy and stores `run`, `audit`, and the final policy in the same four files. Nothing is stored before all is read and
+/// loaded or played.
 ///
 /// The first fetch that gives neither a text nor a file that may be missing decides, and no later one is made: `Absent` where
-/// `profile`, `domain_policy` or `trace` isn't there, `TooLong` where a file has more than 16,777,216 bytes, `ReadFault` where reading
-/// failed. Of what was read, the first line that isn't built is `NotBuilt`.
+/// `profile`, `domain_policy` or, for `step`, `trace` isn't there, `TooLong` where a file has more than 16,777,216 bytes, `ReadFault`
+/// where reading failed. Of what `print` has read, the first line that isn't done is `BadPolicy`, and without one the first live domain
+/// whose profile isn't defined is `UndefinedProfile`. Of what `step` has read, the first line that isn't built is `NotBuilt`.
 pub fn run_alone<S: Shelf, K: Sink>(
     alloc: Global,
     words: &[String],
     shelf: &mut S,
     out: &mut K,
 ) -> Status
-    ensures headline { HasPlayed (read_words (map string_bytes words.now))
+    ensures headline { HasDone (read_words (map string_bytes words.now))
         (outside (S.file shelf.old) (S.faults shelf.old) (K.written out.old) (K.faults out.old))
         (outside (S.file shelf.new) (S.faults shelf.new) (K.written out.new) (K.faults out.new)) result }
     ensures kept { KeepsOthers (read_words (map string_bytes words.now)) (S.file shelf.old) (S.file shelf.new) }

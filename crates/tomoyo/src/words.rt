@@ -4,6 +4,7 @@ ghost use Rattle.tomoyo.specs.Words.{read_words, command_of};
 /// What the words can ask for.
 #[derive(Clone, Copy)]
 pub enum Command {
+    Print,
     Step,
 }
 
@@ -11,11 +12,13 @@ pub enum Command {
 fn named_by(word: &str) -> Result<Command, u64>
     ensures { result ≡ command_of word.now }
 {
-    if word == "step" {
-        Ok(Command::Step)
-    } else {
-        Err(0)
+    if word == "print" {
+        return Ok(Command::Print);
     }
+    if word == "step" {
+        return Ok(Command::Step);
+    }
+    Err(0)
 }
 
 /// The command, or the first place at which no form of a command goes on.

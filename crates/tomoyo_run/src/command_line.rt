@@ -10,20 +10,24 @@ pub const VERSION: &str = "tomoyo_run 0.1.0\n";
 
 /// What `--help` prints.
 pub const HELP: &str = "\
-usage: tomoyo_run [-C DIR] step
+usage: tomoyo_run [-C DIR] print
+       tomoyo_run [-C DIR] step
        tomoyo_run help | -h | --help
        tomoyo_run -V | --version
 
 Works on the files of the folder DIR, or of the current folder.
 
+  print  loads the policy and stores it in its normal form; one line that counts
+         its domains and their entries goes to standard output
   step   plays the trace under the policy by the schedule, learns where a profile
-         says so, and stores the run and the policy as it stands afterwards
+         says so, and stores the run and the policy as it stands afterwards; one
+         line that sums the run up goes to standard output
 
-Files that are read: profile, domain_policy and trace, which have to be there;
-exception_policy, manager, edits, answers and schedule, which count as empty
-where they are missing. Files that are stored, in this order: run, audit,
-profile.new, exception_policy.new, domain_policy.new, manager.new. One line
-that sums the run up goes to standard output.
+Files that are read: profile and domain_policy, and trace by step, which have to
+be there; exception_policy and manager, and edits, answers and schedule by step,
+which count as empty where they are missing. Files that are stored, in this
+order: run and audit by step; profile.new, exception_policy.new,
+domain_policy.new, manager.new.
 
 Exit statuses:
    0  done

@@ -16,10 +16,10 @@ returns-in-Err-make-clause-ends g c =
     Ends.Refused c.in-Ok.texts c.in-Ok.ensures.texts c.in-Err-make.ensures.refused (record { files = c.in-Ok.ensures.kept; written = refl })
 
 pub returns-in-Err-make-clause-fetches : goal.returns-in-Err-make-clause-fetches
-returns-in-Err-make-clause-fetches g c = fetches-refused (read_by c.args.command) c.in-Ok.texts _ _ _ c.in-Err-make.ensures.refused c.in-Ok.ensures.all
+returns-in-Err-make-clause-fetches g c = fetches-refused c.args.command (read_by c.args.command) c.in-Ok.texts _ _ _ c.in-Err-make.ensures.refused c.in-Ok.ensures.all
 
 pub returns-in-Err-make-clause-stores : goal.returns-in-Err-make-clause-stores
-returns-in-Err-make-clause-stores g c = stores-refused (stored_by c.args.command) c.in-Ok.texts _ _ _ c.in-Err-make.ensures.refused c.in-Ok.ensures.no_store
+returns-in-Err-make-clause-stores g c = stores-refused c.args.command (stored_by c.args.command) c.in-Ok.texts _ _ _ c.in-Err-make.ensures.refused c.in-Ok.ensures.no_store
 
 pub returns-clause-ends : goal.returns-clause-ends
 returns-clause-ends g c =
