@@ -259,7 +259,8 @@ fn apply_read(
 }
 
 /// Does a line of a policy file, with the cursor of that file or editor, and gives its reply: the line is done, or refused by the
-/// policy as it stands, or it is outside the grammar; a refused line changes nothing.
+/// policy as it stands, or it is outside the grammar; a refused line changes nothing, but that a `select`
+/// that finds nothing empties the cursor.
 ///
 /// Errors: want of memory, also where a list would have 2^32 - 1 members already; policy and cursor are then as before.
 #[tactic(auto, using(crate::proofs::Built::read_built))]

@@ -1,5 +1,5 @@
 //! The printed files of a policy: its profiles, its exceptions, its domains and its managers.
-//! Stands on tm_entry, tm_except and tm_profile, whose lines it joins, and on the types of policies.
+//! Stands on tm_policy_line, tm_except and tm_profile, whose lines it joins, and on the types of policies.
 //! Promises that each printer appends the one text of its part, on every policy, that `out` is as before after want of memory, and that namespaces are all printed in the order of their names.
 #![tactic(auto)]
 
