@@ -15,8 +15,8 @@ use Rattle.tm_types.specs.declared.step.Made.{Made}
 use Rattle.tm_types.specs.declared.step.Reply.{Reply}
 use Rattle.tm_types.specs.declared.verdict.Verdict.{Verdict}
 use Rattle.tm_rules.specs.Grammar.{Grammar}
-use Rattle.tm_core.specs.declared.walk.Attempt.{Attempt}
-use Rattle.tm_core.specs.declared.walk.Walk.{Walk}
+use Rattle.tm_core.specs.declared.ways.RequestInProgress.{RequestInProgress}
+use Rattle.tm_core.specs.declared.ways.TreeOnWay.{TreeOnWay}
 use Rattle.tm_legal.specs.Verdict.{verdict}
 use Rattle.tm_legal.specs.Run.{Situation, Situations, do_pids}
 use Rattle.tm_legal.specs.Legal.{Scene}
@@ -95,19 +95,19 @@ others (Item.Ids pid ids ∷ items) plain = (tt, others items plain)
 others (Item.Fork pid child ∷ items) plain = (tt, others items plain)
 others (Item.Do pid request ∷ items) plain = let parts = and_parts (is_plain_request request) (list_all is_plain_item items) plain in (other request parts.0, others items parts.1)
 
-pub idle-way : (walk : Walk) → walk.begun ≡ [] → (way_of walk).begun ≡ None
-idle-way walk e = ap (λ (begun : List Attempt). option_map begun_of (slice_get begun 0)) e
+pub idle-way : (walk : TreeOnWay) → walk.begun ≡ [] → (way_of walk).begun ≡ None
+idle-way walk e = ap (λ (begun : List RequestInProgress). option_map begun_of (slice_get begun 0)) e
 
-pub busy-way : (walk : Walk) → ¬ (walk.begun ≡ []) → (b : InProgress) × ((way_of walk).begun ≡ Some b)
+pub busy-way : (walk : TreeOnWay) → ¬ (walk.begun ≡ []) → (b : InProgress) × ((way_of walk).begun ≡ Some b)
 busy-way walk busy = go walk.begun refl
   where
-    go : (begun : List Attempt) → walk.begun ≡ begun → (b : InProgress) × ((way_of walk).begun ≡ Some b)
+    go : (begun : List RequestInProgress) → walk.begun ≡ begun → (b : InProgress) × ((way_of walk).begun ≡ Some b)
     go [] e = absurd (busy e)
-    go (attempt ∷ begun) e = (begun_of attempt, ap (λ (begun : List Attempt). option_map begun_of (slice_get begun 0)) e)
+    go (attempt ∷ begun) e = (begun_of attempt, ap (λ (begun : List RequestInProgress). option_map begun_of (slice_get begun 0)) e)
 
 -- Looks
 
-looks-as : (g : Grammar) (course : Course) (walks : List Walk) (now : Situation) (request : Request) → IsSilent course.policy → look_at g (player_of course walks) now request 0 [] ≡ looked g course now request
+looks-as : (g : Grammar) (course : Course) (walks : List TreeOnWay) (now : Situation) (request : Request) → IsSilent course.policy → look_at g (player_of course walks) now request 0 [] ≡ looked g course now request
 unfolding look_at
 looks-as g course walks now request silent = by_domain now.domain
   where
@@ -123,7 +123,7 @@ looks-as g course walks now request silent = by_domain now.domain
 
 -- A tree's turn
 
-module _ (g : Grammar) (course : Course) (walks : List Walk) (t : ℕ) (walk : Walk) (at : slice_get walks t ≡ Some walk) (idle : (way_of walk).begun ≡ None) (silent : IsSilent course.policy) where
+module _ (g : Grammar) (course : Course) (walks : List TreeOnWay) (t : ℕ) (walk : TreeOnWay) (at : slice_get walks t ≡ Some walk) (idle : (way_of walk).begun ≡ None) (silent : IsSilent course.policy) where
   abbrev p : Player
   p = player_of course walks
 
@@ -144,10 +144,10 @@ module _ (g : Grammar) (course : Course) (walks : List Walk) (t : ℕ) (walk : W
   still-event : do_pids way.items ≡ [] → tree_event g p false (suc t) ≡ None
   still-event none = turn-is ∙ none-left (passed g way.at way.items).0 (passed g way.at way.items).1 (passed-next g way.at way.items) (passed-pids g way.at way.items ∙ none)
 
-  same-player : (new : Walk) (later : Way) → way_of new ≡ later → (let q : Player = on_way g p t later in player_of course (slice_set walks t new) ≡ q)
+  same-player : (new : TreeOnWay) (later : Way) → way_of new ≡ later → (let q : Player = on_way g p t later in player_of course (slice_set walks t new) ≡ q)
   same-player new later is = rw (map-set way_of walks t new, len-set walks t new, is) refl
 
-  looking-event : (new : Walk) → FirstLooks g course way (way_of new) → tree_event g p false (suc t) ≡ Some (player_of course (slice_set walks t new))
+  looking-event : (new : TreeOnWay) → FirstLooks g course way (way_of new) → tree_event g p false (suc t) ≡ Some (player_of course (slice_set walks t new))
   unfolding first_look
   looking-event new h =
       let seen : look_at g p (h.at h.pid) h.request 0 [] ≡ Some h.looks.begun = looks-as g course walks (h.at h.pid) h.request silent ∙ h.looks.looks in
@@ -176,7 +176,7 @@ some-of : {A B : Type 0} (f : A → B) (o : Option A) (y : B) → option_map f o
 some-of f None y e = absurd cc
 some-of f (Some x) y e = (x, refl)
 
-module _ (g : Grammar) (course : Course) (walks : List Walk) (t : ℕ) (walk : Walk) (at : slice_get walks t ≡ Some walk) where
+module _ (g : Grammar) (course : Course) (walks : List TreeOnWay) (t : ℕ) (walk : TreeOnWay) (at : slice_get walks t ≡ Some walk) where
   abbrev o : Player
   o = player_of course walks
 
@@ -185,7 +185,7 @@ module _ (g : Grammar) (course : Course) (walks : List Walk) (t : ℕ) (walk : W
   unfolding tree_event stage_event
   own-turn b d line rest is owes = rw (map-get way_of walks t walk at, is, owes) refl
 
-  own-event : (later : Course) (new : Walk) (makes : MakesStep g course later (way_of walk) (way_of new)) → fits_entry g makes.line ≡ true → tree_event g o false (suc t) ≡ Some (player_of later (slice_set walks t new))
+  own-event : (later : Course) (new : TreeOnWay) (makes : MakesStep g course later (way_of walk) (way_of new)) → fits_entry g makes.line ≡ true → tree_event g o false (suc t) ≡ Some (player_of later (slice_set walks t new))
   own-event later new h fits =
       let way : Way = way_of walk in
       let next : Settled → Player = λ s. on_way g s.player t (going_on g way (after_step g h.begun h.steps s.number s.reply)) in
@@ -211,7 +211,7 @@ abbrev pub IsNoTree : Turn → Type 0
 IsNoTree (Turn.Tree t) = ⊥
 IsNoTree _ = Unit {0}
 
-module _ (scene : Scene) (course : Course) (walks : List Walk) (h : IsReached scene (player_of course walks)) where
+module _ (scene : Scene) (course : Course) (walks : List TreeOnWay) (h : IsReached scene (player_of course walks)) where
   abbrev q : Player
   q = player_of course walks
 
@@ -227,17 +227,17 @@ module _ (scene : Scene) (course : Course) (walks : List Walk) (h : IsReached sc
   pub is-silent : IsSilent course.policy
   is-silent = kept.silent
 
-  learn-way : (t : ℕ) (walk : Walk) → slice_get walks t ≡ Some walk → LearnWay (way_of walk)
+  learn-way : (t : ℕ) (walk : TreeOnWay) → slice_get walks t ≡ Some walk → LearnWay (way_of walk)
   learn-way t walk at = all_get LearnWay (map way_of walks) t (way_of walk) kept.ways (map-get way_of walks t walk at)
 
-  pub are-others : (t : ℕ) (walk : Walk) → slice_get walks t ≡ Some walk → AllByRecursion ItemIsOther walk.lines
+  pub are-others : (t : ℕ) (walk : TreeOnWay) → slice_get walks t ≡ Some walk → AllByRecursion ItemIsOther walk.lines
   are-others t walk at = others walk.lines (learn-way t walk at).1
 
   tree-turn : (t : ℕ) → event scene q (Turn.Tree t) ≡ tree_event scene.grammar q false t
   unfolding event player_event
   tree-turn t = rw h.built.alone.book refl
 
-  pub can-first : (t : ℕ) (walk : Walk) → slice_get walks t ≡ Some walk → walk.begun ≡ [] → CanLook scene.grammar course (passed scene.grammar (way_of walk).at (way_of walk).items).0 (passed scene.grammar (way_of walk).at (way_of walk).items).1
+  pub can-first : (t : ℕ) (walk : TreeOnWay) → slice_get walks t ≡ Some walk → walk.begun ≡ [] → CanLook scene.grammar course (passed scene.grammar (way_of walk).at (way_of walk).items).0 (passed scene.grammar (way_of walk).at (way_of walk).items).1
   unfolding first_query
   can-first t walk at idle = go (subst (λ (o : Option Book). TreeMoves scene q t (way_of walk) (tree_event scene.grammar q (is_some o) (suc t))) h.built.alone.book (tree-moves scene h.built.can.grammar q t (way_of walk) holds (map-get way_of walks t walk at) (is_some scene.book) refl))
     where
@@ -255,7 +255,7 @@ module _ (scene : Scene) (course : Course) (walks : List Walk) (h : IsReached sc
       go (inr (none, inl idle)) = empty (passed g (way_of walk).at (way_of walk).items).0 (passed g (way_of walk).at (way_of walk).items).1 (passed-pids g (way_of walk).at (way_of walk).items ∙ idle.empty)
       go (inr (none, inr asked)) = absurd cc
 
-  own-moves : (t : ℕ) (walk : Walk) → slice_get walks t ≡ Some walk → (b : InProgress) → (way_of walk).begun ≡ Some b → (next : Player) × (tree_event scene.grammar q false (suc t) ≡ Some next)
+  own-moves : (t : ℕ) (walk : TreeOnWay) → slice_get walks t ≡ Some walk → (b : InProgress) → (way_of walk).begun ≡ Some b → (next : Player) × (tree_event scene.grammar q false (suc t) ≡ Some next)
   unfolding first_query
   own-moves t walk at b is = go (subst (λ (o : Option Book). TreeMoves scene q t (way_of walk) (tree_event scene.grammar q (is_some o) (suc t))) h.built.alone.book (tree-moves scene h.built.can.grammar q t (way_of walk) holds (map-get way_of walks t walk at) (is_some scene.book) refl))
     where
@@ -265,7 +265,7 @@ module _ (scene : Scene) (course : Course) (walks : List Walk) (h : IsReached sc
       go (inr (none, inr asked)) = absurd cc
 
   -- a take that has begun owes a Learn, which can be made
-  pub owes-step : (t : ℕ) (walk : Walk) → slice_get walks t ≡ Some walk → ¬ (walk.begun ≡ []) → OwesStep course (way_of walk)
+  pub owes-step : (t : ℕ) (walk : TreeOnWay) → slice_get walks t ≡ Some walk → ¬ (walk.begun ≡ []) → OwesStep course (way_of walk)
   owes-step t walk at busy =
       let begun = busy-way walk busy in
       let owes : OwesLearn begun.0 = subst (λ (o : Option InProgress). IfSome o OwesLearn) begun.1 (learn-way t walk at).0 in
@@ -273,7 +273,7 @@ module _ (scene : Scene) (course : Course) (walks : List Walk) (h : IsReached sc
       record { begun = begun.0; is = begun.1; owes = owes; can = (own-can scene.grammar course walks t walk at begun.0 owes.domain owes.line [] moves.0 begun.1 owes.stage moves.1).1 }
 
   -- a tree's turn is the event of the player
-  pub tree-answers : (t : ℕ) (walk new : Walk) (moved : Bool) → slice_get walks t ≡ Some walk → walk.begun ≡ [] → LooksFirst scene.grammar course moved (way_of walk) (way_of new) → Answers moved (event scene q (Turn.Tree (suc t))) (player_of course (slice_set walks t new)) q
+  pub tree-answers : (t : ℕ) (walk new : TreeOnWay) (moved : Bool) → slice_get walks t ≡ Some walk → walk.begun ≡ [] → LooksFirst scene.grammar course moved (way_of walk) (way_of new) → Answers moved (event scene q (Turn.Tree (suc t))) (player_of course (slice_set walks t new)) q
   tree-answers t walk new true at idle looks = tree-turn (suc t) ∙ looking-event scene.grammar course walks t walk at (idle-way walk idle) is-silent new looks
   tree-answers t walk new false at idle looks = (
     tree-turn (suc t) ∙ still-event scene.grammar course walks t walk at (idle-way walk idle) is-silent looks.0,
@@ -281,7 +281,7 @@ module _ (scene : Scene) (course : Course) (walks : List Walk) (h : IsReached sc
   )
 
   -- so is its own step
-  pub own-answers : (t : ℕ) (walk new : Walk) (later : Course) → slice_get walks t ≡ Some walk → MakesStep scene.grammar course later (way_of walk) (way_of new) → event scene q (Turn.Tree (suc t)) ≡ Some (player_of later (slice_set walks t new))
+  pub own-answers : (t : ℕ) (walk new : TreeOnWay) (later : Course) → slice_get walks t ≡ Some walk → MakesStep scene.grammar course later (way_of walk) (way_of new) → event scene q (Turn.Tree (suc t)) ≡ Some (player_of later (slice_set walks t new))
   own-answers t walk new later at makes =
       let moves = own-moves t walk at makes.begun makes.is in
       let can = own-can scene.grammar course walks t walk at makes.begun makes.domain makes.line makes.steps moves.0 makes.is makes.owes moves.1 in
@@ -351,5 +351,5 @@ module _ (scene : Scene) (course : Course) (walks : List Walk) (h : IsReached sc
 
 -- A tree at its beginning
 
-pub way-parts : (at later : Situations) (items left : List Item) (begun : List Attempt) (takes : List Take) → at ≡ later → items ≡ left → begun ≡ [] → takes ≡ [] → (let old : Way = record { at = at; items = items; begun = option_map begun_of (slice_get begun 0); takes = takes } in let new : Way = record { at = later; items = left; begun = None; takes = [] } in old ≡ new)
+pub way-parts : (at later : Situations) (items left : List Item) (begun : List RequestInProgress) (takes : List Take) → at ≡ later → items ≡ left → begun ≡ [] → takes ≡ [] → (let old : Way = record { at = at; items = items; begun = option_map begun_of (slice_get begun 0); takes = takes } in let new : Way = record { at = later; items = left; begun = None; takes = [] } in old ≡ new)
 way-parts at later items left begun takes a i b t = rw (a, i, b, t) refl

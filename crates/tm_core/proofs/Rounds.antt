@@ -5,7 +5,7 @@ use Rattle.std.specs.List.{AllByRecursion}
 use Rattle.std.proofs.Math.Seq.{drop-cons}
 use Rattle.std.proofs.lemmas.List.{map-append}
 use Rattle.tm_types.specs.declared.step.Turn.{Turn}
-use Rattle.tm_core.specs.declared.walk.Walk.{Walk}
+use Rattle.tm_core.specs.declared.ways.TreeOnWay.{TreeOnWay}
 use Rattle.tm_legal.specs.Legal.{Scene, Legal, final_policy}
 use Rattle.tm_legal.specs.Play.{Player, event, turn, turns, numbers_to, everybody, rounds, start_of, run_of, NobodyCanMove, Plays}
 use Rattle.tm_core.specs.Machine.{Course}
@@ -77,7 +77,7 @@ fewer true false a b c x y = omega arith
 fewer false true a b c x y = omega arith
 fewer false false a b c x y = omega arith
 
-module _ (scene : Scene) (course later : Course) (walks left : List Walk) (moved : Bool) (h : IsReached scene (player_of course walks)) (round : IsInRound scene (player_of course walks) (player_of later left) (length walks) moved) where
+module _ (scene : Scene) (course later : Course) (walks left : List TreeOnWay) (moved : Bool) (h : IsReached scene (player_of course walks)) (round : IsInRound scene (player_of course walks) (player_of later left) (length walks) moved) where
   abbrev old : Player
   old = player_of course walks
 

@@ -4,11 +4,11 @@ use Rattle.std.specs.Prelude.{◌≡◌, ◌+◌, ℕ, ⊤, Bool, true, false, L
 use Rattle.std.specs.Option.{option_map_or, option_and_then, option_to_list}
 use Rattle.std.specs.Ordering.{nat_cmp}
 use Rattle.std.specs.BTreeMap.{get}
-use Rattle.tm_core.specs.declared.situations.Spot.{Spot}
-use Rattle.tm_core.specs.declared.situations.Spots.{Spots}
-use Rattle.tm_core.specs.declared.walk.Owed.{Owed}
-use Rattle.tm_core.specs.declared.walk.Attempt.{Attempt}
-use Rattle.tm_core.specs.declared.walk.Walk.{Walk}
+use Rattle.tm_core.specs.declared.situations.ProcessSituation.{ProcessSituation}
+use Rattle.tm_core.specs.declared.situations.ProcessSituations.{ProcessSituations}
+use Rattle.tm_core.specs.declared.ways.Owed.{Owed}
+use Rattle.tm_core.specs.declared.ways.RequestInProgress.{RequestInProgress}
+use Rattle.tm_core.specs.declared.ways.TreeOnWay.{TreeOnWay}
 use Rattle.tm_types.specs.declared.request.Request.{Request}
 use Rattle.tm_types.specs.declared.request.Item.{Item}
 use Rattle.tm_types.specs.declared.step.Step.{Step}
@@ -29,7 +29,7 @@ use Rattle.tm_core.specs.Machine.{Course, history_of}
 use Rattle.tm_types.specs.declared.step.Turn.{Turn}
 
 -- a process and its domain; in a play no floor is raised
-abbrev pub situation_of : Spot → Situation
+abbrev pub situation_of : ProcessSituation → Situation
 situation_of spot = record { process = spot.process; domain = spot.domain; floor = 0 }
 
 -- a process that no line has changed yet stands in the tree's first domain
@@ -37,7 +37,7 @@ abbrev pub first_situation : Option ℕ → ℕ → Situation
 first_situation home pid = record { process = record { pid = pid; ppid = 0; ids = no_ids }; domain = home; floor = 0 }
 
 -- the situation of each process, by pid
-abbrev pub situations : Spots → Situations
+abbrev pub situations : ProcessSituations → Situations
 situations spots pid = option_map_or situation_of (get nat_cmp spots.changed pid) (first_situation spots.home pid)
 
 -- a list of one, or none
@@ -45,7 +45,7 @@ abbrev pub owed_steps : Owed → List Step
 owed_steps owed = option_to_list owed.line ++ option_to_list owed.lead
 
 -- a take on its way has had no look before, and no audit text
-abbrev pub begun_of : Attempt → InProgress
+abbrev pub begun_of : RequestInProgress → InProgress
 begun_of attempt =
     record {
       now = situation_of attempt.now;
@@ -61,7 +61,7 @@ begun_of attempt =
     }
 
 -- a tree on its way
-abbrev pub way_of : Walk → Way
+abbrev pub way_of : TreeOnWay → Way
 way_of walk = record { at = situations walk.spots; items = walk.lines; begun = option_map begun_of (slice_get walk.begun 0); takes = walk.takes }
 
 -- one line more: it is passed, or it is the next request
@@ -139,7 +139,7 @@ LooksFirst g course false old new = (do_pids old.items ≡ []) × (new ≡ old)
 -- Players
 
 -- what a machine and its trees stand for: nobody edits, and nobody is attached
-abbrev pub player_of : Course → List Walk → Player
+abbrev pub player_of : Course → List TreeOnWay → Player
 player_of course walks =
     record {
       state = record { policy = course.policy; queries = no_queries; cursors = []; ended = []; editors = []; trees = length walks };

@@ -10,9 +10,9 @@ ghost use Rattle.tm_core.specs.declared.looks.Told.{Told};
 ghost use Rattle.tm_core.specs.Stands.{situation_of, situations, owed_steps, begun_of, begun_with, looked, Looks, way_of, ItemIsOther, CanLook, LooksFirst};
 
 use crate::machine::Machine;
-use crate::situations::Spot;
+use crate::situations::ProcessSituation;
 use crate::verdicts::verdict_by;
-use crate::walk::{Attempt, Owed, Walk, begun, go_on, pass, steps_owed};
+use crate::ways::{Owed, RequestInProgress, TreeOnWay, begun, go_on, pass, steps_owed};
 use std::alloc::Global;
 use tm_list::NoMemory;
 use tm_policy::Rep;
@@ -47,7 +47,7 @@ struct Told {
 fn glance<R: Rep>(
     alloc: Global,
     machine: &Machine<R>,
-    now: Spot,
+    now: ProcessSituation,
     request: &Request,
 ) -> Result<Option<Told>, NoMemory>
     requires { IsOther request.now }
@@ -70,7 +70,12 @@ fn glance<R: Rep>(
 }
 
 /// The take that a look begins.
-fn attempt_of(alloc: Global, now: Spot, request: Request, told: Told) -> Attempt
+fn attempt_of(
+    alloc: Global,
+    now: ProcessSituation,
+    request: Request,
+    told: Told,
+) -> RequestInProgress
     ensures { (g : Grammar) → begun_of result ≡ begun_with g told.version (situation_of now) told.domain request told.verdict (owed_steps told.owed) }
 {
     let Told {
@@ -85,20 +90,20 @@ fn attempt_of(alloc: Global, now: Spot, request: Request, told: Told) -> Attempt
 /// The take that a look has begun goes on or ends.
 fn settle_look(
     alloc: Global,
-    walk: &mut Walk,
-    now: Spot,
+    tree: &mut TreeOnWay,
+    now: ProcessSituation,
     request: Request,
     told: Told,
 ) -> Result<(), NoMemory>
-    requires { walk.old.begun ≡ [] }
-    ensures { OnOk result ((g : Grammar) → going_on g (way_of walk.old) (begun_with g told.version (situation_of now) told.domain request told.verdict (owed_steps told.owed)) ≡ way_of walk.new) }
+    requires { tree.old.begun ≡ [] }
+    ensures { OnOk result ((g : Grammar) → going_on g (way_of tree.old) (begun_with g told.version (situation_of now) told.domain request told.verdict (owed_steps told.owed)) ≡ way_of tree.new) }
 {
     let attempt = attempt_of(alloc, now, request, told);
     go_on(
         alloc,
-        &mut walk.spots,
-        &mut walk.begun,
-        &mut walk.takes,
+        &mut tree.spots,
+        &mut tree.begun,
+        &mut tree.takes,
         attempt,
     )
 }
@@ -107,20 +112,20 @@ fn settle_look(
 fn look<R: Rep>(
     alloc: Global,
     machine: &Machine<R>,
-    walk: &mut Walk,
+    tree: &mut TreeOnWay,
     pid: u32,
     request: Request,
 ) -> Result<bool, NoMemory>
     requires other { IsOther request }
-    requires idle { walk.old.begun ≡ [] }
-    requires can { (g : Grammar) × IsSome (looked g machine.now (situations walk.old.spots pid) request) }
+    requires idle { tree.old.begun ≡ [] }
+    requires can { (g : Grammar) × IsSome (looked g machine.now (situations tree.old.spots pid) request) }
     ensures moved { IfOk result (λ moved. moved ≡ true) }
-    ensures looks { OnOk result ((g : Grammar) → Looks g machine.now (situations walk.old.spots pid) request (way_of walk.old) (way_of walk.new)) }
+    ensures looks { OnOk result ((g : Grammar) → Looks g machine.now (situations tree.old.spots pid) request (way_of tree.old) (way_of tree.new)) }
 {
-    let now = walk.spots.at(pid);
+    let now = tree.spots.at(pid);
     match glance(alloc, machine, now, &request) {
         Ok(Some(told)) => {
-            settle_look(alloc, walk, now, request, told)?;
+            settle_look(alloc, tree, now, request, told)?;
             Ok(true)
         }
         Ok(None) => {
@@ -138,15 +143,15 @@ fn look<R: Rep>(
 pub(crate) fn first_look<R: Rep>(
     alloc: Global,
     machine: &Machine<R>,
-    walk: &mut Walk,
+    tree: &mut TreeOnWay,
 ) -> Result<bool, NoMemory>
-    requires others { AllByRecursion ItemIsOther walk.old.lines }
-    requires idle { walk.old.begun ≡ [] }
-    requires can { (g : Grammar) × CanLook g machine.now (passed g (situations walk.old.spots) walk.old.lines).0 (passed g (situations walk.old.spots) walk.old.lines).1 }
-    ensures { IfOk result (λ moved. (g : Grammar) → LooksFirst g machine.now moved (way_of walk.old) (way_of walk.new)) }
+    requires others { AllByRecursion ItemIsOther tree.old.lines }
+    requires idle { tree.old.begun ≡ [] }
+    requires can { (g : Grammar) × CanLook g machine.now (passed g (situations tree.old.spots) tree.old.lines).0 (passed g (situations tree.old.spots) tree.old.lines).1 }
+    ensures { IfOk result (λ moved. (g : Grammar) → LooksFirst g machine.now moved (way_of tree.old) (way_of tree.new)) }
 {
-    match pass(&mut walk.spots, &mut walk.lines)? {
-        Some((pid, request)) => look(alloc, machine, walk, pid, request),
+    match pass(&mut tree.spots, &mut tree.lines)? {
+        Some((pid, request)) => look(alloc, machine, tree, pid, request),
         None => Ok(false),
     }
 }

@@ -6,7 +6,7 @@ ghost use Rattle.tm_core.specs.Stands.{way_of, begun_of, owed_steps};
 ghost use Rattle.tm_core.specs.Owing.{OwesStep, MakesStep, MakesOwed};
 
 use crate::machine::Machine;
-use crate::walk::{Attempt, Walk, go_on, take_owed};
+use crate::ways::{RequestInProgress, TreeOnWay, go_on, take_owed};
 use std::alloc::Global;
 use tm_list::NoMemory;
 use tm_policy::Rep;
@@ -14,7 +14,7 @@ use tm_types::entry::Entry;
 use tm_types::step::Step;
 
 /// The look of a take has one own step more.
-fn note(attempt: &mut Attempt, number: u64) -> Result<(), NoMemory>
+fn note(attempt: &mut RequestInProgress, number: u64) -> Result<(), NoMemory>
     ensures { OnOk result (attempt.new ≡ record attempt.old { look = record attempt.old.look { own = attempt.old.look.own ++ number ∷ [] } }) }
 {
     attempt.look.own.push(number)
@@ -24,15 +24,15 @@ fn note(attempt: &mut Attempt, number: u64) -> Result<(), NoMemory>
 fn learn_owed<R: Rep>(
     alloc: Global,
     machine: &mut Machine<R>,
-    walk: &mut Walk,
-    attempt: Attempt,
+    tree: &mut TreeOnWay,
+    attempt: RequestInProgress,
     domain: u32,
     line: Entry,
 ) -> Result<bool, NoMemory>
-    requires idle { walk.old.begun ≡ [] }
+    requires idle { tree.old.begun ≡ [] }
     requires can { IsSome (learn machine.old.policy domain line) }
     ensures moved { IfOk result (λ moved. moved ≡ true) }
-    ensures makes { OnOk result ((g : Grammar) → MakesOwed g machine.old machine.new (begun_of attempt) (owed_steps attempt.owed) domain line (way_of walk.old) (way_of walk.new)) }
+    ensures makes { OnOk result ((g : Grammar) → MakesOwed g machine.old machine.new (begun_of attempt) (owed_steps attempt.owed) domain line (way_of tree.old) (way_of tree.new)) }
 {
     let mut attempt = attempt;
     match machine.learn(alloc, attempt.now.process.pid, domain, line) {
@@ -40,9 +40,9 @@ fn learn_owed<R: Rep>(
             Ok(()) => {
                 go_on(
                     alloc,
-                    &mut walk.spots,
-                    &mut walk.begun,
-                    &mut walk.takes,
+                    &mut tree.spots,
+                    &mut tree.begun,
+                    &mut tree.takes,
                     attempt,
                 )?;
                 Ok(true)
@@ -63,15 +63,15 @@ fn learn_owed<R: Rep>(
 pub(crate) fn own_step<R: Rep>(
     alloc: Global,
     machine: &mut Machine<R>,
-    walk: &mut Walk,
+    tree: &mut TreeOnWay,
 ) -> Result<bool, NoMemory>
-    requires { OwesStep machine.old (way_of walk.old) }
+    requires { OwesStep machine.old (way_of tree.old) }
     ensures moved { IfOk result (λ moved. moved ≡ true) }
-    ensures makes { OnOk result ((g : Grammar) → MakesStep g machine.old machine.new (way_of walk.old) (way_of walk.new)) }
+    ensures makes { OnOk result ((g : Grammar) → MakesStep g machine.old machine.new (way_of tree.old) (way_of tree.new)) }
 {
-    match take_owed(&mut walk.begun) {
+    match take_owed(&mut tree.begun) {
         Some((step, attempt)) => match step {
-            Step::Learn(domain, line) => learn_owed(alloc, machine, walk, attempt, domain, line),
+            Step::Learn(domain, line) => learn_owed(alloc, machine, tree, attempt, domain, line),
             Step::Make(_, _) => unreachable!(),
             Step::Fail(_) => unreachable!(),
             Step::Ask(_, _, _) => unreachable!(),

@@ -7,7 +7,7 @@ ghost use Rattle.tm_core.specs.Stands.{IsBuilt, IsReached, IsInRound, IsOver, pl
 
 use crate::machine::Machine;
 use crate::player::{Player, step_alone, step_place};
-use crate::walk::Walk;
+use crate::ways::TreeOnWay;
 use std::alloc::Global;
 use tm_list::{NoMemory, Seq};
 use tm_policy::Rep;
@@ -19,8 +19,8 @@ fn play_turns<R: Rep>(
     player: &mut Player<R>,
     schedule: &[Turn],
 ) -> Result<(), NoMemory>
-    requires { (scene : Scene) × IsReached scene (player_of player.old.machine player.old.walks.items) }
-    ensures { OnOk result ((scene : Scene) → IsReached scene (player_of player.old.machine player.old.walks.items) → IsReached scene (player_of player.new.machine player.new.walks.items) × (turns scene (player_of player.old.machine player.old.walks.items) schedule.now ≡ player_of player.new.machine player.new.walks.items)) }
+    requires { (scene : Scene) × IsReached scene (player_of player.old.machine player.old.trees.items) }
+    ensures { OnOk result ((scene : Scene) → IsReached scene (player_of player.old.machine player.old.trees.items) → IsReached scene (player_of player.new.machine player.new.trees.items) × (turns scene (player_of player.old.machine player.old.trees.items) schedule.now ≡ player_of player.new.machine player.new.trees.items)) }
 {
     for turn in schedule {
         step_alone(alloc, player, *turn)?;
@@ -30,12 +30,12 @@ fn play_turns<R: Rep>(
 
 /// One event of each tree, by number: whether one of them has moved.
 fn play_round<R: Rep>(alloc: Global, player: &mut Player<R>) -> Result<bool, NoMemory>
-    requires { (scene : Scene) × IsReached scene (player_of player.old.machine player.old.walks.items) }
-    ensures round { IfOk result (λ moved. (scene : Scene) → IsReached scene (player_of player.old.machine player.old.walks.items) → IsInRound scene (player_of player.old.machine player.old.walks.items) (player_of player.new.machine player.new.walks.items) (length player.old.walks.items) moved) }
-    ensures less { IfOk result (λ moved. (if moved then 1 else 0) + work_left (player_of player.new.machine player.new.walks.items) ≤ work_left (player_of player.old.machine player.old.walks.items)) }
+    requires { (scene : Scene) × IsReached scene (player_of player.old.machine player.old.trees.items) }
+    ensures round { IfOk result (λ moved. (scene : Scene) → IsReached scene (player_of player.old.machine player.old.trees.items) → IsInRound scene (player_of player.old.machine player.old.trees.items) (player_of player.new.machine player.new.trees.items) (length player.old.trees.items) moved) }
+    ensures less { IfOk result (λ moved. (if moved then 1 else 0) + work_left (player_of player.new.machine player.new.trees.items) ≤ work_left (player_of player.old.machine player.old.trees.items)) }
 {
     let mut moved = false;
-    for place in 0..player.walks.len() {
+    for place in 0..player.trees.len() {
         if step_place(alloc, player, place)? {
             moved = true;
         }
@@ -45,8 +45,8 @@ fn play_round<R: Rep>(alloc: Global, player: &mut Player<R>) -> Result<bool, NoM
 
 /// Rounds in the default order, until nobody can move.
 fn play_rounds<R: Rep>(alloc: Global, player: &mut Player<R>) -> Result<(), NoMemory>
-    requires { (scene : Scene) × IsReached scene (player_of player.old.machine player.old.walks.items) }
-    ensures { OnOk result ((scene : Scene) → IsReached scene (player_of player.old.machine player.old.walks.items) → IsOver scene (player_of player.old.machine player.old.walks.items) (player_of player.new.machine player.new.walks.items)) }
+    requires { (scene : Scene) × IsReached scene (player_of player.old.machine player.old.trees.items) }
+    ensures { OnOk result ((scene : Scene) → IsReached scene (player_of player.old.machine player.old.trees.items) → IsOver scene (player_of player.old.machine player.old.trees.items) (player_of player.new.machine player.new.trees.items)) }
 {
     loop {
         if !play_round(alloc, player)? {
@@ -61,10 +61,10 @@ pub fn play_out<R: Rep>(
     mut player: Player<R>,
     schedule: &[Turn],
 ) -> Result<Player<R>, NoMemory>
-    requires { (scene : Scene) × IsReached scene (player_of player.machine player.walks.items) }
-    ensures over { IfOk result (λ played. (scene : Scene) → IsReached scene (player_of player.machine player.walks.items) → IsOver scene (turns scene (player_of player.machine player.walks.items) schedule.now) (player_of played.machine played.walks.items)) }
-    ensures ends { IfOk result (λ played. (scene : Scene) → IsBuilt scene → player_of player.machine player.walks.items ≡ start_of scene → final_policy scene (run_of (player_of played.machine played.walks.items)) ≡ played.machine.policy) }
-    ensures plays { IfOk result (λ played. (scene : Scene) → IsBuilt scene → player_of player.machine player.walks.items ≡ start_of scene → Plays scene schedule.now (run_of (player_of played.machine played.walks.items)) × Legal scene (run_of (player_of played.machine played.walks.items))) }
+    requires { (scene : Scene) × IsReached scene (player_of player.machine player.trees.items) }
+    ensures over { IfOk result (λ played. (scene : Scene) → IsReached scene (player_of player.machine player.trees.items) → IsOver scene (turns scene (player_of player.machine player.trees.items) schedule.now) (player_of played.machine played.trees.items)) }
+    ensures ends { IfOk result (λ played. (scene : Scene) → IsBuilt scene → player_of player.machine player.trees.items ≡ start_of scene → final_policy scene (run_of (player_of played.machine played.trees.items)) ≡ played.machine.policy) }
+    ensures plays { IfOk result (λ played. (scene : Scene) → IsBuilt scene → player_of player.machine player.trees.items ≡ start_of scene → Plays scene schedule.now (run_of (player_of played.machine played.trees.items)) × Legal scene (run_of (player_of played.machine played.trees.items))) }
 {
     play_turns(alloc, &mut player, schedule)?;
     play_rounds(alloc, &mut player)?;
@@ -82,23 +82,23 @@ fn append(out: &mut Seq<Take>, takes: Seq<Take>) -> Result<(), NoMemory>
 }
 
 /// The takes of all trees, tree by tree.
-fn all_takes(alloc: Global, walks: Vec<Walk>) -> Result<Seq<Take>, NoMemory>
-    ensures { IfOk result (λ takes. takes ≡ flat_map (λ (way : Way). way.takes) (map way_of walks.items)) }
+fn all_takes(alloc: Global, trees: Vec<TreeOnWay>) -> Result<Seq<Take>, NoMemory>
+    ensures { IfOk result (λ takes. takes ≡ flat_map (λ (way : Way). way.takes) (map way_of trees.items)) }
 {
     let mut all = Seq::new(alloc);
-    for walk in walks {
-        append(&mut all, walk.takes)?;
+    for tree in trees {
+        append(&mut all, tree.takes)?;
     }
     Ok(all)
 }
 
 /// The run of a play that is over, and the machine at its last version.
 pub fn end_play<R: Rep>(alloc: Global, player: Player<R>) -> Result<(Run, Machine<R>), NoMemory>
-    ensures run { IfOk result (λ ended. ended.0 ≡ run_of (player_of player.machine player.walks.items)) }
+    ensures run { IfOk result (λ ended. ended.0 ≡ run_of (player_of player.machine player.trees.items)) }
     ensures machine { IfOk result (λ ended. ended.1 ≡ player.machine) }
 {
-    let Player { machine, walks } = player;
+    let Player { machine, trees } = player;
     let steps = machine.history(alloc)?;
-    let takes = all_takes(alloc, walks)?;
+    let takes = all_takes(alloc, trees)?;
     Ok((Run { steps, takes }, machine))
 }

@@ -10,20 +10,20 @@ use tm_types::request::{Ids, Proc};
 
 /// A process, and the number of the domain that it is in.
 #[derive(Clone, Copy)]
-pub(crate) struct Spot {
+pub(crate) struct ProcessSituation {
     pub process: Proc,
     pub domain: Option<u32>,
 }
 
 /// The processes of a tree. One that no line has changed yet stands in the tree's first domain, without ids and parent.
 #[derive(Drop)]
-pub(crate) struct Spots {
+pub(crate) struct ProcessSituations {
     home: Option<u32>,
-    changed: BTreeMap<u32, Spot>,
+    changed: BTreeMap<u32, ProcessSituation>,
 }
 
 /// The process of that pid as a tree begins with it.
-fn first_spot(home: Option<u32>, pid: u32) -> Spot
+fn first_spot(home: Option<u32>, pid: u32) -> ProcessSituation
     ensures { situation_of result ≡ first_situation home pid }
 {
     let ids = Ids {
@@ -36,25 +36,25 @@ fn first_spot(home: Option<u32>, pid: u32) -> Spot
         sgid: 0,
         fsgid: 0,
     };
-    Spot {
+    ProcessSituation {
         process: Proc { pid, ppid: 0, ids },
         domain: home,
     }
 }
 
-impl Spots {
+impl ProcessSituations {
     /// Every process stands in this domain.
-    pub(crate) fn new(alloc: Global, home: Option<u32>) -> Spots
+    pub(crate) fn new(alloc: Global, home: Option<u32>) -> ProcessSituations
         ensures { situations result ≡ first_situation home }
     {
-        Spots {
+        ProcessSituations {
             home,
             changed: BTreeMap::new(alloc),
         }
     }
 
     /// The process of that pid.
-    pub(crate) fn at(&self, pid: u32) -> Spot
+    pub(crate) fn at(&self, pid: u32) -> ProcessSituation
         ensures { situation_of result ≡ situations self.now pid }
     {
         match self.changed.get(&pid) {
@@ -64,7 +64,7 @@ impl Spots {
     }
 
     /// Puts another process in the place of that pid; the others stay.
-    pub(crate) fn put(&mut self, pid: u32, spot: Spot) -> Result<(), NoMemory>
+    pub(crate) fn put(&mut self, pid: u32, spot: ProcessSituation) -> Result<(), NoMemory>
         ensures { OnOk result (situations self.new ≡ with_situation (situations self.old) pid (situation_of spot)) }
     {
         self.changed.insert(pid, spot)?;
@@ -75,30 +75,30 @@ impl Spots {
     pub(crate) fn set_ids(&mut self, pid: u32, ids: Ids) -> Result<(), NoMemory>
         ensures { OnOk result (situations self.new ≡ with_situation (situations self.old) pid (with_ids (situations self.old pid) ids)) }
     {
-        let Spot { process, domain } = self.at(pid);
+        let ProcessSituation { process, domain } = self.at(pid);
         let process = Proc { ids, ..process };
-        self.put(pid, Spot { process, domain })
+        self.put(pid, ProcessSituation { process, domain })
     }
 
     /// A `fork` line: the child has its parent's ids and domain.
     pub(crate) fn fork(&mut self, pid: u32, child: u32) -> Result<(), NoMemory>
         ensures { OnOk result (situations self.new ≡ with_situation (situations self.old) child (forked (situations self.old pid) child)) }
     {
-        let Spot { process, domain } = self.at(pid);
+        let ProcessSituation { process, domain } = self.at(pid);
         let process = Proc {
             pid: child,
             ppid: process.pid,
             ids: process.ids,
         };
-        self.put(child, Spot { process, domain })
+        self.put(child, ProcessSituation { process, domain })
     }
 
     /// After a take the process is in that domain.
     pub(crate) fn move_to(&mut self, pid: u32, domain: u32) -> Result<(), NoMemory>
         ensures { OnOk result (situations self.new ≡ with_situation (situations self.old) pid (record (situations self.old pid) { domain = Some domain })) }
     {
-        let Spot { process, .. } = self.at(pid);
+        let ProcessSituation { process, .. } = self.at(pid);
         let domain = Some(domain);
-        self.put(pid, Spot { process, domain })
+        self.put(pid, ProcessSituation { process, domain })
     }
 }

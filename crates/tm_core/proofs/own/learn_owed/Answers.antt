@@ -18,6 +18,6 @@ returns-in_ok-go_on-in-Ok-note-clause-makes g c = λ g'.
       start = c.in-Ok.ensures.start;
       made = c.in-Ok.ensures.made;
       goes = λ was.
-          let old : Way = record (way_of c.args.walk.now) { begun = was } in
-          ap (λ (n : ℕ). going_on g' old (after_step g' (begun_of c.args.attempt) (owed_steps c.args.attempt.owed) n (Reply.Learn c.in-Ok.field-0))) (sym number) ∙ ap (going_on g' old) (sym noted) ∙ c.in_ok-go_on-in-Ok-note.ensures g' c.args.walk.now.lines was;
+          let old : Way = record (way_of c.args.tree.now) { begun = was } in
+          ap (λ (n : ℕ). going_on g' old (after_step g' (begun_of c.args.attempt) (owed_steps c.args.attempt.owed) n (Reply.Learn c.in-Ok.field-0))) (sym number) ∙ ap (going_on g' old) (sym noted) ∙ c.in_ok-go_on-in-Ok-note.ensures g' c.args.tree.now.lines was;
     }

@@ -4,5 +4,5 @@ use Rattle.tm_legal.specs.Play.{Way}
 use Rattle.tm_core.specs.Stands.{way_of}
 use Rattle.tm_core.proofs.play.all_takes.Given as goal
 
-abbrev pub invariant-loop-walk : goal.invariant-loop-walk
-invariant-loop-walk l = l.all ≡ flat_map (λ (way : Way). way.takes) (map way_of l.yielded)
+abbrev pub invariant-loop-tree : goal.invariant-loop-tree
+invariant-loop-tree l = l.all ≡ flat_map (λ (way : Way). way.takes) (map way_of l.yielded)

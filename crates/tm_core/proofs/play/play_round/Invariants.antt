@@ -7,7 +7,7 @@ use Rattle.tm_core.proofs.play.play_round.Given as goal
 
 abbrev pub invariant-loop-place : goal.invariant-loop-place
 invariant-loop-place g l =
-    ((scene : Scene) × IsReached scene (player_of l.player.machine l.player.walks.items))
-    × (length l.player.walks.items ≡ length l.initial.player.walks.items)
-    × ((if l.moved then 1 else 0) + work_left (player_of l.player.machine l.player.walks.items) ≤ work_left (player_of l.initial.player.machine l.initial.player.walks.items))
-    × ((scene : Scene) → IsReached scene (player_of l.initial.player.machine l.initial.player.walks.items) → IsInRound scene (player_of l.initial.player.machine l.initial.player.walks.items) (player_of l.player.machine l.player.walks.items) l.place l.moved)
+    ((scene : Scene) × IsReached scene (player_of l.player.machine l.player.trees.items))
+    × (length l.player.trees.items ≡ length l.initial.player.trees.items)
+    × ((if l.moved then 1 else 0) + work_left (player_of l.player.machine l.player.trees.items) ≤ work_left (player_of l.initial.player.machine l.initial.player.trees.items))
+    × ((scene : Scene) → IsReached scene (player_of l.initial.player.machine l.initial.player.trees.items) → IsInRound scene (player_of l.initial.player.machine l.initial.player.trees.items) (player_of l.player.machine l.player.trees.items) l.place l.moved)

@@ -11,7 +11,7 @@ loop-turn-preserved g c =
       λ scene h.
           let before = c.loop-turn.invariant.1 scene h in (
             c.in_ok-step_alone.ensures.led scene before.0,
-            before.1 ∙ turns-next scene (player_of c.loop-turn.player.machine c.loop-turn.player.walks.items) (player_of c.step_alone.new.player.machine c.step_alone.new.player.walks.items) c.args.schedule.now c.loop-turn.turn-index _ c.in_ok-step_alone.field-0 within (c.in_ok-step_alone.ensures.event scene before.0),
+            before.1 ∙ turns-next scene (player_of c.loop-turn.player.machine c.loop-turn.player.trees.items) (player_of c.step_alone.new.player.machine c.step_alone.new.player.trees.items) c.args.schedule.now c.loop-turn.turn-index _ c.in_ok-step_alone.field-0 within (c.in_ok-step_alone.ensures.event scene before.0),
           ),
     )
 
@@ -20,4 +20,4 @@ returns g c =
     let past : length c.args.schedule.now ≤ c.loop-turn.turn-index = grind arith in
     λ scene h.
     let before = c.loop-turn.invariant.1 scene h in
-    (before.0, before.1 ∙ turns-end scene (player_of c.loop-turn.player.machine c.loop-turn.player.walks.items) c.args.schedule.now c.loop-turn.turn-index past)
+    (before.0, before.1 ∙ turns-end scene (player_of c.loop-turn.player.machine c.loop-turn.player.trees.items) c.args.schedule.now c.loop-turn.turn-index past)

@@ -6,6 +6,6 @@ use Rattle.tm_core.proofs.play.play_turns.Given as goal
 
 abbrev pub invariant-loop-turn : goal.invariant-loop-turn
 invariant-loop-turn g l =
-    ((scene : Scene) × IsReached scene (player_of l.player.machine l.player.walks.items))
-    × ((scene : Scene) → IsReached scene (player_of l.initial.player.machine l.initial.player.walks.items) → IsReached scene (player_of l.player.machine l.player.walks.items)
-    × (turns scene (player_of l.initial.player.machine l.initial.player.walks.items) l.schedule ≡ turns scene (player_of l.player.machine l.player.walks.items) (drop l.turn-index l.schedule)))
+    ((scene : Scene) × IsReached scene (player_of l.player.machine l.player.trees.items))
+    × ((scene : Scene) → IsReached scene (player_of l.initial.player.machine l.initial.player.trees.items) → IsReached scene (player_of l.player.machine l.player.trees.items)
+    × (turns scene (player_of l.initial.player.machine l.initial.player.trees.items) l.schedule ≡ turns scene (player_of l.player.machine l.player.trees.items) (drop l.turn-index l.schedule)))

@@ -2,7 +2,7 @@ use Rattle.std.proofs.Common.{ap, ◌∙◌}
 use Rattle.tm_legal.specs.Run.{at_start}
 use Rattle.tm_core.specs.Stands.{situations, first_situation}
 use Rattle.tm_core.proofs.Reached.{way-parts}
-use Rattle.tm_core.proofs.player.begin_walk.Goals as goal
+use Rattle.tm_core.proofs.player.begin_tree.Goals as goal
 
 pub returns : goal.returns
 returns c =

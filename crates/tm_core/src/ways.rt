@@ -12,7 +12,7 @@ ghost use Rattle.tm_core.specs.Stands.{situation_of, situations, owed_steps, beg
 
 use crate::grants;
 use crate::lines::Lines;
-use crate::situations::{Spot, Spots};
+use crate::situations::{ProcessSituation, ProcessSituations};
 use std::alloc::Global;
 use tm_list::{Copied, NoMemory, Seq};
 use tm_types::request::{Item, Request};
@@ -28,8 +28,8 @@ pub(crate) struct Owed {
 
 /// A take that has begun: where its process stands, the look that it is at, its verdict, where it leads, and what it owes.
 #[derive(Drop)]
-pub(crate) struct Attempt {
-    pub now: Spot,
+pub(crate) struct RequestInProgress {
+    pub now: ProcessSituation,
     pub before: u32,
     pub request: Request,
     pub look: Look,
@@ -40,15 +40,15 @@ pub(crate) struct Attempt {
 
 /// A tree on its way: its processes, the lines that are left, the take that has begun (one or none), and the takes that have ended.
 #[derive(Drop)]
-pub(crate) struct Walk {
-    pub spots: Spots,
+pub(crate) struct TreeOnWay {
+    pub spots: ProcessSituations,
     pub lines: Lines,
-    pub begun: Seq<Attempt>,
+    pub begun: Seq<RequestInProgress>,
     pub takes: Seq<Take>,
 }
 
 /// Passes an `ids` or `fork` line; of a request's line it gives its process and the request.
-fn pass_line(spots: &mut Spots, item: Item) -> Result<Option<(u32, Request)>, NoMemory>
+fn pass_line(spots: &mut ProcessSituations, item: Item) -> Result<Option<(u32, Request)>, NoMemory>
     ensures { IfOk result (λ next. PassesLine next item (situations spots.old) (situations spots.new)) }
 {
     match item {
@@ -66,7 +66,10 @@ fn pass_line(spots: &mut Spots, item: Item) -> Result<Option<(u32, Request)>, No
 
 /// Passes the `ids` and `fork` lines before the next request and takes the request out, with its process; None, and nothing changed,
 /// where no request is left.
-pub(crate) fn pass(spots: &mut Spots, lines: &mut Lines) -> Result<Option<(u32, Request)>, NoMemory>
+pub(crate) fn pass(
+    spots: &mut ProcessSituations,
+    lines: &mut Lines,
+) -> Result<Option<(u32, Request)>, NoMemory>
     ensures { IfOk result (λ next. Passes next (situations spots.old) lines.old (situations spots.new) lines.new) }
 {
     if !lines.has_request() {
@@ -194,12 +197,12 @@ pub(crate) fn steps_owed(alloc: Global, before: u32, verdict: &Verdict) -> Resul
 pub(crate) fn begun(
     alloc: Global,
     version: u64,
-    now: Spot,
+    now: ProcessSituation,
     before: u32,
     request: Request,
     verdict: Verdict,
     owed: Owed,
-) -> Attempt
+) -> RequestInProgress
     ensures { (g : Grammar) → begun_of result ≡ begun_with g version (situation_of now) before request verdict (owed_steps owed) }
 {
     let look = Look {
@@ -211,7 +214,7 @@ pub(crate) fn begun(
         heard: None,
     };
     let after = entered(verdict.step);
-    Attempt {
+    RequestInProgress {
         now,
         before,
         request,
@@ -225,13 +228,13 @@ pub(crate) fn begun(
 /// A take ends with its last event: it is put last, and its process is in the domain after it.
 fn end(
     alloc: Global,
-    spots: &mut Spots,
+    spots: &mut ProcessSituations,
     takes: &mut Seq<Take>,
-    attempt: Attempt,
+    attempt: RequestInProgress,
 ) -> Result<(), NoMemory>
     ensures { OnOk result ((g : Grammar) (items : List Item) (was : Option InProgress) → ended_way g (record { at = situations spots.old; items = items; begun = was; takes = takes.old }) (begun_of attempt) ≡ record { at = situations spots.new; items = items; begun = None; takes = takes.new }) }
 {
-    let Attempt {
+    let RequestInProgress {
         now,
         before,
         look,
@@ -289,7 +292,7 @@ fn next_owed(owed: Owed) -> Option<(Step, Owed)>
 }
 
 /// The first of these takes.
-fn first_of(begun: Vec<Attempt>) -> Option<Attempt>
+fn first_of(begun: Vec<RequestInProgress>) -> Option<RequestInProgress>
     ensures { result ≡ slice_get begun.items 0 }
 {
     begun.into_iter().next()
@@ -297,7 +300,7 @@ fn first_of(begun: Vec<Attempt>) -> Option<Attempt>
 
 /// Takes the take that has begun out of a tree, with the first step that it owes and without that step; None where none has begun or
 /// where it owes nothing.
-pub(crate) fn take_owed(begun: &mut Seq<Attempt>) -> Option<(Step, Attempt)>
+pub(crate) fn take_owed(begun: &mut Seq<RequestInProgress>) -> Option<(Step, RequestInProgress)>
     ensures first { IfSome result (λ next. option_map begun_of (slice_get begun.old 0) ≡ Some (record (begun_of next.1) { stage = Stage.Owing (next.0 ∷ owed_steps next.1.owed) })) }
     ensures some { (b : InProgress) (step : Step) (rest : List Step) → option_map begun_of (slice_get begun.old 0) ≡ Some b → b.stage ≡ Stage.Owing (step ∷ rest) → IsSome result }
     ensures left { begun.new ≡ [] }
@@ -305,7 +308,7 @@ pub(crate) fn take_owed(begun: &mut Seq<Attempt>) -> Option<(Step, Attempt)>
     let list = begun.take();
     match first_of(list) {
         Some(attempt) => {
-            let Attempt {
+            let RequestInProgress {
                 now,
                 before,
                 request,
@@ -317,7 +320,7 @@ pub(crate) fn take_owed(begun: &mut Seq<Attempt>) -> Option<(Step, Attempt)>
             match next_owed(owed) {
                 Some((step, owed)) => Some((
                     step,
-                    Attempt {
+                    RequestInProgress {
                         now,
                         before,
                         request,
@@ -337,10 +340,10 @@ pub(crate) fn take_owed(begun: &mut Seq<Attempt>) -> Option<(Step, Attempt)>
 /// A take goes on while it owes a step; else it ends.
 pub(crate) fn go_on(
     alloc: Global,
-    spots: &mut Spots,
-    begun: &mut Seq<Attempt>,
+    spots: &mut ProcessSituations,
+    begun: &mut Seq<RequestInProgress>,
     takes: &mut Seq<Take>,
-    attempt: Attempt,
+    attempt: RequestInProgress,
 ) -> Result<(), NoMemory>
     requires { begun.old ≡ [] }
     ensures { OnOk result ((g : Grammar) (items : List Item) (was : Option InProgress) → going_on g (record { at = situations spots.old; items = items; begun = was; takes = takes.old }) (begun_of attempt) ≡ record { at = situations spots.new; items = items; begun = option_map begun_of (slice_get begun.new 0); takes = takes.new }) }

@@ -1,7 +1,7 @@
 use Rattle.std.proofs.Common.{rules, ◌≡◌, ◌∷◌, None, Some}
 use Rattle.tm_core.specs.Stands.{situations, PassesLine}
 use Rattle.tm_core.proofs.Walking.{pass_more, pids_more, pass_met}
-use Rattle.tm_core.proofs.walk.pass.Goals as goal
+use Rattle.tm_core.proofs.ways.pass.Goals as goal
 
 pub loop-item-preserved : goal.loop-item-preserved
 loop-item-preserved c =

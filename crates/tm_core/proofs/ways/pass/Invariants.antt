@@ -3,7 +3,7 @@ use Rattle.tm_rules.specs.Grammar.{Grammar}
 use Rattle.tm_legal.specs.Run.{do_pids}
 use Rattle.tm_legal.specs.Play.{passed}
 use Rattle.tm_core.specs.Stands.{situations}
-use Rattle.tm_core.proofs.walk.pass.Given as goal
+use Rattle.tm_core.proofs.ways.pass.Given as goal
 
 abbrev pub invariant-loop-item : goal.invariant-loop-item
 invariant-loop-item l = ((g : Grammar) → passed g (situations l.spots) l.lines ≡ passed g (situations l.initial.spots) l.initial.lines) × (do_pids l.lines ≡ do_pids l.initial.lines)

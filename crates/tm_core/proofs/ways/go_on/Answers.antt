@@ -3,7 +3,7 @@ use Rattle.tm_word.specs.Matching.{is_empty}
 use Rattle.tm_legal.specs.Play.{Stage}
 use Rattle.tm_core.specs.Stands.{situations, owed_steps, begun_of}
 use Rattle.tm_core.proofs.Walking.{empty_is, on_ok, going_end}
-use Rattle.tm_core.proofs.walk.go_on.Goals as goal
+use Rattle.tm_core.proofs.ways.go_on.Goals as goal
 
 pub returns-then-owes_nothing : goal.returns-then-owes_nothing
 returns-then-owes_nothing c =
