@@ -6,14 +6,16 @@ use crate::samples::{policy, process, read, read_line};
 use std::alloc::{AllocError, Global};
 use std::test::Fail;
 use tm_core::{Machine, verdict};
-use tm_list::{Copied, NoMemory};
-use tm_policy::{Plain, PolicyCalls, Rep, apply_learn, domain_at, is_few, print_entry, profile_of};
+use tm_list::{Copied, NoMemory, Seq};
+use tm_policy::{
+    Plain, PolicyCalls, Rep, apply_learn, apply_make, domain_at, is_few, print_entry, profile_of,
+};
 use tm_rules::{is_execute, is_manual};
 use tm_types::entry::Entry;
 use tm_types::function_at;
 use tm_types::policy::{Mode, Policy};
 use tm_types::request::Request;
-use tm_types::step::LearnReply;
+use tm_types::step::{LearnReply, MakeReply};
 use tm_types::verdict::{EntryPlace, Reason, Verdict};
 use tm_word::bytes_equal;
 
@@ -29,6 +31,21 @@ fn learn(alloc: Global, policy: &mut Policy, line: &Entry) -> Result<LearnReply,
         return Err(AllocError);
     }
     apply_learn(alloc, policy, 0, line)
+}
+
+/// The reply to a domain of this name that is made from the first domain; that one and its profile are there.
+fn make(alloc: Global, policy: &mut Policy, name: &[u8]) -> Result<MakeReply, NoMemory> {
+    let Some(domain) = domain_at(policy, 0) else {
+        return Err(AllocError);
+    };
+    let Some(_profile) = profile_of(policy, domain) else {
+        return Err(AllocError);
+    };
+    if !is_few(policy) {
+        return Err(AllocError);
+    }
+    let name = Seq::from_bytes(alloc, name)?;
+    apply_make(alloc, policy, 0, name)
 }
 
 /// The verdict on a request in the domain of this number, which is there with its profile; the request is neither an execute nor a manual
@@ -124,6 +141,26 @@ fn lines_are_learned_up_to_the_quota(rt: HostRuntime) -> Result<(), Fail> {
         lines(alloc, copied.policy())?.as_slice(),
         b"file read /a\nfile read /b\nfile read /c\n".as_slice()
     );
+    Ok(())
+}
+
+#[test]
+fn a_domain_is_made_once(rt: HostRuntime) -> Result<(), Fail> {
+    let alloc = rt.alloc();
+    let mut grown = policy(alloc, Mode::Enforcing, None)?;
+    assert!(rt; matches!(make(alloc, &mut grown, b"<kernel> /y")?, MakeReply::New(2)));
+    assert!(rt; matches!(make(alloc, &mut grown, b"<kernel> /y")?, MakeReply::Old(2)));
+    assert!(rt; matches!(make(alloc, &mut grown, b"<kernel> /x")?, MakeReply::Old(1)));
+    assert_eq!(rt; grown.domains.len(), 3);
+    match domain_at(&grown, 2) {
+        Some(domain) => {
+            assert!(rt; bytes_equal(domain.name.bytes(), b"<kernel> /y"));
+            assert!(rt; domain.live);
+            assert_eq!(rt; domain.profile, 1);
+            assert_eq!(rt; domain.entries.len(), 0);
+        }
+        None => assert!(rt; false),
+    }
     Ok(())
 }
 
