@@ -13,9 +13,9 @@ use tm_list::{NoMemory, Seq};
 use tm_types::entry::Entry;
 use tm_types::policy::{Cursor, Domain, Policy};
 
-/// The chosen domain, where it is live.
+/// The chosen domain with its number, where it is live. Takes no memory.
 #[tactic(auto, using(crate::proofs::ShortLists::short_entries))]
-pub(crate) fn chosen(policy: &Policy, cursor: Cursor) -> Option<(u32, &Domain)>
+pub fn chosen(policy: &Policy, cursor: Cursor) -> Option<(u32, &Domain)>
     ensures found { option_map (λ (pair : _). (pair.0, pair.1.now)) result ≡ chosen policy.now cursor }
     ensures there { IfSome result (λ pair. domain_at policy.now pair.0 ≡ Some pair.1.now) }
     ensures within { IfSome result (λ pair. pair.0 < length policy.now.domains) }

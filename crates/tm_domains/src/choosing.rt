@@ -15,8 +15,8 @@ use tm_types::policy::{Cursor, Domain, Policy};
 use tm_types::step::EditReply;
 use tm_types::unions::DomainName;
 
-// A live domain without flags and entries.
-fn new_domain(alloc: Global, name: DomainName) -> Domain
+/// A live domain of this name with profile 0, without groups, flags and entries. Takes no memory.
+pub fn new_domain(alloc: Global, name: DomainName) -> Domain
     ensures { result ≡ new_domain name 0 [] }
 {
     Domain {

@@ -19,8 +19,8 @@ use tm_types::function_at;
 use tm_types::policy::{Domain, Mode, Policy, Profile};
 use tm_types::step::LearnReply;
 
-// Whether the permission at a place, from 0, of its row is among these.
-fn has_permission(bits: u16, place: u8) -> bool
+/// Whether the permission at a place, from 0, of its row is among these.
+pub fn has_permission(bits: u16, place: u8) -> bool
     ensures { result ≡ has_permission bits place }
 {
     if place < 16 {
@@ -123,8 +123,11 @@ fn reply_in(
     }
 }
 
-// Adds a line to the domain of this number, which has so many permissions, and gives how many it has afterwards.
-fn add_counted(
+/// Adds a line to the entries of the domain of this number, which has so many permissions, and gives how many it has afterwards. What is
+/// looked up comes in: how many permissions the domain has, and where the entry stands that the line shares.
+///
+/// Errors: want of memory, also where the domain would have 2^32 entries; the policy is then as before.
+pub fn add_counted(
     policy: &mut Policy,
     number: u32,
     permissions: u64,

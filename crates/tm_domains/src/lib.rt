@@ -11,9 +11,10 @@ mod lines;
 mod making;
 mod managers;
 
-pub use choosing::{choose_known, delete_known, select_known};
+pub use changing::chosen;
+pub use choosing::{choose_known, delete_known, new_domain, select_known};
 pub use finding::{domain_at, find_namespace, live_domain, profile_numbered, profile_of};
-pub use learning::learn_known;
+pub use learning::{add_counted, has_permission, learn_known};
 pub use lines::{
     add_acl, apply_domain, clear_failed, clear_quota, leave_group, raise_failed, raise_quota,
     remove_acl, use_group, use_profile,

@@ -8,8 +8,8 @@ ghost use Rattle.tm_grammar.specs.Tomoyo.{tomoyo_grammar};
 ghost use Rattle.tm_load.specs.Faults.{load_cause};
 
 use std::alloc::Global;
-use tm_edit::apply_line;
-use tm_types::policy::{Cursor, Policy};
+use tm_policy::Rep;
+use tm_types::policy::Cursor;
 use tm_types::step::{EditReply, FileKind, LoadFault};
 use tm_word::cut_at;
 
@@ -29,24 +29,24 @@ fn is_done(reply: EditReply) -> bool
 
 // Does the line with this number, which has to be done.
 #[tactic(auto, unfolding(tm_rules::specs::Load::load_lines))]
-fn load_line(
+fn load_line<R: Rep>(
     alloc: Global,
     file: FileKind,
     number: u64,
     line: &[u8],
-    policy: &mut Policy,
+    rep: &mut R,
     cursor: &mut Cursor,
 ) -> Result<(), LoadFault>
-    requires { IsFew policy.old }
+    requires { IsFew (R.policy rep.old) }
     ensures done { MatchResult result
         (λ _. (lines : List Text) →
-        load_lines tomoyo_grammar file number (line.now ∷ lines) policy.old cursor.old ≡
-        load_lines tomoyo_grammar file (suc number) lines policy.new cursor.new)
+        load_lines tomoyo_grammar file number (line.now ∷ lines) (R.policy rep.old) cursor.old ≡
+        load_lines tomoyo_grammar file (suc number) lines (R.policy rep.new) cursor.new)
         (λ fault. (lines : List Text) →
-        Fails (load_cause fault) (load_lines tomoyo_grammar file number (line.now ∷ lines) policy.old cursor.old)) }
-    ensures few { IsFew policy.new }
+        Fails (load_cause fault) (load_lines tomoyo_grammar file number (line.now ∷ lines) (R.policy rep.old) cursor.old)) }
+    ensures few { IsFew (R.policy rep.new) }
 {
-    match apply_line(alloc, policy, file, cursor, line) {
+    match rep.apply_line(alloc, file, cursor, line) {
         Ok(reply) => {
             if is_done(reply) {
                 Ok(())
@@ -62,25 +62,25 @@ fn load_line(
 ///
 /// Errors: the first line that isn't done, or want of memory.
 #[tactic(auto, unfolding(tm_rules::specs::Load::load_lines))]
-pub(crate) fn load_file(
+pub(crate) fn load_file<R: Rep>(
     alloc: Global,
     file: FileKind,
     text: &[u8],
-    start: Policy,
-) -> Result<Policy, LoadFault>
-    requires { IsFew start }
-    ensures exact { Gives load_cause (λ policy. policy) result (load_file tomoyo_grammar file text.now start) }
-    ensures few { IfOk result IsFew }
+    start: R,
+) -> Result<R, LoadFault>
+    requires { IsFew (R.policy start) }
+    ensures exact { Gives load_cause R.policy result (load_file tomoyo_grammar file text.now (R.policy start)) }
+    ensures few { IfOk result (λ rep. IsFew (R.policy rep)) }
 {
-    let mut policy = start;
+    let mut rep = start;
     let mut cursor = None;
     let mut rest = text;
     let mut number = 1;
     while let Some((line, after)) = cut_at(b'\n', rest) {
-        load_line(alloc, file, number, line, &mut policy, &mut cursor)?;
+        load_line(alloc, file, number, line, &mut rep, &mut cursor)?;
         rest = after;
         number += 1;
     }
-    load_line(alloc, file, number, rest, &mut policy, &mut cursor)?;
-    Ok(policy)
+    load_line(alloc, file, number, rest, &mut rep, &mut cursor)?;
+    Ok(rep)
 }

@@ -1,36 +1,12 @@
 -- Maps by number: what is taken out is put back, changed or as it was.
-use Rattle.std.proofs.Common.{◌≡◌, ℕ, ◌<◌, ◌≤◌, ◌==◌, Bool, true, false, ◌&&◌, nat_lt, List, [], ◌∷◌, refl, sym, ap, ◌∙◌, subst, eq-eqb, arith}
+use Rattle.std.proofs.Common.{◌≡◌, ℕ, ◌<◌, ◌≤◌, ◌==◌, Bool, true, false, nat_lt, List, [], ◌∷◌, refl, sym, ap, ◌∙◌, subst, eq-eqb, arith}
 use Rattle.std.specs.Prelude.{Option, Some, None, IsSome, if◌then◌else◌}
 use Rattle.std.specs.List.{AllByRecursion}
 use Rattle.std.proofs.lemmas.Bool.{ne_eqb, eqb-true, ltb-true, ltb-false}
-use Rattle.tm_list.specs.Map.{AllAbove, Rises}
+use Rattle.tm_list.specs.Map.{AllAbove}
+use Rattle.tm_namespaces.specs.AclGroups.{Rising}
 use Rattle.tm_rules.specs.Policy.{at_key}
 use Rattle.tm_rules.specs.Edit.{put_key, remove_key}
-use Rattle.tm_namespaces.specs.Rising.{rises_after}
-
-abbrev pub Rising : {A : Type 0} → List (ℕ × A) → Type 0
-Rising xs = Rises (λ (n : ℕ). n) xs
-
-both : (a b : Bool) → (a && b) ≡ true → (a ≡ true) × (b ≡ true)
-both true b h = (refl, h)
-both false b h = absurd cc
-
-above-weaker : {A : Type 0} (n m : ℕ) (xs : List (ℕ × A)) → n ≤ m → AllAbove (λ (n : ℕ). n) m xs → AllAbove (λ (n : ℕ). n) n xs
-above-weaker n m [] le above = tt
-above-weaker n m (x ∷ xs) le above = (omega (arith, le, above.0), above-weaker n m xs le above.1)
-
-rising-after : {A : Type 0} (m : ℕ) (xs : List (ℕ × A)) → rises_after (Some m) xs ≡ true → AllAbove (λ (n : ℕ). n) m xs × Rising xs
-rising-after m [] h = (tt, tt)
-rising-after m (x ∷ xs) h =
-    let parts = both (nat_lt m x.0) (rises_after (Some x.0) xs) h in
-    let less : m < x.0 = ltb-true _ _ parts.0 in
-    let rest = rising-after x.0 xs parts.1 in
-    ((less, above-weaker m x.0 xs (omega (arith, less)) rest.0), (rest.0, rest.1))
-
--- numbers that pass the test rise
-pub rising_by_test : {A : Type 0} (xs : List (ℕ × A)) → rises_after None xs ≡ true → Rising xs
-rising_by_test [] h = tt
-rising_by_test (x ∷ xs) h = rising-after x.0 xs h
 
 -- what was put is there
 pub put_there : {A : Type 0} (n : ℕ) (v : A) (xs : List (ℕ × A)) → at_key (put_key n v xs) n ≡ Some v
@@ -111,6 +87,45 @@ pub put_again : {A : Type 0} (n : ℕ) (d v : A) (xs ys zs : List (ℕ × A)) (r
 put_again n d v xs ys zs r is e written =
     let there : r ≡ Some d = e ∙ ap (λ t. at_key t n) is ∙ put_there n d xs in
     written (subst IsSome (sym there) refl) ∙ ap (put_key n v) is ∙ put_twice n d v xs
+
+-- a key that is taken out is gone
+pub gone : {A : Type 0} (n : ℕ) (xs : List (ℕ × A)) → Rising xs → at_key (remove_key n xs) n ≡ None
+gone n [] rises = refl
+gone n (x ∷ xs) rises = go (gone n xs rises.1) (x.0 == n) refl
+  where
+    go : at_key (remove_key n xs) n ≡ None → (c : Bool) → (x.0 == n) ≡ c → at_key (if c then xs else x ∷ remove_key n xs) n ≡ None
+    go ih true k = let same : x.0 ≡ n = eqb-true _ _ k in above_none n x.0 xs (omega (arith, same)) rises.0
+    go ih false k = rw k ih
+
+-- a key that isn't there isn't taken out
+pub without_none : {A : Type 0} (n : ℕ) (xs : List (ℕ × A)) → at_key xs n ≡ None → remove_key n xs ≡ xs
+without_none n [] e = refl
+without_none n (x ∷ xs) e = go (without_none n xs) (x.0 == n) e
+  where
+    go : (at_key xs n ≡ None → remove_key n xs ≡ xs) → (c : Bool) → (if c then Some x.1 else at_key xs n) ≡ None → (if c then xs else x ∷ remove_key n xs) ≡ x ∷ xs
+    go ih true e = absurd cc
+    go ih false e = ap (λ t. x ∷ t) (ih e)
+
+-- a placeholder that is taken out leaves what is left without what was there first
+pub without_put : {A : Type 0} (n : ℕ) (v w : A) (xs : List (ℕ × A)) → Rising xs → at_key xs n ≡ Some w → remove_key n (put_key n v xs) ≡ remove_key n xs
+without_put n v w [] rises e = absurd cc
+without_put n v w (x ∷ xs) rises e = go (without_put n v w xs rises.1) (nat_lt x.0 n) (x.0 == n) refl refl e
+  where
+    here : (n == n) ≡ true
+    here = eq-eqb n n refl
+
+    go : (at_key xs n ≡ Some w → remove_key n (put_key n v xs) ≡ remove_key n xs) → (b c : Bool) → nat_lt x.0 n ≡ b → (x.0 == n) ≡ c → (if c then Some x.1 else at_key xs n) ≡ Some w
+        → remove_key n (if b then x ∷ put_key n v xs else (if c then (n, v) ∷ xs else (n, v) ∷ x ∷ xs)) ≡ (if c then xs else x ∷ remove_key n xs)
+    go ih true true h k e =
+        let less : x.0 < n = ltb-true _ _ h in
+        let same : x.0 ≡ n = eqb-true _ _ k in
+        absurd (omega (arith, less, same))
+    go ih true false h k e = rw k (ap (λ t. x ∷ t) (ih e))
+    go ih false true h k e = rw here refl
+    go ih false false h k e =
+        let at_most : n ≤ x.0 = ltb-false _ _ h in
+        let none : at_key xs n ≡ None = above_none n x.0 xs at_most rises.0 in
+        absurd cc
 
 -- each value keeps what it has
 pub each_put : {A : Type 0} (P : A → Type 0) (n : ℕ) (v : A) (xs : List (ℕ × A)) → P v → AllByRecursion (λ (pair : ℕ × A). P pair.1) xs → AllByRecursion (λ (pair : ℕ × A). P pair.1) (put_key n v xs)

@@ -1,11 +1,12 @@
 -- The entries of ACL groups: what a line adds to them and takes from them.
-use Rattle.std.specs.Prelude.{ℕ, Bool, true, false, ◌&&◌, ◌==◌, List, [], ◌∷◌}
+use Rattle.std.specs.Prelude.{ℕ, List}
 use Rattle.std.specs.List.{AllByRecursion}
 use Rattle.tm_types.specs.declared.entry.Entry.{Entry}
 use Rattle.tm_types.specs.declared.policy.GroupLine.{GroupLine}
 use Rattle.tm_types.specs.declared.policy.Namespace.{Namespace}
 use Rattle.tm_rules.specs.Few.{IsShort}
-use Rattle.tm_rules.specs.Policy.{adding, deleting, same_line, without_permissions}
+use Rattle.tm_list.specs.Map.{Rises}
+use Rattle.tm_rules.specs.Policy.{adding, deleting}
 use Rattle.tm_rules.specs.Edit.{acl_group, with_group}
 
 -- the namespace with a line more in its group
@@ -16,12 +17,10 @@ line_added line ns = with_group line.group (adding line.entry (acl_group ns line
 abbrev pub line_taken : GroupLine → Namespace → Namespace
 line_taken line ns = with_group line.group (deleting line.entry (acl_group ns line.group)) ns
 
--- a line takes all from a list: there is one entry at most, and the line takes all of its permissions
-abbrev pub takes_all : Entry → List Entry → Bool
-takes_all line [] = true
-takes_all line (entry ∷ []) = same_line entry line && without_permissions entry.perms.bits line.perms.bits == 0
-takes_all line (entry ∷ other ∷ entries) = false
-
 -- the entries of each group are short
 abbrev pub AreShort : List (ℕ × List Entry) → Type 0
 AreShort groups = AllByRecursion (λ (group : ℕ × List Entry). IsShort group.1) groups
+
+-- the numbers of a map rise
+abbrev pub Rising : {A : Type 0} → List (ℕ × A) → Type 0
+Rising xs = Rises (λ (n : ℕ). n) xs

@@ -1,5 +1,4 @@
 pub mod Named
 pub mod Effects
 pub mod Pairs
-pub mod Rising
 pub mod AclGroups

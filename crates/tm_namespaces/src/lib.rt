@@ -6,11 +6,11 @@
 mod alike;
 mod groups;
 mod namespaces;
-mod numbered;
 mod profiles;
 mod rules;
 
 pub use alike::{Alike, is_pair_there, is_there, join, leave, leave_pair};
-pub use groups::{add_group_line, has_group_line, remove_group_line};
+pub use groups::{add_group_line, add_group_line_at, has_group_line, remove_group_line};
+pub use namespaces::namespace_place;
 pub use profiles::apply_profile;
 pub use rules::{add_rule, has_rule, remove_rule};

@@ -45,8 +45,8 @@ fn empty_namespace(alloc: Global, name: Text) -> Namespace
     }
 }
 
-/// Where the namespace of that name stands.
-pub(crate) fn namespace_place(namespaces: &[Namespace], name: &[u8]) -> Option<usize>
+/// Where the namespace of that name stands among these, where it has a line. Takes no memory.
+pub fn namespace_place(namespaces: &[Namespace], name: &[u8]) -> Option<usize>
     ensures found { result ≡ position_from (λ (ns : Namespace). texts_equal ns.name name.now) 0 namespaces.now }
     ensures within { IfSome result (λ place. place < length namespaces.now) }
 {

@@ -9,8 +9,7 @@ ghost use Rattle.tm_rules.specs.Edit.{in_namespace, new_profile, profile_line, p
 ghost use Rattle.tm_namespaces.specs.Effects.{number_of, profile_after};
 
 use crate::namespaces::{Change, in_namespace};
-use crate::numbered::is_rising;
-use std::alloc::{AllocError, Global};
+use std::alloc::Global;
 use tm_list::{Map, NoMemory, Seq};
 use tm_types::policy::{
     Config, Logs, Mode, Namespace, Profile, ProfileEffect, Profiles, Setting, SlotName,
@@ -126,10 +125,6 @@ fn on_profile(
     ensures done { OnOk result (profiles.new ≡ put_key number (profile_after effect (unwrap_or (at_key profiles.old number) new_profile)) profiles.old) }
     ensures kept { OnErr result (profiles.new ≡ profiles.old) }
 {
-    if !is_rising(profiles.as_slice()) {
-        drop(effect);
-        return Err(AllocError);
-    }
     match profiles.replace(&number, new_profile(alloc)) {
         Some(mut profile) => {
             let outcome = change_profile(&mut profile, effect);

@@ -1,9 +1,5 @@
-pub mod Built
-pub mod Edits
 pub mod LearnLaws
 pub mod Executes
-pub mod ShortLists
 pub mod Lists
 pub mod Finds
 pub mod FewLaws
-pub mod LineExamples

@@ -7,11 +7,12 @@ use crate::searching::search;
 use std::alloc::Global;
 use std::marker::Model;
 use tm_domains::{apply_fail, live_domain};
+use tm_edit::apply_line;
 use tm_list::{Copied, NoMemory};
 use tm_types::entry::Entry;
-use tm_types::policy::Policy;
+use tm_types::policy::{Cursor, Policy};
 use tm_types::request::{Proc, Request};
-use tm_types::step::{LearnReply, MakeReply};
+use tm_types::step::{EditReply, FileKind, LearnReply, MakeReply};
 use tm_types::unions::DomainName;
 use tm_types::verdict::Found;
 
@@ -36,6 +37,14 @@ impl Plain {
     {
         Plain { policy }
     }
+
+    /// Gives the policy back, without taking memory.
+    pub fn into_policy(self) -> Policy
+        ensures { result ≡ self }
+    {
+        let Plain { policy } = self;
+        policy
+    }
 }
 
 impl Rep for Plain {
@@ -51,6 +60,16 @@ impl Rep for Plain {
 
     fn live_domain(&self, name: &DomainName) -> Option<u32> {
         live_domain(&self.policy, name)
+    }
+
+    fn apply_line(
+        &mut self,
+        alloc: Global,
+        file: FileKind,
+        cursor: &mut Cursor,
+        line: &[u8],
+    ) -> Result<EditReply, NoMemory> {
+        apply_line(alloc, &mut self.policy, file, cursor, line)
     }
 
     fn apply_learn(

@@ -4,9 +4,9 @@ ghost use Rattle.std.specs.Prelude.{◌≡◌, Some, IsSome, IfOk, OnErr};
 use std::alloc::Global;
 use tm_list::NoMemory;
 use tm_types::entry::Entry;
-use tm_types::policy::Policy;
+use tm_types::policy::{Cursor, Policy};
 use tm_types::request::{Proc, Request};
-use tm_types::step::{LearnReply, MakeReply};
+use tm_types::step::{EditReply, FileKind, LearnReply, MakeReply};
 use tm_types::unions::DomainName;
 use tm_types::verdict::Found;
 
@@ -18,6 +18,8 @@ pub trait Rep: Sized + Drop {
     ghost use Rattle.tm_rules.specs.Policy.{live_domain};
     ghost use Rattle.tm_rules.specs.Search.{found};
     ghost use Rattle.tm_rules.specs.Changes.{learn, make, fail};
+    ghost use Rattle.tm_rules.specs.Edit.{apply_line};
+    ghost use Rattle.tm_grammar.specs.Tomoyo.{tomoyo_grammar};
 
     ghost policy: { Self → Policy };
 
@@ -35,6 +37,23 @@ pub trait Rep: Sized + Drop {
     fn live_domain(&self, name: &DomainName) -> Option<u32>
         requires { IsFew (policy self.now) }
         ensures { result ≡ live_domain (policy self.now) name.now };
+
+    /// Does a line of a policy file, whatever its bytes are, with the cursor of that file or editor, and gives its reply: the line is
+    /// done, or refused by the policy as it stands, or it is outside the grammar. A line that isn't done leaves the policy as it was,
+    /// and the cursor too but for a `select` that finds nothing. Errors: want of memory, also where a list would have 2^32 members;
+    /// policy and cursor are then as before.
+    fn apply_line(
+        &mut self,
+        alloc: Global,
+        file: FileKind,
+        cursor: &mut Cursor,
+        line: &[u8],
+    ) -> Result<EditReply, NoMemory>
+        requires { IsFew (policy self.old) }
+        ensures done { IfOk result (λ reply. apply_line tomoyo_grammar (policy self.old) file cursor.old line.now ≡
+            record { policy = policy self.new; cursor = cursor.new; reply = reply }) }
+        ensures kept { OnErr result ((policy self.new ≡ policy self.old) × (cursor.new ≡ cursor.old)) }
+        ensures few { IsFew (policy self.new) };
 
     /// Learns a line in the domain of this number, and gives the reply: `Mode` where the mode isn't learning, else `There` where the
     /// domain has the line, else `Quota` where it is full, which raises its flag `quota_exceeded`, else `Added`. The domain and its

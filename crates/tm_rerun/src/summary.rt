@@ -2,10 +2,11 @@
 ghost use Rattle.std.specs.Prelude.{◌≡◌, ◌++◌, [], ◌∷◌, decimal, IfOk, OnOk};
 ghost use Rattle.tm_rerun.specs.Summary.{yes_or_no, is_added_reply, is_added, granted_count, learned_count, live_count, counts_text, growth_text, kinds_text, summary_text};
 
-use crate::{is_clean, is_plain};
+use crate::clean::is_clean;
 use std::alloc::Global;
 use tm_list::NoMemory;
 use tm_number::{Base, Number, write_number};
+use tm_policy::is_plain;
 use tm_types::policy::{Domain, Policy};
 use tm_types::step::{LearnReply, Reply, Run, Step, Take};
 

@@ -6,14 +6,14 @@ use Rattle.tm_load.proofs.lines.load_file.Goals as goal
 
 -- the last line can't be done
 pub returns-in_err-load_line-2-clause-exact : goal.returns-in_err-load_line-2-clause-exact
-returns-in_err-load_line-2-clause-exact c =
-    let whole = load_file tomoyo_grammar c.args.file c.args.text.now c.args.start in
+returns-in_err-load_line-2-clause-exact g c =
+    let whole = load_file tomoyo_grammar c.args.file c.args.text.now (g.R.Rep.policy c.args.start) in
     let p = err_from_is_err_and c.from_residual-in_err-load_line-2.result c.from_residual-in_err-load_line-2.ensures.1 in
     rw (p.1, p.2)
-    (last_fails c.args.file c.loop-line.number c.loop-line.rest.now whole c.loop-line.policy c.loop-line.cursor c.in_err-load_line-2.field-0.0 c.loop-line.invariant.goes_on c.in_default.ensures c.in_err-load_line-2.ensures.done)
+    (last_fails c.args.file c.loop-line.number c.loop-line.rest.now whole (g.R.Rep.policy c.loop-line.rep) c.loop-line.cursor c.in_err-load_line-2.field-0.0 c.loop-line.invariant.goes_on c.in_default.ensures c.in_err-load_line-2.ensures.done)
 
 -- the last line is done
 pub returns-clause-exact : goal.returns-clause-exact
-returns-clause-exact c =
-    last_done c.args.file c.loop-line.number c.loop-line.rest.now (load_file tomoyo_grammar c.args.file c.args.text.now c.args.start) c.loop-line.policy c.load_line-2.new.policy c.loop-line.cursor c.load_line-2.new.cursor
+returns-clause-exact g c =
+    last_done c.args.file c.loop-line.number c.loop-line.rest.now (load_file tomoyo_grammar c.args.file c.args.text.now (g.R.Rep.policy c.args.start)) (g.R.Rep.policy c.loop-line.rep) (g.R.Rep.policy c.load_line-2.new.rep) c.loop-line.cursor c.load_line-2.new.cursor
     c.loop-line.invariant.goes_on c.in_default.ensures c.in_ok-load_line-2.ensures.done

@@ -8,11 +8,11 @@ use Rattle.tm_load.proofs.lines.load_file.Given as goal
 
 -- from here on it gives what the whole gives
 abbrev pub invariant-loop-line : goal.invariant-loop-line
-invariant-loop-line l = record {
-  goes_on : load_lines tomoyo_grammar l.file l.number (lines_of l.rest) l.policy l.cursor ≡ load_lines tomoyo_grammar l.file 1 (lines_of l.text) l.fn.start None;
-  few : IsFew l.policy;
+invariant-loop-line g l = record {
+  goes_on : load_lines tomoyo_grammar l.file l.number (lines_of l.rest) (g.R.Rep.policy l.rep) l.cursor ≡ load_lines tomoyo_grammar l.file 1 (lines_of l.text) (g.R.Rep.policy l.fn.start) None;
+  few : IsFew (g.R.Rep.policy l.rep);
   counted : l.number + length l.rest ≤ length l.text + 1;
 }
 
 abbrev pub decreases-loop-line : goal.decreases-loop-line
-decreases-loop-line l = length l.rest
+decreases-loop-line g l = length l.rest

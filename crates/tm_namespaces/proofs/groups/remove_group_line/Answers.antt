@@ -3,7 +3,8 @@ use Rattle.std.specs.List.{position_from}
 use Rattle.tm_word.specs.Texts.{texts_equal}
 use Rattle.tm_types.specs.declared.policy.Namespace.{Namespace}
 use Rattle.tm_namespaces.specs.AclGroups.{line_taken}
-use Rattle.tm_namespaces.proofs.GroupLaws.{part_somewhere}
+use Rattle.tm_namespaces.specs.Named.{named}
+use Rattle.tm_namespaces.proofs.GroupLaws.{named_there, part_somewhere}
 use Rattle.tm_namespaces.proofs.Places.{namespace_there}
 use Rattle.tm_namespaces.proofs.groups.remove_group_line.Goals as goal
 
@@ -14,5 +15,15 @@ returns-in-Some-clause-done c =
 
 pub returns-in_default-clause-done : goal.returns-in_default-clause-done
 returns-in_default-clause-done c =
+    let found : position_from (λ (ns : Namespace). texts_equal ns.name c.args.line.now.namespace) 0 c.args.namespaces.now ≡ None = search rules in
+    absurd (part_somewhere c.args.line.now.group c.args.line.now.entry c.args.line.now.namespace c.args.namespaces.now found c.requires)
+
+pub returns-in-Some-clause-left : goal.returns-in-Some-clause-left
+returns-in-Some-clause-left c =
+    let found : position_from (λ (ns : Namespace). texts_equal ns.name c.args.line.now.namespace) 0 c.args.namespaces.now ≡ Some c.in-Some.place = search rules in
+    c.take_line_at.ensures.left (named c.args.line.now.namespace c.args.namespaces.now) (named_there c.args.line.now.namespace c.args.namespaces.now c.in-Some.place found)
+
+pub returns-in_default-clause-left : goal.returns-in_default-clause-left
+returns-in_default-clause-left c =
     let found : position_from (λ (ns : Namespace). texts_equal ns.name c.args.line.now.namespace) 0 c.args.namespaces.now ≡ None = search rules in
     absurd (part_somewhere c.args.line.now.group c.args.line.now.entry c.args.line.now.namespace c.args.namespaces.now found c.requires)

@@ -1,34 +1,48 @@
-use Rattle.std.proofs.Common.{◌≡◌, [], true, false, refl, sym, subst, ◌∙◌, rules}
-use Rattle.std.specs.Prelude.{Some, IsSome, unwrap_or}
-use Rattle.tm_rules.specs.Policy.{at_key}
-use Rattle.tm_rules.specs.Edit.{put_key}
-use Rattle.tm_namespaces.specs.AclGroups.{takes_all}
-use Rattle.tm_namespaces.proofs.MapLaws.{put_again}
-use Rattle.tm_namespaces.proofs.GroupLaws.{group_gone, group_left, short_at, short_put, short_without}
+use Rattle.std.proofs.Common.{◌≡◌, List, [], refl, sym, subst, ap, ◌∙◌}
+use Rattle.std.specs.Prelude.{Option, Some, None, IsSome, unwrap_or}
+use Rattle.tm_types.specs.declared.entry.Entry.{Entry}
+use Rattle.tm_list.proofs.MapLaws.{Rises-put}
+use Rattle.tm_rules.specs.Policy.{at_key, deleting}
+use Rattle.tm_rules.specs.Edit.{put_group, put_key}
+use Rattle.tm_namespaces.specs.AclGroups.{Rising}
+use Rattle.tm_namespaces.proofs.MapLaws.{put_there}
+use Rattle.tm_namespaces.proofs.GroupLaws.{group_none, group_set, none_left, short_at, short_set}
 use Rattle.tm_namespaces.proofs.groups.take_from_group.Goals as goal
 
-pub returns-then-takes_group-clause-done : goal.returns-then-takes_group-clause-done
-returns-then-takes_group-clause-done c =
-    let test : takes_all c.args.line.now (unwrap_or (at_key c.args.groups.now c.args.number) []) ≡ true = search rules in
-    group_gone c.args.number c.args.line.now (at_key c.args.groups.now c.args.number) c.args.groups.now c.remove.new.self c.remove.ensures test
+pub set_group-requires-clause-there : goal.set_group-requires-clause-there
+set_group-requires-clause-there c =
+    let first : c.replace.new.self ≡ put_key c.args.number c.args.empty c.args.groups.now = c.replace.ensures.written (subst IsSome (sym c.in-Some.is) refl) in
+    subst IsSome (sym (ap (λ groups. at_key groups c.args.number) first ∙ put_there c.args.number c.args.empty c.args.groups.now)) refl
 
-pub returns-then-takes_group-clause-few : goal.returns-then-takes_group-clause-few
-returns-then-takes_group-clause-few c = λ each. short_without c.args.number c.args.groups.now c.remove.new.self c.remove.ensures each
+pub set_group-requires-clause-rising : goal.set_group-requires-clause-rising
+set_group-requires-clause-rising c =
+    let first : c.replace.new.self ≡ put_key c.args.number c.args.empty c.args.groups.now = c.replace.ensures.written (subst IsSome (sym c.in-Some.is) refl) in
+    subst Rising (sym first) (Rises-put (λ n. n) c.args.number c.args.empty c.args.groups.now c.replace.ensures.rising)
 
 pub returns-in-Some-clause-done : goal.returns-in-Some-clause-done
 returns-in-Some-clause-done c =
     let there : Some c.in-Some.entries ≡ at_key c.args.groups.now c.args.number = sym c.in-Some.is ∙ c.replace.ensures.old in
     let first : c.replace.new.self ≡ put_key c.args.number c.args.empty c.args.groups.now = c.replace.ensures.written (subst IsSome (sym c.in-Some.is) refl) in
-    let second : c.replace-in-Some.new.self ≡ put_key c.args.number c.remove-in-Some.new.entries c.args.groups.now =
-    put_again c.args.number c.args.empty c.remove-in-Some.new.entries c.args.groups.now c.replace.new.self c.replace-in-Some.new.self c.replace-in-Some.result first c.replace-in-Some.ensures.old c.replace-in-Some.ensures.written in
-    let test : takes_all c.args.line.now (unwrap_or (at_key c.args.groups.now c.args.number) []) ≡ false = search rules in
-    group_left c.args.number c.args.line.now c.in-Some.entries c.remove-in-Some.new.entries (at_key c.args.groups.now c.args.number) c.args.groups.now c.replace-in-Some.new.self second c.remove-in-Some.ensures.done (sym there) test
+    let from : c.in-Some.entries ≡ unwrap_or (at_key c.args.groups.now c.args.number) [] = ap (λ (o : Option (List Entry)). unwrap_or o []) there in
+    c.set_group.ensures.done ∙ ap (put_group c.args.number c.remove.new.entries) first
+    ∙ group_set c.args.number c.args.empty c.in-Some.entries c.remove.new.entries c.args.groups.now c.replace.ensures.rising (sym there)
+    ∙ ap (λ (t : List Entry). put_group c.args.number t c.args.groups.now) (c.remove.ensures.done ∙ ap (deleting c.args.line.now) from)
 
 pub returns-in-Some-clause-few : goal.returns-in-Some-clause-few
 returns-in-Some-clause-few c =
     let there : Some c.in-Some.entries ≡ at_key c.args.groups.now c.args.number = sym c.in-Some.is ∙ c.replace.ensures.old in
     let first : c.replace.new.self ≡ put_key c.args.number c.args.empty c.args.groups.now = c.replace.ensures.written (subst IsSome (sym c.in-Some.is) refl) in
-    let second : c.replace-in-Some.new.self ≡ put_key c.args.number c.remove-in-Some.new.entries c.args.groups.now =
-    put_again c.args.number c.args.empty c.remove-in-Some.new.entries c.args.groups.now c.replace.new.self c.replace-in-Some.new.self c.replace-in-Some.result first c.replace-in-Some.ensures.old c.replace-in-Some.ensures.written in
-    λ each.
-    short_put c.args.number c.remove-in-Some.new.entries c.args.groups.now c.replace-in-Some.new.self second (c.remove-in-Some.ensures.short (short_at c.args.number c.in-Some.entries c.args.groups.now there each)) each
+    let made : c.set_group.new.groups ≡ put_group c.args.number c.remove.new.entries c.args.groups.now =
+    c.set_group.ensures.done ∙ ap (put_group c.args.number c.remove.new.entries) first
+    ∙ group_set c.args.number c.args.empty c.in-Some.entries c.remove.new.entries c.args.groups.now c.replace.ensures.rising (sym there) in
+    λ each. short_set c.args.number c.remove.new.entries c.args.groups.now c.set_group.new.groups made (c.remove.ensures.short (short_at c.args.number c.in-Some.entries c.args.groups.now there each)) each
+
+pub returns-in-None-clause-done : goal.returns-in-None-clause-done
+returns-in-None-clause-done c =
+    let none : at_key c.args.groups.now c.args.number ≡ None = sym c.replace.ensures.old ∙ c.in-None.is in
+    c.replace.ensures.kept c.in-None.is ∙ group_none c.args.number c.args.line.now (at_key c.args.groups.now c.args.number) c.args.groups.now refl none
+
+pub returns-in-None-clause-left : goal.returns-in-None-clause-left
+returns-in-None-clause-left c =
+    let none : at_key c.args.groups.now c.args.number ≡ None = sym c.replace.ensures.old ∙ c.in-None.is in
+    ap (λ groups. unwrap_or (at_key groups c.args.number) []) (c.replace.ensures.kept c.in-None.is) ∙ none_left c.args.line.now (at_key c.args.groups.now c.args.number) none

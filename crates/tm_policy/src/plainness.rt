@@ -1,4 +1,4 @@
-//! Plain policies.
+//! Whether a policy is plain: it lets nothing be executed under conditions that learning doesn't write.
 ghost use Rattle.std.specs.Prelude.{◌≡◌};
 ghost use Rattle.std.specs.List.{list_all};
 ghost use Rattle.tm_rules.specs.Policy.{has_permission};

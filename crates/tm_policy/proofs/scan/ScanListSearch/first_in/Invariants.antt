@@ -2,7 +2,7 @@ use Rattle.std.proofs.Common.{◌≡◌, drop}
 use Rattle.std.specs.Option.{option_copied}
 use Rattle.tm_rules.specs.Search.{placed}
 use Rattle.tm_policy.specs.Searching.{asked_as, place_in, found_in}
-use Rattle.tm_policy.proofs.searching.first_in.Given as goal
+use Rattle.tm_policy.proofs.scan.ScanListSearch.first_in.Given as goal
 
 -- what is found first from here on is found first of all
 abbrev pub invariant-loop-place : goal.invariant-loop-place
