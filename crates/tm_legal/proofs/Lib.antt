@@ -27,3 +27,4 @@ pub mod Opened
 pub mod Named
 pub mod Loads
 pub mod BareGrammar
+pub mod NeedsLaws

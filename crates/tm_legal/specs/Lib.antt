@@ -5,3 +5,4 @@ pub mod Legal
 pub mod Play
 pub mod Clean
 pub mod Replay
+pub mod Needs

@@ -1,0 +1,240 @@
+//! The machine: a state on its way from an opening, with the steps that were made.
+ghost use Rattle.std.specs.Prelude.{◌≡◌, [], ◌∷◌, ◌++◌, ◌||◌, ◌==◌, IsSome, IfOk, OnErr, length, if◌then◌else◌};
+ghost use Rattle.std.specs.List.{list_any};
+ghost use Rattle.std.specs.Option.{option_copied};
+ghost use Rattle.tm_rules.specs.Few.{IsFew};
+ghost use Rattle.tm_rules.specs.Queries.{numbered, answer_of, first_query};
+ghost use Rattle.tm_grammar.specs.Tomoyo.{tomoyo_grammar};
+ghost use Rattle.tm_legal.specs.Steps.{opening, apply, after};
+ghost use Rattle.tm_legal.specs.Run.{reply_at};
+ghost use Rattle.tm_legal.specs.Legal.{Replies, is_attach, is_answer};
+ghost use Rattle.tm_legal.specs.Play.{all_ended};
+ghost use Rattle.tm_machine.specs.Machine.{course_from, history_of, steps_made, made_at, has_come, answers_given};
+
+use crate::current::Current;
+use std::alloc::Global;
+use std::marker::Model;
+use tm_list::{Copied, NoMemory, Seq};
+use tm_policy::Rep;
+use tm_types::policy::Policy;
+use tm_types::step::{Answered, Editor, Made, Query, Reply, Start, Step};
+
+/// A machine: an opening, and the steps that were made since, each with its maker and its reply. The step of number n leads from
+/// version n - 1 to version n. Contracts see the opening, the state at the newest version, and the steps.
+#[derive(Drop)]
+pub struct Machine<R: Rep> {
+    current: Current<R>,
+    made: Vec<(Made, Reply)>,
+    came: bool,
+    answers: u64,
+}
+
+impl<R: Rep> Model for Machine<R> {
+    ghost use Rattle.tm_machine.specs.Machine.{Course, IsKept};
+
+    ghost Value = { Course };
+
+    ghost view = { λ m. record { start = m.current.start; state = m.current.state; made = m.made.items } };
+
+    ghost invariant = { λ m. IsKept (record { start = m.current.start; state = m.current.state; made = m.made.items }) m.came m.answers };
+}
+
+// What the number of a step, from 1, names among the steps made.
+fn numbered(made: &[(Made, Reply)], number: u64) -> Option<&(Made, Reply)>
+    ensures { option_copied result ≡ numbered made.now number }
+{
+    if number == 0 {
+        return None;
+    }
+    made.get((number - 1) as usize)
+}
+
+// Whether the supervisor has come, with this step.
+fn comes(came: bool, step: &Step) -> bool
+    ensures { result ≡ (came || is_attach step.now) }
+{
+    match step {
+        Step::Attach => true,
+        _ => came,
+    }
+}
+
+// 1 for an answer of the supervisor, else 0.
+fn count_answer(step: &Step) -> u64
+    ensures { result ≡ (if is_answer step.now then 1 else 0) }
+{
+    match step {
+        Step::Answer(..) => 1,
+        _ => 0,
+    }
+}
+
+impl<R: Rep> Machine<R> {
+    /// A machine at version 0: its opening is the representation's policy, with these editors, so many trees, and a supervisor or none.
+    ///
+    /// Errors: want of memory.
+    pub fn start(
+        alloc: Global,
+        rep: R,
+        editors: Vec<Editor>,
+        trees: u32,
+        desk: bool,
+    ) -> Result<Machine<R>, NoMemory>
+        requires { IsFew (R.policy rep) }
+        ensures { IfOk result (λ machine. machine ≡
+            course_from (record { policy = R.policy rep; editors = editors.items; trees = trees; desk = desk })) }
+    {
+        let current = Current::open(alloc, rep, editors, trees, desk)?;
+        let made = Vec::new(alloc);
+        Ok(Machine {
+            current,
+            made,
+            came: false,
+            answers: 0,
+        })
+    }
+
+    /// Lends the policy at the newest version. Takes no memory.
+    pub fn policy(&self) -> &Policy
+        ensures { result.now ≡ self.now.state.policy }
+    {
+        self.current.rep().policy()
+    }
+
+    /// Lends the representation of the policy at the newest version, to be searched. Takes no memory.
+    pub fn rep(&self) -> &R
+        ensures policy { R.policy result.now ≡ self.now.state.policy }
+        ensures few { IsFew (R.policy result.now) }
+    {
+        self.current.rep()
+    }
+
+    /// Lends the opening. Takes no memory.
+    pub fn opening(&self) -> &Start
+        ensures { result.now ≡ self.now.start }
+    {
+        self.current.start()
+    }
+
+    /// The newest version: how many steps were made. Takes no memory.
+    pub fn version(&self) -> u64
+        ensures { result ≡ length self.now.made }
+    {
+        self.made.len() as u64
+    }
+
+    /// The step of that number with its maker, the first has number 1; None exactly outside the steps. Takes no memory.
+    pub fn step_at(&self, number: u64) -> Option<&Made>
+        ensures { option_copied result ≡ made_at self.now number }
+    {
+        match numbered(self.made.as_slice(), number) {
+            Some((made, _)) => Some(made),
+            None => None,
+        }
+    }
+
+    /// The reply of the step of that number, the first has number 1; None exactly outside the steps. Takes no memory.
+    pub fn reply(&self, number: u64) -> Option<Reply>
+        ensures { result ≡ reply_at (history_of self.now) number }
+    {
+        match numbered(self.made.as_slice(), number) {
+            Some((_, reply)) => Some(*reply),
+            None => None,
+        }
+    }
+
+    /// What became of the query of this serial; None where it is held, or the serial was never drawn. Takes no memory.
+    pub fn answer_of(&self, serial: u64) -> Option<Answered>
+        ensures { result ≡ answer_of self.now.state.queries serial }
+    {
+        self.current.queries().answer_of(serial)
+    }
+
+    /// Lends the held query with the least serial; None where no query is held. Takes no memory.
+    pub fn first_query(&self) -> Option<&Query>
+        ensures { option_copied result ≡ first_query self.now.state.queries }
+    {
+        self.current.queries().first()
+    }
+
+    /// Whether a supervisor is attached. Takes no memory.
+    pub fn attached(&self) -> bool
+        ensures { result ≡ self.now.state.queries.attached }
+    {
+        self.current.queries().attached()
+    }
+
+    /// Whether some step was the supervisor's coming, the Attach. Takes no memory.
+    pub fn came(&self) -> bool
+        ensures { result ≡ has_come self.now }
+    {
+        self.came
+    }
+
+    /// How many steps were answers of the supervisor, each an Answer. Takes no memory.
+    pub fn answers(&self) -> u64
+        ensures { result ≡ answers_given self.now }
+    {
+        self.answers
+    }
+
+    /// Whether the tree of this number, from 1, has ended. Takes no memory.
+    pub fn has_ended(&self, tree: u32) -> bool
+        ensures { result ≡ list_any (λ ended. ended == tree) self.now.state.ended }
+    {
+        self.current.has_ended(tree)
+    }
+
+    /// Whether every tree has ended. Takes no memory.
+    pub fn over(&self) -> bool
+        ensures { result ≡ all_ended tomoyo_grammar self.now.state }
+    {
+        self.current.is_over()
+    }
+
+    /// The law of every machine: its state is that after its steps from its opening, each reply is the one that its step has at its
+    /// place, and the editors and the number of trees stay the opening's.
+    pub fn versions(&self)
+        ensures after { self.now.state ≡ after tomoyo_grammar (opening self.now.start) (steps_made self.now) }
+        ensures replies { Replies tomoyo_grammar (opening self.now.start) (history_of self.now) }
+        ensures editors { self.now.state.editors ≡ self.now.start.editors }
+        ensures trees { self.now.state.trees ≡ self.now.start.trees }
+    {
+        self.current.constants();
+    }
+
+    /// Makes the step of this maker, and gives its reply: a Learn, a Make, a Fail, an Ask, an Answer, an Attach, a Detach, an Edit or an
+    /// End. The step fits, that is, it has a reply. A refused step is a step too: it leaves what its reply says.
+    ///
+    /// Errors: want of memory; the machine is then as before.
+    pub fn settle(&mut self, alloc: Global, made: Made) -> Result<Reply, NoMemory>
+        requires fits { IsSome (apply tomoyo_grammar self.old.state made.step).reply }
+        ensures done { IfOk result (λ reply. apply tomoyo_grammar self.old.state made.step ≡
+            record { state = self.new.state; reply = Some reply }) }
+        ensures made { IfOk result (λ reply. self.new.made ≡ self.old.made ++ (made, reply) ∷ []) }
+        ensures start { self.new.start ≡ self.old.start }
+        ensures kept { OnErr result (self.new ≡ self.old) }
+    {
+        self.made.reserve(1)?;
+        let reply = self.current.apply(alloc, &made.step)?;
+        let came = comes(self.came, &made.step);
+        let answers = count_answer(&made.step);
+        self.made.push((made, reply))?;
+        self.came = came;
+        self.answers += answers;
+        Ok(reply)
+    }
+
+    /// The steps with their replies, copied.
+    ///
+    /// Errors: want of memory.
+    pub fn history(&self, alloc: Global) -> Result<Seq<(Step, Reply)>, NoMemory>
+        ensures { IfOk result (λ steps. steps ≡ history_of self.now) }
+    {
+        let mut steps = Seq::new(alloc);
+        for (made, reply) in &self.made {
+            steps.push((made.step.copy(alloc)?, *reply))?;
+        }
+        Ok(steps)
+    }
+}

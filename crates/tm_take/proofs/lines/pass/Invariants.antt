@@ -1,0 +1,12 @@
+use Rattle.std.proofs.Common.{◌≡◌, length}
+use Rattle.tm_rules.specs.Grammar.{Grammar}
+use Rattle.tm_legal.specs.Run.{do_pids}
+use Rattle.tm_legal.specs.Play.{passed}
+use Rattle.tm_take.specs.Situations.{situations}
+use Rattle.tm_take.proofs.lines.pass.Given as goal
+
+abbrev pub invariant-loop-item : goal.invariant-loop-item
+invariant-loop-item l = ((g : Grammar) → passed g (situations l.known) l.lines ≡ passed g (situations l.initial.known) l.initial.lines) × (do_pids l.lines ≡ do_pids l.initial.lines)
+
+abbrev pub decreases-loop-item : goal.decreases-loop-item
+decreases-loop-item l = length l.lines

@@ -1,0 +1,5 @@
+pub mod Situations
+pub mod Passing
+pub mod Taking
+pub mod Ways
+pub mod Events

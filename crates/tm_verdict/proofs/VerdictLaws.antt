@@ -1,0 +1,164 @@
+-- The verdict by kinds: what is in common to the code and the definition.
+use Rattle.std.proofs.Common.{◌≡◌, ℕ, ◌<◌, ◌≤◌, Bool, true, false, ◌&&◌, ◌||◌, not, refl, sym, ap, ◌∙◌, subst, length, arith}
+use Rattle.std.specs.Prelude.{Option, Some, None, Result, Ok, Err, IfOk, option_map, if◌then◌else◌}
+use Rattle.std.specs.List.{find}
+use Rattle.std.proofs.lemmas.Option.{slice_get_within}
+use Rattle.tm_word.specs.Words.{Text, Word}
+use Rattle.tm_rules.specs.Words.{DomainName}
+use Rattle.tm_types.specs.declared.entry.Args.{Args}
+use Rattle.tm_types.specs.declared.entry.Entry.{Entry}
+use Rattle.tm_types.specs.declared.entry.InetKind.{InetKind}
+use Rattle.tm_types.specs.declared.entry.UnixKind.{UnixKind}
+use Rattle.tm_types.specs.declared.policy.Function.{Function}
+use Rattle.tm_types.specs.declared.policy.Mode.{Mode}
+use Rattle.tm_types.specs.declared.policy.Namespace.{Namespace}
+use Rattle.tm_types.specs.declared.policy.Domain.{Domain}
+use Rattle.tm_types.specs.declared.policy.Policy.{Policy}
+use Rattle.tm_types.specs.declared.request.Request.{Request}
+use Rattle.tm_types.specs.declared.verdict.Move.{Move}
+use Rattle.tm_types.specs.declared.verdict.Reason.{Reason}
+use Rattle.tm_types.specs.declared.verdict.Verdict.{Verdict}
+use Rattle.tm_types.specs.Functions.{function_of, row_functions}
+use Rattle.tm_word.specs.Texts.{texts_equal}
+use Rattle.tm_types.specs.declared.policy.Profile.{Profile}
+use Rattle.tm_types.specs.declared.request.Proc.{Proc}
+use Rattle.tm_types.specs.declared.verdict.Found.{Found}
+use Rattle.tm_rules.proofs.EqualityLaws.{both}
+use Rattle.tm_rules.specs.Policy.{at_key, domain_at, profile_of, namespace_word, namespace_named, namespace_of}
+use Rattle.tm_rules.specs.Requests.{is_request, are_literal}
+use Rattle.tm_rules.specs.Condition.{is_execute}
+use Rattle.tm_rules.specs.Learned.{learned_line, line_of}
+use Rattle.tm_rules.specs.Search.{Granting, aggregated, path_of, first, found, found_of}
+use Rattle.tm_rules.specs.Transition.{candidate, decision, is_domain_name, can_enter}
+use Rattle.tm_legal.specs.Verdict.{is_enforcing, made, denied, by_entry, by_mode, move_to, manual_verdict, execute_verdict, verdict_in, verdict}
+use Rattle.tm_verdict.specs.declared.targets.Way.{Way}
+use Rattle.tm_verdict.specs.Leading.{granting_at, way_to, way_by}
+use Rattle.tm_verdict.proofs.Firsts.{told}
+
+-- a target is told once
+made-again : (step : Move) (target : Option DomainName) → made step (made step target) ≡ made step target
+made-again Move.Stay target = refl
+made-again (Move.Enter n) target = refl
+made-again Move.Make target = refl
+made-again Move.Fail target = refl
+
+by_mode-made : (mode : Mode) (attached : Bool) (domain : Domain) (found : Option Granting) (line : Entry) (step : Move) (target : Option DomainName) → by_mode mode attached domain found line step (made step target) ≡ by_mode mode attached domain found line step target
+unfolding by_mode
+by_mode-made Mode.Disabled attached domain found line step target = rw (made-again step target) refl
+by_mode-made Mode.Learning attached domain (Some x) line step target = rw (made-again step target) refl
+by_mode-made Mode.Learning attached domain None line step target = rw (made-again step target) refl
+by_mode-made Mode.Permissive attached domain (Some x) line step target = rw (made-again step target) refl
+by_mode-made Mode.Permissive attached domain None line step target = rw (made-again step target) refl
+by_mode-made Mode.Enforcing attached domain (Some x) line step target = rw (made-again step target) refl
+by_mode-made Mode.Enforcing attached domain None line step target = rw (made-again step target) refl
+
+by_entry-made : (mode : Option Mode) (found : Granting) (step : Move) (target : Option DomainName) → by_entry mode found step (made step target) ≡ by_entry mode found step target
+by_entry-made mode found step target = rw (made-again step target) refl
+
+-- no name stands in the line of a request that is no execute
+pub line_any : (request : Request) (x y : Word) → is_execute request ≡ false → learned_line request x ≡ learned_line request y
+unfolding learned_line
+line_any request x y other = rw other refl
+
+module _ (is_path : Text → Bool) (policy : Policy) (domain : Domain) where
+  -- a manual transition by where its name leads
+  pub manual_entered : (name : DomainName) (found : Granting) (way : Way) → way ≡ way_to is_path policy domain true (Some name) → way.ready ≡ true → by_entry None found way.leads.step way.leads.target ≡ manual_verdict is_path policy domain name (Some found)
+  unfolding manual_verdict
+  manual_entered name found way is ready =
+      let can : can_enter is_path policy domain.name name ≡ true = sym (ap (λ (w : Way). w.ready) is) ∙ ready in
+      rw (can, is) (by_entry-made None found (move_to is_path policy domain (Some name)) (Some name))
+
+  pub manual_barred : (name : DomainName) (found : Granting) (way : Way) → way ≡ way_to is_path policy domain true (Some name) → way.ready ≡ false → denied None Reason.NotReady ≡ manual_verdict is_path policy domain name (Some found)
+  unfolding manual_verdict
+  manual_barred name found way is ready =
+      let can : can_enter is_path policy domain.name name ≡ false = sym (ap (λ (w : Way). w.ready) is) ∙ ready in
+      rw can refl
+
+  -- an execute by where its decision leads
+  execute_is : (attached : Bool) (ns : Namespace) (mode : Mode) (found : Option Granting) (request : Request) → (let way : Way = way_by is_path policy domain (candidate ns found request) (decision ns domain.name found request) in
+      execute_verdict is_path policy attached domain ns mode found request
+      ≡ (if not way.ready && (way.strict || is_enforcing mode) then denied (Some mode) Reason.NotReady else by_mode mode attached domain found (line_of ns request) way.leads.step way.leads.target))
+  unfolding execute_verdict
+  execute_is attached ns mode found request = rw by_mode-made refl
+
+  module _ (attached : Bool) (ns : Namespace) (mode : Mode) (found : Option Granting) (request : Request) (way : Way) (is : way ≡ way_by is_path policy domain (candidate ns found request) (decision ns domain.name found request)) where
+    execute_by : execute_verdict is_path policy attached domain ns mode found request
+        ≡ (if not way.ready && (way.strict || is_enforcing mode) then denied (Some mode) Reason.NotReady else by_mode mode attached domain found (line_of ns request) way.leads.step way.leads.target)
+    execute_by =
+        subst
+        (λ (way : Way). execute_verdict is_path policy attached domain ns mode found request
+        ≡ (if not way.ready && (way.strict || is_enforcing mode) then denied (Some mode) Reason.NotReady else by_mode mode attached domain found (line_of ns request) way.leads.step way.leads.target)) (sym is)
+        (execute_is attached ns mode found request)
+
+    pub execute_barred : (not way.ready && (way.strict || is_enforcing mode)) ≡ true → denied (Some mode) Reason.NotReady ≡ execute_verdict is_path policy attached domain ns mode found request
+    execute_barred barred = sym (execute_by ∙ rw barred refl)
+
+    pub execute_goes : (name : Word) → name ≡ aggregated ns (path_of request) → (not way.ready && (way.strict || is_enforcing mode)) ≡ false → by_mode mode attached domain found (learned_line request name) way.leads.step way.leads.target ≡ execute_verdict is_path policy attached domain ns mode found request
+    execute_goes name named free = rw named (sym (execute_by ∙ rw free refl))
+
+-- a row has at most eleven permissions
+row-few : (args : Args) → length (row_functions args) ≤ 11
+row-few (Args.Path n) = omega arith
+row-few (Args.PathNumber n k) = omega arith
+row-few (Args.Device n a b c) = omega arith
+row-few (Args.Path2 n m) = omega arith
+row-few (Args.Mount a b c d) = omega arith
+row-few (Args.Inet InetKind.Stream b c) = omega arith
+row-few (Args.Inet InetKind.Dgram b c) = omega arith
+row-few (Args.Inet InetKind.Raw b c) = omega arith
+row-few (Args.Unix UnixKind.Stream b) = omega arith
+row-few (Args.Unix UnixKind.Dgram b) = omega arith
+row-few (Args.Unix UnixKind.Seqpacket b) = omega arith
+row-few (Args.Env n) = omega arith
+row-few (Args.Execute n p) = omega arith
+row-few (Args.Manual n) = omega arith
+
+pub perm_below : (args : Args) (perm : ℕ) (function : Function) → function_of args perm ≡ Some function → perm < 16
+unfolding function_of
+perm_below args perm function is = let within : perm < length (row_functions args) = slice_get_within (row_functions args) perm function is in omega (arith, within, row-few args)
+
+-- what a manual transition asks for is a right name
+pub asked_name : (is_path : Text → Bool) (request : Request) (name : DomainName) → is_request is_path request ≡ true → request.args ≡ Args.Manual name → is_domain_name is_path name ≡ true
+unfolding is_request
+asked_name is_path request name asked is =
+    let literal : are_literal is_path request.args ≡ true = (both _ _ (both _ _ asked).0).0 in
+    rw is at literal
+
+-- what is so of each answer
+pub if_ok : {A E : Type 0} (P Q : A → Type 0) (r : Result A E) → ((x : A) → P x → Q x) → IfOk r P → IfOk r Q
+if_ok P Q (Ok x) f h = f x h
+if_ok P Q (Err e) f h = tt
+
+-- The verdict where a domain, its namespace or its profile isn't there, and where they are
+module _ (is_path : Text → Bool) (policy : Policy) (attached : Bool) (d : ℕ) (process : Proc) (request : Request) where
+  pub no_domain : domain_at policy d ≡ None → None ≡ verdict is_path policy attached d process request
+  unfolding verdict
+  no_domain absent = rw absent refl
+
+  module _ (domain : Domain) (there : domain_at policy d ≡ Some domain) where
+    abbrev home : Option Namespace
+    home = find (λ (ns : Namespace). texts_equal ns.name (namespace_word domain.name)) policy.namespaces
+
+    pub no_namespace : home ≡ None → None ≡ verdict is_path policy attached d process request
+    unfolding verdict namespace_named
+    no_namespace absent = rw (there, absent) refl
+
+    pub no_profile : (ns : Namespace) → home ≡ Some ns → at_key ns.profiles domain.profile ≡ None → None ≡ verdict is_path policy attached d process request
+    unfolding verdict namespace_named
+    no_profile ns is absent = rw (there, is, absent) refl
+
+    home_is : (ns : Namespace) → home ≡ Some ns → namespace_of policy domain ≡ ns
+    unfolding namespace_named
+    home_is ns is = rw is refl
+
+    -- by what a search told
+    pub by_search : (ns : Namespace) (profile : Profile) (seen : Option Found) (v : Option Verdict) → home ≡ Some ns → at_key ns.profiles domain.profile ≡ Some profile → seen ≡ found policy d process request
+        → ((process : Proc) → namespace_of policy domain ≡ ns → first ns domain process request ≡ granting_at ns domain seen → v ≡ verdict_in is_path policy attached process request domain profile)
+        → v ≡ verdict is_path policy attached d process request
+    unfolding verdict found
+    by_search ns profile seen v is has sees judged =
+        let own : namespace_of policy domain ≡ ns = home_is ns is in
+        let searched : seen ≡ option_map found_of (first ns domain process request) = sees ∙ rw (there, own) refl in
+        let granting : first ns domain process request ≡ granting_at ns domain seen = rw searched (sym (told ns domain process request)) in
+        let profiled : profile_of policy domain ≡ Some profile = rw own has in
+        judged process own granting ∙ rw (there, profiled) refl

@@ -1,0 +1,25 @@
+//! The verdict on one request, of every kind that a trace can hold, under any representation of a policy.
+//! Stands on tm_policy for what a representation answers, on tm_domain, tm_except, tm_learn and tm_profile for names, controls, lines and modes, and on tm_legal, which defines the verdict.
+//! Promises that the verdict is the defined one, with the line to be learned or asked for and the domain to be made.
+#![tactic(auto)]
+
+mod candidates;
+mod targets;
+mod verdicts;
+
+ghost use Rattle.std.specs.Prelude.{◌≡◌};
+ghost use Rattle.tm_legal.specs.Verdict.{is_granting};
+
+use tm_types::verdict::Reason;
+pub use verdicts::verdict_of;
+
+/// Whether a verdict grants by its reason alone; a held request waits for its answer.
+pub fn grants(reason: &Reason) -> bool
+    ensures { result ≡ is_granting reason.now }
+{
+    match reason {
+        Reason::Entry(_) | Reason::Disabled | Reason::Permissive | Reason::Quota | Reason::Learn =>
+            true,
+        Reason::Ask | Reason::NoEntry | Reason::NotReady | Reason::NoManual => false,
+    }
+}

@@ -1,0 +1,341 @@
+//! The verdict on one request.
+ghost use Rattle.std.specs.Prelude.{◌≡◌, ◌<◌, not, ◌&&◌, ◌||◌, true, None, Some, IfOk, option_map};
+ghost use Rattle.tm_types.specs.Functions.{function_of};
+ghost use Rattle.tm_rules.specs.Mode.{mode_of};
+ghost use Rattle.tm_types.specs.declared.request.Proc.{Proc};
+ghost use Rattle.tm_domain.specs.Names.{is_path};
+ghost use Rattle.tm_grammar.specs.Tomoyo.{tomoyo_grammar};
+ghost use Rattle.tm_rules.specs.Few.{IsFew};
+ghost use Rattle.tm_rules.specs.Condition.{is_execute};
+ghost use Rattle.tm_rules.specs.Learned.{learned_line};
+ghost use Rattle.tm_rules.specs.Policy.{namespace_of};
+ghost use Rattle.tm_rules.specs.Requests.{is_request};
+ghost use Rattle.tm_rules.specs.Search.{first};
+ghost use Rattle.tm_rules.specs.Transition.{is_domain_name};
+ghost use Rattle.tm_legal.specs.Play.{IsNamed};
+ghost use Rattle.tm_legal.specs.Verdict.{is_enforcing, made, moving, denied, by_entry, with_line, by_mode, in_mode, manual_verdict, execute_verdict, verdict_in, verdict};
+
+use crate::candidates::{Access, Granting, executed_name, found_entry};
+use crate::targets::{Leads, Way, execute_way, way_to};
+use std::alloc::Global;
+use tm_domain::namespace as namespace_word;
+use tm_learn::learned_line;
+use tm_list::{Copied, NoMemory, Seq};
+use tm_policy::{Rep, domain_at, find_namespace};
+use tm_profile::config_of;
+use tm_rules::is_execute;
+use tm_types::entry::{Args, Entry};
+use tm_types::function_at;
+use tm_types::policy::{Mode, Profile};
+use tm_types::request::{Proc, Request};
+use tm_types::unions::{DomainName, NamePlace};
+use tm_types::verdict::{Move, Reason, Verdict};
+use tm_word::Word;
+
+// The target is told exactly where the move is `Make`.
+fn made(leads: Leads) -> Option<DomainName>
+    ensures { result ≡ made leads.step leads.target }
+{
+    match leads.step {
+        Move::Make => leads.target,
+        Move::Stay | Move::Enter(_) | Move::Fail => None,
+    }
+}
+
+// Granted or asked, with where it leads.
+fn moving(mode: Mode, reason: Reason, leads: Leads) -> Verdict
+    ensures { result ≡ moving (Some mode) reason leads.step leads.target }
+{
+    Verdict {
+        mode: Some(mode),
+        reason,
+        name: NamePlace::Own,
+        step: leads.step,
+        target: made(leads),
+        line: None,
+    }
+}
+
+// Granted by an entry, with where it leads.
+fn by_entry(mode: Option<Mode>, granting: &Granting<'_>, leads: Leads) -> Verdict
+    ensures { result ≡ by_entry mode granting.now leads.step leads.target }
+{
+    let found = granting.found();
+    Verdict {
+        mode,
+        reason: Reason::Entry(found.place),
+        name: found.name,
+        step: leads.step,
+        target: made(leads),
+        line: None,
+    }
+}
+
+// Denied: the process stays.
+fn denied(mode: Option<Mode>, reason: Reason) -> Verdict
+    ensures { result ≡ denied mode reason }
+{
+    Verdict {
+        mode,
+        reason,
+        name: NamePlace::Own,
+        step: Move::Stay,
+        target: None,
+        line: None,
+    }
+}
+
+// With the line to be learned or asked for.
+fn with_line(verdict: Verdict, line: Entry) -> Verdict
+    ensures { result ≡ with_line verdict line }
+{
+    Verdict {
+        line: Some(line),
+        ..verdict
+    }
+}
+
+// What the mode says where no entry grants. `name` stands for the path of an execute in the line to be learned or asked for.
+#[tactic(auto, unfolding(tm_legal::specs::Verdict::by_mode))]
+fn without_entry(
+    alloc: Global,
+    access: &Access<'_>,
+    mode: Mode,
+    name: &Word,
+    leads: Leads,
+) -> Result<Verdict, NoMemory>
+    requires { access.now.request.now.perm < 16 }
+    ensures { IfOk result (λ v. v
+        ≡ by_mode mode access.now.attached access.now.domain.now None
+        (learned_line access.now.request.now name.now) leads.step leads.target) }
+{
+    match mode {
+        Mode::Disabled => Ok(moving(mode, Reason::Disabled, leads)),
+        Mode::Learning => {
+            if access.domain.quota_exceeded {
+                Ok(moving(mode, Reason::Quota, leads))
+            } else {
+                let line = learned_line(alloc, access.request, name)?;
+                Ok(with_line(moving(mode, Reason::Learn, leads), line))
+            }
+        }
+        Mode::Permissive => Ok(moving(mode, Reason::Permissive, leads)),
+        Mode::Enforcing => {
+            if access.attached {
+                let line = learned_line(alloc, access.request, name)?;
+                Ok(with_line(moving(mode, Reason::Ask, leads), line))
+            } else {
+                Ok(denied(Some(mode), Reason::NoEntry))
+            }
+        }
+    }
+}
+
+// From the mode on: disabled grants, then the entry that was found, then what the mode says.
+#[tactic(auto, unfolding(tm_legal::specs::Verdict::by_mode))]
+fn by_mode(
+    alloc: Global,
+    access: &Access<'_>,
+    mode: Mode,
+    name: &Word,
+    leads: Leads,
+) -> Result<Verdict, NoMemory>
+    requires { access.now.request.now.perm < 16 }
+    ensures { IfOk result (λ v. v
+        ≡ by_mode mode access.now.attached access.now.domain.now access.now.found
+        (learned_line access.now.request.now name.now) leads.step leads.target) }
+{
+    match &access.found {
+        None => without_entry(alloc, access, mode, name, leads),
+        Some(found) => match mode {
+            Mode::Disabled => Ok(moving(mode, Reason::Disabled, leads)),
+            Mode::Learning => Ok(by_entry(Some(mode), found, leads)),
+            Mode::Permissive => Ok(by_entry(Some(mode), found, leads)),
+            Mode::Enforcing => Ok(by_entry(Some(mode), found, leads)),
+        },
+    }
+}
+
+// A manual transition wants an entry and a target that can be entered.
+#[tactic(auto, using(crate::proofs::VerdictLaws::manual_entered, crate::proofs::VerdictLaws::manual_barred), unfolding(tm_legal::specs::Verdict::manual_verdict))]
+fn manual<R: Rep>(
+    alloc: Global,
+    rep: &R,
+    access: &Access<'_>,
+    name: &DomainName,
+) -> Result<Verdict, NoMemory>
+    requires few { IsFew (R.policy rep.now) }
+    requires right { is_domain_name is_path name.now ≡ true }
+    ensures { IfOk result (λ v. v
+        ≡ manual_verdict is_path (R.policy rep.now) access.now.domain.now name.now access.now.found) }
+{
+    let Some(found) = &access.found else {
+        return Ok(denied(None, Reason::NoManual));
+    };
+    let way = way_to(rep, access.domain, true, name.copy(alloc)?);
+    if way.ready {
+        Ok(by_entry(None, found, way.leads))
+    } else {
+        Ok(denied(None, Reason::NotReady))
+    }
+}
+
+// Whether an execute is denied since its target can't be entered: where the decision is strict, or in mode enforcing.
+fn is_barred(mode: Mode, way: &Way) -> bool
+    ensures { result ≡ (not way.now.ready && (way.now.strict || is_enforcing mode)) }
+{
+    if way.ready {
+        return false;
+    }
+    match mode {
+        Mode::Enforcing => true,
+        Mode::Disabled => way.strict,
+        Mode::Learning => way.strict,
+        Mode::Permissive => way.strict,
+    }
+}
+
+// An execute is denied where its target can't be entered and has to be; else it is as the mode says.
+fn execute<R: Rep>(
+    alloc: Global,
+    rep: &R,
+    access: &Access<'_>,
+    mode: Mode,
+) -> Result<Verdict, NoMemory>
+    requires few { IsFew (R.policy rep.now) }
+    requires named { IsNamed is_path (R.policy rep.now) }
+    requires execute { is_execute access.now.request.now ≡ true }
+    requires perm { access.now.request.now.perm < 16 }
+    ensures { IfOk result (λ v. v
+        ≡ execute_verdict is_path (R.policy rep.now) access.now.attached access.now.domain.now
+        access.now.namespace.now mode access.now.found access.now.request.now) }
+{
+    let way = execute_way(alloc, rep, access)?;
+    if is_barred(mode, &way) {
+        return Ok(denied(Some(mode), Reason::NotReady));
+    }
+    let name = executed_name(access.namespace, access.request);
+    by_mode(alloc, access, mode, name, way.leads)
+}
+
+// The verdict in a mode: an execute goes by its target, and every other request stays in its domain.
+#[tactic(auto, using(crate::proofs::VerdictLaws::line_any))]
+fn in_mode<R: Rep>(
+    alloc: Global,
+    rep: &R,
+    access: &Access<'_>,
+    mode: Mode,
+) -> Result<Verdict, NoMemory>
+    requires few { IsFew (R.policy rep.now) }
+    requires named { IsNamed is_path (R.policy rep.now) }
+    requires perm { access.now.request.now.perm < 16 }
+    ensures { IfOk result (λ v. v
+        ≡ in_mode is_path (R.policy rep.now) access.now.attached access.now.domain.now
+        access.now.namespace.now access.now.request.now access.now.found mode) }
+{
+    if is_execute(access.request) {
+        return execute(alloc, rep, access, mode);
+    }
+    let leads = Leads {
+        step: Move::Stay,
+        target: None,
+    };
+    let name = Seq::new(alloc);
+    by_mode(alloc, access, mode, &name, leads)
+}
+
+// The verdict on a request that is no manual transition: in the mode of its function. None where it has no such permission.
+#[tactic(auto, using(crate::proofs::VerdictLaws::perm_below))]
+fn by_function<R: Rep>(
+    alloc: Global,
+    rep: &R,
+    access: &Access<'_>,
+    profile: &Profile,
+) -> Result<Option<Verdict>, NoMemory>
+    requires few { IsFew (R.policy rep.now) }
+    requires named { IsNamed is_path (R.policy rep.now) }
+    ensures { IfOk result (λ v. v ≡ option_map (λ function.
+        in_mode is_path (R.policy rep.now) access.now.attached access.now.domain.now access.now.namespace.now
+        access.now.request.now access.now.found (mode_of profile.now function))
+        (function_of access.now.request.now.args access.now.request.now.perm)) }
+{
+    let Some(function) = function_at(access.request.args(), access.request.perm()) else {
+        return Ok(None);
+    };
+    let mode = config_of(profile, function).mode;
+    let verdict = in_mode(alloc, rep, access, mode)?;
+    Ok(Some(verdict))
+}
+
+// The verdict on a request, by what was found for it.
+#[tactic(auto, using(crate::proofs::VerdictLaws::asked_name))]
+fn judged<R: Rep>(
+    alloc: Global,
+    rep: &R,
+    access: &Access<'_>,
+    profile: &Profile,
+) -> Result<Option<Verdict>, NoMemory>
+    requires few { IsFew (R.policy rep.now) }
+    requires named { IsNamed is_path (R.policy rep.now) }
+    requires asked { is_request is_path access.now.request.now ≡ true }
+    ensures { IfOk result (λ v. (process : Proc) →
+        namespace_of (R.policy rep.now) access.now.domain.now ≡ access.now.namespace.now →
+        first access.now.namespace.now access.now.domain.now process access.now.request.now ≡ access.now.found →
+        v ≡ verdict_in is_path (R.policy rep.now) access.now.attached process access.now.request.now
+        access.now.domain.now profile.now) }
+{
+    match access.request.args() {
+        Args::Manual(name) => Ok(Some(manual(alloc, rep, access, name)?)),
+        Args::Path(_)
+        | Args::Execute(_, _)
+        | Args::PathNumber(_, _)
+        | Args::Device(_, _, _, _)
+        | Args::Path2(_, _)
+        | Args::Mount(_, _, _, _)
+        | Args::Inet(_, _, _)
+        | Args::Unix(_, _)
+        | Args::Env(_) => by_function(alloc, rep, access, profile),
+    }
+}
+
+/// The verdict on a request of a process in the domain of this number, with a supervisor attached or not. A manual transition wants an
+/// entry and a target that can be entered. An execute whose target can't be entered is denied where a preference or a reset chose it,
+/// or in mode enforcing. Every request else goes by its mode: disabled grants, then the first entry that grants, then learning (up to
+/// the quota) and permissive grant, and enforcing asks the supervisor, where one is attached, or denies. With the verdict come the move
+/// (stay, enter a live domain, make one, or fail), the domain to be made, and the line to be learned or asked for.
+///
+/// None where the domain or its profile isn't there. Errors: want of memory.
+pub fn verdict_of<R: Rep>(
+    alloc: Global,
+    rep: &R,
+    attached: bool,
+    domain: u32,
+    process: &Proc,
+    request: &Request,
+) -> Result<Option<Verdict>, NoMemory>
+    requires few { IsFew (R.policy rep.now) }
+    requires named { IsNamed tomoyo_grammar.is_path (R.policy rep.now) }
+    requires asked { is_request tomoyo_grammar.is_path request.now ≡ true }
+    ensures { IfOk result (λ v. v
+        ≡ verdict tomoyo_grammar.is_path (R.policy rep.now) attached domain process.now request.now) }
+{
+    let policy = rep.policy();
+    let Some(place) = domain_at(policy, domain) else {
+        return Ok(None);
+    };
+    let word = namespace_word(&place.name);
+    let Some(namespace) = find_namespace(policy.namespaces.as_slice(), word) else {
+        return Ok(None);
+    };
+    let Some(profile) = namespace.profiles.get(&place.profile) else {
+        return Ok(None);
+    };
+    let access = Access {
+        attached,
+        namespace,
+        domain: place,
+        found: found_entry(namespace, place, rep.search(domain, process, request)),
+        request,
+    };
+    judged(alloc, rep, &access, profile)
+}
