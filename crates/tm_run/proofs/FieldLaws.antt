@@ -50,7 +50,7 @@ decimal_is n h =
     let le : nat_le n n ≡ true = search (rules, nat_tests) in
     rw same at (number_is (NumberUnion.One r) (rw (h, le) refl))
 
-decimal_solid : (n : ℕ) → is_wide n ≡ true → is_solid (decimal n) ≡ true
+pub decimal_solid : (n : ℕ) → is_wide n ≡ true → is_solid (decimal n) ≡ true
 decimal_solid n h = word_solid (decimal n) (decimal_is n h)
 
 -- a byte that is no digit isn't in a number
@@ -89,7 +89,7 @@ small_below word = number_below 256 word refl
 
 -- ---- words
 
-front_word : (front text : Text) → is_word front ≡ true → is_solid text ≡ true → is_word (front ++ text) ≡ true
+pub front_word : (front text : Text) → is_word front ≡ true → is_solid text ≡ true → is_word (front ++ text) ≡ true
 front_word [] text h k = absurd cc
 front_word (b ∷ front) text h k = word_from b (front ++ text) (solid_append (b ∷ front) text (word_solid (b ∷ front) h) k)
 
@@ -170,10 +170,10 @@ reply_again LearnReply.Quota = refl
 reply_again LearnReply.Mode = refl
 
 -- the pieces of a number are the number
-one_piece : (c n : ℕ) → 10 ≤ digit_value c → is_wide n ≡ true → slice_split (λ b. b == c) (decimal n) ≡ decimal n ∷ []
+pub one_piece : (c n : ℕ) → 10 ≤ digit_value c → is_wide n ≡ true → slice_split (λ b. b == c) (decimal n) ≡ decimal n ∷ []
 one_piece c n h k = split_free c (decimal n) (decimal_free c n h k)
 
-cut_front : (c : ℕ) (front text : Text) → Free c front → slice_split (λ b. b == c) (front ++ c ∷ text) ≡ front ∷ slice_split (λ b. b == c) text
+pub cut_front : (c : ℕ) (front text : Text) → Free c front → slice_split (λ b. b == c) (front ++ c ∷ text) ≡ front ∷ slice_split (λ b. b == c) text
 cut_front c front text h = split_at c front text (eq-eqb c c refl) h
 
 place_again : (place : EntryPlace) → is_place place ≡ true → reason_in (pieces 58 (place_text place)) ≡ Reason.Entry place

@@ -1,13 +1,9 @@
--- The lines of steps, takes, looks and audit texts: their words are read again.
+-- The lines of takes, looks and audit texts: their words are read again.
 use Rattle.std.proofs.Common.{◌≡◌, ℕ, ◌+◌, ◌/◌, ◌%◌, ◌==◌, nat_lt, Bool, true, false, ◌&&◌, not, List, [], ◌∷◌, ◌++◌, Option, Some, None, refl, sym, ap, ◌∙◌}
 use Rattle.std.specs.Prelude.{codes, decimal}
 use Rattle.std.specs.List.{list_all}
 use Rattle.tm_word.specs.Words.{Text}
-use Rattle.tm_word.specs.Spelling.{joined, spelling_of, spell, spelled_word}
-use Rattle.tm_types.specs.declared.entry.Entry.{Entry}
-use Rattle.tm_types.specs.declared.step.Step.{Step}
-use Rattle.tm_types.specs.declared.step.LearnReply.{LearnReply}
-use Rattle.tm_types.specs.declared.step.Reply.{Reply}
+use Rattle.tm_word.specs.Spelling.{spelling_of, spell, spelled_word}
 use Rattle.tm_types.specs.declared.step.Look.{Look}
 use Rattle.tm_types.specs.declared.step.Take.{Take}
 use Rattle.tm_word.specs.Texts.{texts_equal, is_solid, is_word}
@@ -15,74 +11,11 @@ use Rattle.tm_domain.proofs.NameLaws.{same_texts}
 use Rattle.tm_line.proofs.Steps.{both, not_true}
 use Rattle.tm_word.proofs.Spelled.{word_again}
 use Rattle.tm_line.proofs.WholeLaws.{word_from, spell_solid}
-use Rattle.tm_entry.specs.Entries.{entry_words, is_entry}
-use Rattle.tm_entry.proofs.EntryLaws.{entry_again}
-use Rattle.tm_entry.proofs.EntryText.{entry_are}
-use Rattle.tm_run.specs.Steps.{step_text, step_line}
-use Rattle.tm_types.specs.Texts.{learn_text}
 use Rattle.tm_run.specs.RunText.{mode_word, reason_text, move_text, numbers_text, heard_text, verdict_text, learned_text, look_text, granted_text, domains_text, audit_word, audit_line, take_line}
-use Rattle.tm_run.specs.Reading.{step_of, take_begun, take_of, look_of, audit_of}
-use Rattle.tm_run.specs.Written.{is_plain, is_wide, is_step, is_reason, is_move, is_heard, is_look, is_audit}
-use Rattle.tm_run.proofs.TextLaws.{one_word, spells_more, spells_joined, Line, last}
-use Rattle.tm_run.proofs.FieldLaws.{plain_wide, decimal_is, plain_is, wide_is, mode_is, reply_is, reason_is, move_is, numbers_are, heard_is, mode_again, reply_again, reason_again, move_again, numbers_again, heard_again}
-
--- ---- steps
-
-pub step_words : ℕ → LearnReply → ℕ → Entry → List Text
-step_words number reply domain entry = codes "step" ∷ decimal number ∷ learn_text reply ∷ codes "learn" ∷ decimal domain ∷ entry_words entry
-
-pub learn_line : (number domain : ℕ) (entry : Entry) (reply : LearnReply) → is_wide number ≡ true → is_plain domain ≡ true → is_entry entry ≡ true
-    → Line (step_line number (Step.Learn domain entry, Reply.Learn reply)) (step_words number reply domain entry)
-unfolding step_words
-learn_line number domain entry reply h k e =
-    let front = spells_more (codes "step") (decimal number) (codes "step" ∷ []) (decimal number ∷ []) (one_word (codes "step") refl) (one_word (decimal number) (decimal_is number h)) in
-    let replied = spells_more (codes "step " ++ decimal number) (learn_text reply) (codes "step" ∷ decimal number ∷ []) (learn_text reply ∷ []) front (one_word (learn_text reply) (reply_is reply)) in
-    let place = spells_more (codes "learn") (decimal domain) (codes "learn" ∷ []) (decimal domain ∷ []) (one_word (codes "learn") refl) (one_word (decimal domain) (decimal_is domain (plain_wide domain k))) in
-    let step = spells_more (codes "learn " ++ decimal domain) (joined (entry_words entry)) (codes "learn" ∷ decimal domain ∷ []) (entry_words entry) place (spells_joined (entry_words entry) (entry_are entry e)) in
-    let text = step_text (Step.Learn domain entry) in
-    let whole = spells_more (codes "step " ++ decimal number ++ 32 ∷ learn_text reply) text (codes "step" ∷ decimal number ∷ learn_text reply ∷ []) (codes "learn" ∷ decimal domain ∷ entry_words entry) replied step in
-    last (codes "step " ++ decimal number ++ 32 ∷ learn_text reply ++ 32 ∷ text) (step_words number reply domain entry) whole
-
-learned_again : (number domain : ℕ) (entry : Entry) (reply : LearnReply) → is_plain domain ≡ true → is_entry entry ≡ true → step_of (step_words number reply domain entry) ≡ Some (Step.Learn domain entry, Reply.Learn reply)
-unfolding step_words step_of
-learned_again number domain entry reply k e = rw (entry_again entry e, plain_is domain k, reply_again reply) refl
-
--- the words of a step's line, which begin with `step`, are read as the step
-pub record StepLine (number : ℕ) (pair : Step × Reply) : Type 0 where
-  pub words : List Text
-  pub line : Line (step_line number pair) (codes "step" ∷ words)
-  pub reads : step_of (codes "step" ∷ words) ≡ Some pair
-
-no_reply : (b : Bool) → (b && false) ≡ true → ⊥
-no_reply true e = absurd cc
-no_reply false e = absurd cc
-
-pub step_again : (number : ℕ) (step : Step) (reply : Reply) → is_wide number ≡ true → is_step (step, reply) ≡ true → StepLine number (step, reply)
-unfolding step_words
-step_again number (Step.Learn domain entry) (Reply.Learn reply) h k =
-    let t = both (is_plain domain && is_entry entry) true k in
-    let p = both (is_plain domain) (is_entry entry) t.0 in
-    record {
-      words = decimal number ∷ learn_text reply ∷ codes "learn" ∷ decimal domain ∷ entry_words entry;
-      line = learn_line number domain entry reply h p.0 p.1;
-      reads = learned_again number domain entry reply p.0 p.1;
-    }
-step_again number (Step.Learn domain entry) (Reply.Make reply) h k = absurd (no_reply (is_plain domain && is_entry entry) k)
-step_again number (Step.Learn domain entry) (Reply.Fail set) h k = absurd (no_reply (is_plain domain && is_entry entry) k)
-step_again number (Step.Learn domain entry) (Reply.Ask held) h k = absurd (no_reply (is_plain domain && is_entry entry) k)
-step_again number (Step.Learn domain entry) (Reply.Answer fault) h k = absurd (no_reply (is_plain domain && is_entry entry) k)
-step_again number (Step.Learn domain entry) (Reply.Attach changed) h k = absurd (no_reply (is_plain domain && is_entry entry) k)
-step_again number (Step.Learn domain entry) (Reply.Detach changed) h k = absurd (no_reply (is_plain domain && is_entry entry) k)
-step_again number (Step.Learn domain entry) (Reply.Edit reply) h k = absurd (no_reply (is_plain domain && is_entry entry) k)
-step_again number (Step.Learn domain entry) Reply.End h k = absurd (no_reply (is_plain domain && is_entry entry) k)
-step_again number (Step.Make domain name) reply h k = absurd cc
-step_again number (Step.Fail domain) reply h k = absurd cc
-step_again number (Step.Ask domain retry line) reply h k = absurd cc
-step_again number (Step.Answer serial code) reply h k = absurd cc
-step_again number Step.Attach reply h k = absurd cc
-step_again number Step.Detach reply h k = absurd cc
-step_again number (Step.Edit editor file line) reply h k = absurd cc
-step_again number (Step.End tree) reply h k = absurd cc
+use Rattle.tm_run.specs.Reading.{take_begun, take_of, look_of, audit_of}
+use Rattle.tm_run.specs.Written.{is_plain, is_wide, is_reason, is_move, is_heard, is_look, is_audit}
+use Rattle.tm_run.proofs.TextLaws.{one_word, spells_more, Line, last}
+use Rattle.tm_run.proofs.FieldLaws.{plain_wide, decimal_is, plain_is, wide_is, mode_is, reason_is, move_is, numbers_are, heard_is, mode_again, reason_again, move_again, numbers_again, heard_again}
 
 -- ---- takes
 

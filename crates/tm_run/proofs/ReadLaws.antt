@@ -19,7 +19,8 @@ use Rattle.tm_run.specs.RunText.{look_text, audit_line, take_line, take_text, ta
 use Rattle.tm_run.specs.Reading.{line_read, lines_of, run_from, run_of}
 use Rattle.tm_run.specs.Written.{is_plain, is_wide, is_step, is_look, is_audit, is_take, is_written}
 use Rattle.tm_run.proofs.TextLaws.{IsLine, end_line, free_by, line_from, no_line}
-use Rattle.tm_run.proofs.LineLaws.{step_again, take_first, take_again, look_words, look_line, look_again, audit_again}
+use Rattle.tm_run.proofs.StepLaws.{step_again}
+use Rattle.tm_run.proofs.LineLaws.{take_first, take_again, look_words, look_line, look_again, audit_again}
 
 -- what has been read
 abbrev pub reading : List (Step × Reply) → List Take → Option Take → Reading

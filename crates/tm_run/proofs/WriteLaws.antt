@@ -8,48 +8,31 @@ use Rattle.std.proofs.lemmas.Grind.{flat_map-append}
 use Rattle.tm_word.specs.Words.{Text}
 use Rattle.tm_word.specs.Spelling.{words_of, spell, spelled_word}
 use Rattle.tm_word.proofs.Spelled.{word_found, word_small}
-use Rattle.tm_types.specs.declared.entry.Entry.{Entry}
-use Rattle.tm_types.specs.declared.entry.LineKind.{LineKind}
 use Rattle.tm_types.specs.declared.step.Step.{Step}
 use Rattle.tm_types.specs.declared.step.Reply.{Reply}
 use Rattle.tm_types.specs.declared.step.Look.{Look}
 use Rattle.tm_types.specs.declared.step.Take.{Take}
 use Rattle.tm_types.specs.declared.step.Run.{Run}
-use Rattle.tm_word.specs.Texts.{texts_equal}
+use Rattle.tm_word.specs.Texts.{texts_equal, is_word}
+use Rattle.tm_word.proofs.WordLaws.{words_are}
+use Rattle.tm_run.specs.StepWords.{step_of}
 use Rattle.tm_domain.proofs.NameLaws.{same_texts}
 use Rattle.tm_line.proofs.Steps.{both, all, to_not}
-use Rattle.tm_entry.specs.Entries.{entry_of}
-use Rattle.tm_entry.proofs.EntryLaws.{entry_read}
 use Rattle.tm_run.specs.declared.reading.Reading.{Reading}
 use Rattle.tm_run.specs.Steps.{step_line, steps_text}
 use Rattle.tm_run.specs.RunText.{look_text, audit_line, take_line, take_text, takes_text, run_text}
-use Rattle.tm_run.specs.Fields.{u32_of, reply_of}
-use Rattle.tm_run.specs.Reading.{learned, step_of, take_of, look_of, audit_of, has_number, with_step, with_take, with_look, with_audit, is_empty, starts, line_read, lines_of, fresh, go_on, run_from, run_in, run_of}
+use Rattle.tm_run.specs.Reading.{take_of, look_of, audit_of, has_number, with_step, with_take, with_look, with_audit, is_empty, starts, line_read, lines_of, fresh, go_on, run_from, run_in, run_of}
 use Rattle.tm_run.specs.Written.{is_plain, is_wide, is_step, is_look, is_audit, is_take, is_written}
 use Rattle.tm_run.proofs.TextLaws.{IsLine, lines_joined}
 use Rattle.tm_run.proofs.FieldLaws.{plain_below, wide_below, reason_below, move_below, numbers_below, heard_below}
-use Rattle.tm_run.proofs.LineLaws.{step_again, take_first, look_line, audit_again}
+use Rattle.tm_run.proofs.StepLaws.{step_again, step_is}
+use Rattle.tm_run.proofs.LineLaws.{take_first, look_line, audit_again}
 use Rattle.tm_run.proofs.ReadLaws.{reading}
 
 -- ---- what the words of a line are read as can be written
 
 some_is : {A : Type 0} (x y : A) → Some x ≡ Some y → x ≡ y
 some_is x y e = cc
-
-learned_is : (domain reply : Text) (r : Result Entry LineKind) (words : List Text) (pair : Step × Reply) → entry_of words ≡ r → learned (u32_of domain) reply r ≡ Some pair → is_step pair ≡ true
-learned_is domain reply (Ok entry) words pair e f =
-    let same : (Step.Learn (u32_of domain) entry, Reply.Learn (reply_of reply)) ≡ pair = some_is _ _ f in
-    subst (λ (p : Step × Reply). is_step p ≡ true) same (all _ _ (all _ _ (plain_below domain) (entry_read words entry e)) refl)
-learned_is domain reply (Err kind) words pair e f = absurd cc
-
-pub step_is : (words : List Text) (pair : Step × Reply) → step_of words ≡ Some pair → is_step pair ≡ true
-unfolding step_of
-step_is [] pair e = absurd cc
-step_is (a ∷ []) pair e = absurd cc
-step_is (a ∷ b ∷ []) pair e = absurd cc
-step_is (a ∷ b ∷ c ∷ []) pair e = absurd cc
-step_is (a ∷ b ∷ c ∷ d ∷ []) pair e = absurd cc
-step_is (a ∷ b ∷ c ∷ d ∷ f ∷ words) pair e = learned_is f c (entry_of words) words pair refl e
 
 -- a take that was begun
 pub record Begun (t : Take) : Type 0 where
@@ -248,12 +231,12 @@ grown_as : (steps : List (Step × Reply)) (takes : List Take) (begun : Option Ta
 grown_as steps takes begun a line r next g h e =
     subst (λ (n : Reading). Grown steps takes begun line n) e (subst (λ (l : Text). Grown steps takes begun l r) (same_texts a line h) g)
 
-step_by : (steps : List (Step × Reply)) (line : Text) (words : List Text) (o : Option (Step × Reply)) (next : Reading) → step_of words ≡ o → with_step (reading steps [] None) line o ≡ Some next → Good steps [] None → Grown steps [] None line next
-step_by steps line words None next e f g = absurd cc
-step_by steps line words (Some pair) next e f g =
+step_by : (steps : List (Step × Reply)) (line : Text) (words : List Text) (o : Option (Step × Reply)) (next : Reading) → list_all is_word words ≡ true → step_of words ≡ o → with_step (reading steps [] None) line o ≡ Some next → Good steps [] None → Grown steps [] None line next
+step_by steps line words None next w e f g = absurd cc
+step_by steps line words (Some pair) next w e f g =
     let c = chosen (has_number (length steps) && texts_equal (step_line (length steps + 1) pair) line) (reading (steps ++ pair ∷ []) [] None) next f in
     let t = both (has_number (length steps)) (texts_equal (step_line (length steps + 1) pair) line) c.0 in
-    grown_as steps [] None (step_line (length steps + 1) pair) line (reading (steps ++ pair ∷ []) [] None) next (step_added steps pair t.0 (step_is words pair e) g) t.1 c.1
+    grown_as steps [] None (step_line (length steps + 1) pair) line (reading (steps ++ pair ∷ []) [] None) next (step_added steps pair t.0 (step_is words pair w e) g) t.1 c.1
 
 take_by : (steps : List (Step × Reply)) (takes : List Take) (line : Text) (words : List Text) (o : Option Take) (next : Reading) → take_of words ≡ o → with_take (reading steps takes None) line o ≡ Some next → Good steps takes None → Grown steps takes None line next
 take_by steps takes line words None next e f g = absurd cc
@@ -274,11 +257,11 @@ audit_by steps takes t line words next f g =
     let c = chosen (texts_equal (audit_line audit) line) (reading steps (takes ++ record t { audit = audit } ∷ []) None) next f in
     grown_as steps takes (Some t) (audit_line audit) line (reading steps (takes ++ record t { audit = audit } ∷ []) None) next (audit_added steps takes t audit (audit_is words) g) c.0 c.1
 
-outside_by : (steps : List (Step × Reply)) (takes : List Take) (line : Text) (words : List Text) (b : Bool) (next : Reading)
+outside_by : (steps : List (Step × Reply)) (takes : List Take) (line : Text) (words : List Text) (b : Bool) (next : Reading) → list_all is_word words ≡ true
     → cond b (with_take (reading steps takes None) line (take_of words)) (cond (is_empty takes) (with_step (reading steps takes None) line (step_of words)) None) ≡ Some next → Good steps takes None → Grown steps takes None line next
-outside_by steps takes line words true next f g = take_by steps takes line words (take_of words) next refl f g
-outside_by steps [] line words false next f g = step_by steps line words (step_of words) next refl f g
-outside_by steps (t ∷ takes) line words false next f g = absurd cc
+outside_by steps takes line words true next w f g = take_by steps takes line words (take_of words) next refl f g
+outside_by steps [] line words false next w f g = step_by steps line words (step_of words) next w refl f g
+outside_by steps (t ∷ takes) line words false next w f g = absurd cc
 
 within_by : (steps : List (Step × Reply)) (takes : List Take) (t : Take) (line : Text) (words : List Text) (b : Bool) (next : Reading)
     → cond b (with_audit (reading steps takes None) t line (audit_of words)) (with_look (reading steps takes None) t line (look_of words)) ≡ Some next → Good steps takes (Some t) → Grown steps takes (Some t) line next
@@ -287,7 +270,7 @@ within_by steps takes t line words false next f g = look_by steps takes t line w
 
 pub grown : (steps : List (Step × Reply)) (takes : List Take) (begun : Option Take) (line : Text) (next : Reading) → line_read (reading steps takes begun) line ≡ Some next → Good steps takes begun → Grown steps takes begun line next
 unfolding line_read
-grown steps takes None line next e g = outside_by steps takes line (words_of line) (starts (codes "take") (words_of line)) next e g
+grown steps takes None line next e g = outside_by steps takes line (words_of line) (starts (codes "take") (words_of line)) next (words_are line) e g
 grown steps takes (Some t) line next e g = within_by steps takes t line (words_of line) (starts (codes "audit") (words_of line)) next e g
 
 -- ---- all lines that were read

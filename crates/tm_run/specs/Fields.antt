@@ -8,6 +8,7 @@ use Rattle.tm_types.specs.declared.verdict.Reason.{Reason}
 use Rattle.tm_types.specs.declared.verdict.Move.{Move}
 use Rattle.tm_types.specs.declared.step.Answered.{Answered}
 use Rattle.tm_types.specs.declared.step.Heard.{Heard}
+use Rattle.tm_types.specs.declared.step.FileKind.{FileKind}
 use Rattle.tm_types.specs.declared.step.LearnReply.{LearnReply}
 use Rattle.tm_word.specs.Texts.{texts_equal, pieces}
 use Rattle.tm_number.specs.Numbers.{plain_of}
@@ -97,3 +98,7 @@ heard_of word = heard_in (pieces 64 word)
 -- what became of a learned line
 unfoldable pub reply_of : Text → LearnReply
 reply_of word = if texts_equal word (codes "added") then LearnReply.Added else (if texts_equal word (codes "there") then LearnReply.There else (if texts_equal word (codes "quota") then LearnReply.Quota else LearnReply.Mode))
+
+-- the name of a policy file
+unfoldable pub file_of : Text → FileKind
+file_of word = if texts_equal word (codes "profile") then FileKind.Profile else (if texts_equal word (codes "exception_policy") then FileKind.Exception else (if texts_equal word (codes "domain_policy") then FileKind.Domain else FileKind.Manager))

@@ -1,6 +1,9 @@
 pub mod RunText
 pub mod Steps
 pub mod Fields
+pub mod Replies
+pub mod StepWords
 pub mod Reading
 pub mod Written
+pub mod Typed
 pub mod Laws

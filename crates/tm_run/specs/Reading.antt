@@ -2,8 +2,6 @@
 use Rattle.std.specs.Prelude.{ℕ, ◌+◌, ◌^◌, ◌==◌, nat_lt, Bool, true, false, ◌||◌, ◌&&◌, if◌then◌else◌, List, [], ◌∷◌, ◌++◌, length, codes, Option, Some, None, Result, Ok, Err}
 use Rattle.tm_word.specs.Words.{Text}
 use Rattle.tm_word.specs.Spelling.{words_of, spelled_word}
-use Rattle.tm_types.specs.declared.entry.Entry.{Entry}
-use Rattle.tm_types.specs.declared.entry.LineKind.{LineKind}
 use Rattle.tm_types.specs.declared.step.Step.{Step}
 use Rattle.tm_types.specs.declared.step.Reply.{Reply}
 use Rattle.tm_types.specs.declared.step.Look.{Look}
@@ -11,11 +9,11 @@ use Rattle.tm_types.specs.declared.step.Take.{Take}
 use Rattle.tm_types.specs.declared.step.Run.{Run}
 use Rattle.tm_types.specs.declared.step.RunFault.{RunFault}
 use Rattle.tm_word.specs.Texts.{texts_equal}
-use Rattle.tm_entry.specs.Entries.{entry_of}
 use Rattle.tm_run.specs.declared.reading.Reading.{Reading}
 use Rattle.tm_run.specs.Steps.{step_line}
 use Rattle.tm_run.specs.RunText.{take_line, look_text, audit_line}
-use Rattle.tm_run.specs.Fields.{u32_of, u64_of, mode_of, reason_of, move_of, numbers_of, heard_of, reply_of}
+use Rattle.tm_run.specs.Fields.{u32_of, u64_of, mode_of, reason_of, move_of, numbers_of, heard_of}
+use Rattle.tm_run.specs.StepWords.{step_of}
 
 -- the line of a fault; want of memory has none
 abbrev pub run_cause : RunFault → Option ℕ
@@ -23,16 +21,6 @@ run_cause RunFault.NoMemory = None
 run_cause (RunFault.BadLine line) = Some line
 
 -- ---- what the words of a line say
-
--- a learned line, where its entry is one
-abbrev pub learned : ℕ → Text → Result Entry LineKind → Option (Step × Reply)
-learned domain reply (Ok entry) = Some (Step.Learn domain entry, Reply.Learn (reply_of reply))
-learned domain reply (Err kind) = None
-
--- `step`, a number, a reply, `learn`, a domain, and an entry's words
-unfoldable pub step_of : List Text → Option (Step × Reply)
-step_of (first ∷ number ∷ reply ∷ word ∷ domain ∷ words) = learned (u32_of domain) reply (entry_of words)
-step_of _ = None
 
 -- a take before its first look
 abbrev pub take_begun : ℕ → ℕ → ℕ → Bool → Take

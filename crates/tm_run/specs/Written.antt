@@ -7,11 +7,17 @@ use Rattle.tm_types.specs.declared.verdict.Reason.{Reason}
 use Rattle.tm_types.specs.declared.verdict.Move.{Move}
 use Rattle.tm_types.specs.declared.step.Heard.{Heard}
 use Rattle.tm_types.specs.declared.step.Step.{Step}
+use Rattle.tm_types.specs.declared.step.MakeReply.{MakeReply}
+use Rattle.tm_types.specs.declared.step.Held.{Held}
 use Rattle.tm_types.specs.declared.step.Reply.{Reply}
 use Rattle.tm_types.specs.declared.step.Look.{Look}
 use Rattle.tm_types.specs.declared.step.Take.{Take}
 use Rattle.tm_types.specs.declared.step.Run.{Run}
+use Rattle.tm_word.specs.Spelling.{words_of, joined}
+use Rattle.tm_word.specs.Matching.{is_empty}
 use Rattle.tm_word.specs.Texts.{texts_equal}
+use Rattle.tm_rules.specs.Transition.{is_domain_name}
+use Rattle.tm_domain.specs.Names.{is_path}
 use Rattle.tm_entry.specs.Entries.{is_entry}
 
 -- a number of 32 bits
@@ -22,19 +28,91 @@ is_plain number = nat_lt number (2 ^ 32)
 abbrev pub is_wide : ℕ → Bool
 is_wide number = nat_lt number (2 ^ 64)
 
--- an entry that a line can write was learned
-abbrev pub is_learn : Step → Bool
-is_learn (Step.Learn domain entry) = is_plain domain && is_entry entry
-is_learn _ = false
+-- a line has words, and it is these joined by single spaces
+unfoldable pub is_line : Text → Bool
+is_line text = not (is_empty (words_of text)) && texts_equal (joined (words_of text)) text
+
+-- a step with numbers in their ranges, an entry that a line can write, a right domain name, and a line of words
+abbrev pub is_right : Step → Bool
+is_right (Step.Learn domain entry) = is_plain domain && is_entry entry
+is_right (Step.Make domain name) = is_plain domain && is_domain_name is_path name
+is_right (Step.Fail domain) = is_plain domain
+is_right (Step.Ask domain retry line) = is_plain domain && is_plain retry && is_line line
+is_right (Step.Answer serial code) = is_wide serial && is_wide code
+is_right (Step.Edit editor file line) = is_plain editor && is_line line
+is_right (Step.End tree) = is_plain tree
+is_right _ = true
+
+-- the number of a domain that was made, or was there, in its range
+abbrev pub is_made : MakeReply → Bool
+is_made (MakeReply.New domain) = is_plain domain
+is_made (MakeReply.Old domain) = is_plain domain
+
+-- the serial of a held query in its range
+abbrev pub is_held : Held → Bool
+is_held Held.Nobody = true
+is_held (Held.Serial serial) = is_wide serial
 
 -- the reply to a Learn
 abbrev pub is_learn_reply : Reply → Bool
 is_learn_reply (Reply.Learn reply) = true
 is_learn_reply _ = false
 
--- a learned entry with its reply
+-- the reply to a Make
+abbrev pub is_make_reply : Reply → Bool
+is_make_reply (Reply.Make reply) = is_made reply
+is_make_reply _ = false
+
+-- the reply to a Fail
+abbrev pub is_fail_reply : Reply → Bool
+is_fail_reply (Reply.Fail set) = true
+is_fail_reply _ = false
+
+-- the reply to an Ask
+abbrev pub is_ask_reply : Reply → Bool
+is_ask_reply (Reply.Ask held) = is_held held
+is_ask_reply _ = false
+
+-- the reply to an Answer
+abbrev pub is_answer_reply : Reply → Bool
+is_answer_reply (Reply.Answer fault) = true
+is_answer_reply _ = false
+
+-- the reply to an Attach
+abbrev pub is_attach_reply : Reply → Bool
+is_attach_reply (Reply.Attach changed) = true
+is_attach_reply _ = false
+
+-- the reply to a Detach
+abbrev pub is_detach_reply : Reply → Bool
+is_detach_reply (Reply.Detach changed) = true
+is_detach_reply _ = false
+
+-- the reply to an Edit
+abbrev pub is_edit_reply : Reply → Bool
+is_edit_reply (Reply.Edit reply) = true
+is_edit_reply _ = false
+
+-- the reply to an End
+abbrev pub is_end_reply : Reply → Bool
+is_end_reply Reply.End = true
+is_end_reply _ = false
+
+-- a reply of the step's own kind
+abbrev pub is_reply_of : Step → Reply → Bool
+is_reply_of (Step.Learn domain entry) reply = is_learn_reply reply
+is_reply_of (Step.Make domain name) reply = is_make_reply reply
+is_reply_of (Step.Fail domain) reply = is_fail_reply reply
+is_reply_of (Step.Ask domain retry line) reply = is_ask_reply reply
+is_reply_of (Step.Answer serial code) reply = is_answer_reply reply
+is_reply_of Step.Attach reply = is_attach_reply reply
+is_reply_of Step.Detach reply = is_detach_reply reply
+is_reply_of (Step.Edit editor file line) reply = is_edit_reply reply
+is_reply_of (Step.End tree) reply = is_end_reply reply
+
+-- a step with its reply
 abbrev pub is_step : Step × Reply → Bool
-is_step pair = is_learn pair.0 && is_learn_reply pair.1
+is_step pair = is_right pair.0 && is_reply_of pair.0 pair.1
 
 -- the place of an entry, and its group, in their ranges
 abbrev pub is_place : EntryPlace → Bool
@@ -68,6 +146,6 @@ is_audit (Some text) = list_all (λ byte. nat_lt byte 256) text && not (texts_eq
 abbrev pub is_take : Take → Bool
 is_take take = is_plain take.pid && is_plain take.before && is_plain take.after && list_all is_look take.looks && is_audit take.audit
 
--- the runs whose steps all learn an entry, with numbers in their ranges, also those of the steps and takes
+-- the runs that a text can write: numbers in their ranges, also those of the steps and takes, each step with a reply of its own kind, and texts that a line can hold
 unfoldable pub is_written : Run → Bool
 is_written run = is_wide (length run.steps) && list_all is_step run.steps && is_wide (length run.takes) && list_all is_take run.takes

@@ -1,13 +1,13 @@
 //! The fields of a line of a run, each one word.
 ghost use Rattle.std.specs.Prelude.{◌≡◌, map, IfOk};
 ghost use Rattle.tm_word.specs.Texts.{pieces};
-ghost use Rattle.tm_run.specs.Fields.{u8_of, u32_of, u64_of, mode_of, case_of, reason_of, way_of, move_of, numbers_of, answer_of, heard_of, reply_of};
+ghost use Rattle.tm_run.specs.Fields.{u8_of, u32_of, u64_of, mode_of, case_of, reason_of, way_of, move_of, numbers_of, answer_of, heard_of, file_of};
 
 use std::alloc::Global;
 use tm_list::{NoMemory, Seq};
 use tm_number::plain_number;
 use tm_types::policy::Mode;
-use tm_types::step::{Answered, Heard, LearnReply};
+use tm_types::step::{Answered, FileKind, Heard};
 use tm_types::verdict::{EntryPlace, Move, Reason};
 use tm_word::{Text, bytes_equal, cut_at};
 
@@ -45,7 +45,7 @@ pub(crate) fn u64_of(word: &[u8]) -> u64
 }
 
 // What stands between these bytes of a word.
-fn pieces(alloc: Global, byte: u8, word: &[u8]) -> Result<Vec<Text>, NoMemory>
+pub(crate) fn pieces(alloc: Global, byte: u8, word: &[u8]) -> Result<Vec<Text>, NoMemory>
     ensures { IfOk result (λ made. made.items ≡ pieces byte word.now) }
 {
     let mut made = Vec::new(alloc);
@@ -205,18 +205,18 @@ pub(crate) fn heard_of(alloc: Global, word: &[u8]) -> Result<Option<Heard>, NoMe
     }
 }
 
-#[tactic(auto, unfolding(crate::specs::Fields::reply_of))]
-pub(crate) fn reply_of(word: &[u8]) -> LearnReply
-    ensures { result ≡ reply_of word.now }
+#[tactic(auto, unfolding(crate::specs::Fields::file_of))]
+pub(crate) fn file_of(word: &[u8]) -> FileKind
+    ensures { result ≡ file_of word.now }
 {
-    if bytes_equal(word, b"added") {
-        return LearnReply::Added;
+    if bytes_equal(word, b"profile") {
+        return FileKind::Profile;
     }
-    if bytes_equal(word, b"there") {
-        return LearnReply::There;
+    if bytes_equal(word, b"exception_policy") {
+        return FileKind::Exception;
     }
-    if bytes_equal(word, b"quota") {
-        return LearnReply::Quota;
+    if bytes_equal(word, b"domain_policy") {
+        return FileKind::Domain;
     }
-    LearnReply::Mode
+    FileKind::Manager
 }

@@ -1,35 +1,12 @@
-//! What the words of a line of a run say.
+//! What the words of the lines of a take say.
 ghost use Rattle.std.specs.Prelude.{◌≡◌, IfOk};
-ghost use Rattle.tm_run.specs.Reading.{step_of, take_of, look_of, audit_of};
+ghost use Rattle.tm_run.specs.Reading.{take_of, look_of, audit_of};
 
-use crate::fields::{heard_of, mode_of, move_of, numbers_of, reason_of, reply_of, u32_of, u64_of};
-use std::alloc::{AllocError, Global};
-use tm_entry::read_entry;
+use crate::fields::{heard_of, mode_of, move_of, numbers_of, reason_of, u32_of, u64_of};
+use std::alloc::Global;
 use tm_list::{NoMemory, Seq};
-use tm_types::step::{LineFault, Look, Reply, Step, Take};
+use tm_types::step::{Look, Take};
 use tm_word::{Text, bytes_equal, spelled_word};
-
-// A learned line with its reply, where the words after its domain are an entry.
-#[tactic(auto, unfolding(crate::specs::Reading::step_of))]
-pub(crate) fn step_of(alloc: Global, words: &[Text]) -> Result<Option<(Step, Reply)>, NoMemory>
-    ensures { IfOk result (λ step. step ≡ step_of words.now) }
-{
-    match words {
-        [_, _, reply, _, domain, rest @ ..] => match read_entry(alloc, rest) {
-            Ok(entry) => {
-                let step = Step::Learn(u32_of(domain.bytes()), entry);
-                Ok(Some((step, Reply::Learn(reply_of(reply.bytes())))))
-            }
-            Err(LineFault::Kind(_)) => Ok(None),
-            Err(LineFault::NoMemory) => Err(AllocError),
-        },
-        [] => Ok(None),
-        [_] => Ok(None),
-        [_, _] => Ok(None),
-        [_, _, _] => Ok(None),
-        [_, _, _, _] => Ok(None),
-    }
-}
 
 // A take before its first look.
 #[tactic(auto, unfolding(crate::specs::Reading::take_of))]

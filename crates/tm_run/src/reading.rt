@@ -7,9 +7,10 @@ ghost use Rattle.tm_word.specs.Texts.{texts_equal};
 ghost use Rattle.tm_run.specs.Reading.{run_cause, fresh, has_number, with_step, with_take, with_look, with_audit, is_empty, starts, outside, within, line_read, lines_of, run_at, run_from, run_of};
 ghost use Rattle.tm_run.specs.Laws.{WrittenIsRead, ReadIsWritten, FaultIsFirst};
 
-use crate::lines::{audit_of, look_of, step_of, take_of};
+use crate::lines::{audit_of, look_of, take_of};
 use crate::look::push_look;
 use crate::printing::{push_audit_line, push_take_line};
+use crate::step_words::step_of;
 use crate::steps::push_step_line;
 use std::alloc::Global;
 use tm_list::{NoMemory, Seq};
@@ -288,9 +289,11 @@ fn run_of(alloc: Global, text: &[u8]) -> Result<Result<Run, u64>, NoMemory>
     }
 }
 
-/// Reads the text of a run whose steps all learn an entry. It accepts exactly the texts that `print_run` writes of such runs: each
-/// line in its printed form, steps and takes numbered from 1, all steps before the takes, and each take with its looks and its audit
-/// line. The audit text `-` can't be read, since `-` stands for none. Takes time in proportion to the text.
+/// Reads the text of a run. It accepts exactly the texts that `print_run` writes of runs that a text can write: each line in its
+/// printed form, steps and takes numbered from 1 without a gap, all steps before the takes, each step with a reply of its own kind, and
+/// each take with its looks and its one audit line. A learned entry is one that a line can write, the name of a domain to be made a right
+/// one, and the line of a question or of an edit one word or more, joined by single spaces. The audit text `-` can't be read, since `-`
+/// stands for none. Takes time in proportion to the text.
 ///
 /// Errors: `BadLine`, the first line with which no such text can go on, from 1 (one past the last line where the text ends too
 /// early; a last line without its byte 10 can't stand); or want of memory.

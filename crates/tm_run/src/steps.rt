@@ -1,26 +1,24 @@
 //! The lines of the steps of a run.
-ghost use Rattle.std.specs.Prelude.{◌≡◌, ◌++◌, OnOk, decimal};
+ghost use Rattle.std.specs.Prelude.{◌≡◌, ◌++◌, OnOk, length, true};
+ghost use Rattle.std.specs.List.{list_all};
+ghost use Rattle.tm_run.specs.Written.{is_made, is_held, is_wide};
+ghost use Rattle.tm_run.specs.Typed.{has_numbers, replies_number, is_typed_step};
 ghost use Rattle.tm_run.specs.Steps.{make_text, fail_text, held_text, answer_reply_text, change_text, reply_text, step_text, step_line, steps_text};
 
+use crate::numbers::{push_plain, push_wide};
 use std::alloc::Global;
 use tm_entry::print_entry;
 use tm_list::NoMemory;
-use tm_number::write_decimal;
 use tm_types::entry::Entry;
 use tm_types::step::{AnswerFault, FileKind, Held, MakeReply, Reply, Step};
 
 fn push_make(alloc: Global, reply: MakeReply, out: &mut Vec<u8>) -> Result<(), NoMemory>
-    ensures { OnOk result (out.new.items ≡ out.old.items ++ make_text reply) }
+    ensures text { OnOk result (out.new.items ≡ out.old.items ++ make_text reply) }
+    ensures range { is_made reply ≡ true }
 {
     match reply {
-        MakeReply::New(domain) => {
-            out.extend_from_slice(b"new:")?;
-            write_decimal(alloc, domain as u64, out)
-        }
-        MakeReply::Old(domain) => {
-            out.extend_from_slice(b"old:")?;
-            write_decimal(alloc, domain as u64, out)
-        }
+        MakeReply::New(domain) => push_plain(alloc, b"new:", domain, out),
+        MakeReply::Old(domain) => push_plain(alloc, b"old:", domain, out),
     }
 }
 
@@ -35,14 +33,12 @@ fn push_fail(set: bool, out: &mut Vec<u8>) -> Result<(), NoMemory>
 }
 
 fn push_held(alloc: Global, held: Held, out: &mut Vec<u8>) -> Result<(), NoMemory>
-    ensures { OnOk result (out.new.items ≡ out.old.items ++ held_text held) }
+    ensures text { OnOk result (out.new.items ≡ out.old.items ++ held_text held) }
+    ensures range { is_held held ≡ true }
 {
     match held {
         Held::Nobody => out.extend_from_slice(b"nobody"),
-        Held::Serial(serial) => {
-            out.extend_from_slice(b"held:")?;
-            write_decimal(alloc, serial, out)
-        }
+        Held::Serial(serial) => push_wide(alloc, b"held:", serial, out),
     }
 }
 
@@ -68,7 +64,8 @@ fn push_change(changed: bool, out: &mut Vec<u8>) -> Result<(), NoMemory>
 }
 
 fn push_reply(alloc: Global, reply: Reply, out: &mut Vec<u8>) -> Result<(), NoMemory>
-    ensures { OnOk result (out.new.items ≡ out.old.items ++ reply_text reply) }
+    ensures text { OnOk result (out.new.items ≡ out.old.items ++ reply_text reply) }
+    ensures range { replies_number reply ≡ true }
 {
     match reply {
         Reply::Learn(reply) => out.extend_from_slice(reply.text().as_bytes()),
@@ -83,23 +80,16 @@ fn push_reply(alloc: Global, reply: Reply, out: &mut Vec<u8>) -> Result<(), NoMe
     }
 }
 
-// A word with what stands after it, and a number.
-fn push_numbered(alloc: Global, word: &[u8], number: u64, out: &mut Vec<u8>) -> Result<(), NoMemory>
-    ensures { OnOk result (out.new.items ≡ out.old.items ++ word.now ++ decimal number) }
-{
-    out.extend_from_slice(word)?;
-    write_decimal(alloc, number, out)
-}
-
 fn push_learned(
     alloc: Global,
     domain: u32,
     entry: &Entry,
     out: &mut Vec<u8>,
 ) -> Result<(), NoMemory>
-    ensures { OnOk result (out.new.items ≡ out.old.items ++ step_text (Step.Learn domain entry.now)) }
+    ensures text { OnOk result (out.new.items ≡ out.old.items ++ step_text (Step.Learn domain entry.now)) }
+    ensures range { OnOk result (has_numbers (Step.Learn domain entry.now) ≡ true) }
 {
-    push_numbered(alloc, b"learn ", domain as u64, out)?;
+    push_plain(alloc, b"learn ", domain, out)?;
     out.push(b' ')?;
     print_entry(alloc, entry, out)
 }
@@ -111,10 +101,11 @@ fn push_asked(
     line: &[u8],
     out: &mut Vec<u8>,
 ) -> Result<(), NoMemory>
-    ensures { OnOk result (out.new.items ≡ out.old.items ++ step_text (Step.Ask domain retry line.now)) }
+    ensures text { OnOk result (out.new.items ≡ out.old.items ++ step_text (Step.Ask domain retry line.now)) }
+    ensures range { OnOk result (has_numbers (Step.Ask domain retry line.now) ≡ true) }
 {
-    push_numbered(alloc, b"ask ", domain as u64, out)?;
-    push_numbered(alloc, b" ", retry as u64, out)?;
+    push_plain(alloc, b"ask ", domain, out)?;
+    push_plain(alloc, b" ", retry, out)?;
     out.push(b' ')?;
     out.extend_from_slice(line)
 }
@@ -126,9 +117,10 @@ fn push_edited(
     line: &[u8],
     out: &mut Vec<u8>,
 ) -> Result<(), NoMemory>
-    ensures { OnOk result (out.new.items ≡ out.old.items ++ step_text (Step.Edit editor file line.now)) }
+    ensures text { OnOk result (out.new.items ≡ out.old.items ++ step_text (Step.Edit editor file line.now)) }
+    ensures range { OnOk result (has_numbers (Step.Edit editor file line.now) ≡ true) }
 {
-    push_numbered(alloc, b"edit ", editor as u64, out)?;
+    push_plain(alloc, b"edit ", editor, out)?;
     out.push(b' ')?;
     out.extend_from_slice(file.text().as_bytes())?;
     out.push(b' ')?;
@@ -136,25 +128,26 @@ fn push_edited(
 }
 
 fn push_step(alloc: Global, step: &Step, out: &mut Vec<u8>) -> Result<(), NoMemory>
-    ensures { OnOk result (out.new.items ≡ out.old.items ++ step_text step.now) }
+    ensures text { OnOk result (out.new.items ≡ out.old.items ++ step_text step.now) }
+    ensures range { OnOk result (has_numbers step.now ≡ true) }
 {
     match step {
         Step::Learn(domain, entry) => push_learned(alloc, *domain, entry, out),
         Step::Make(domain, name) => {
-            push_numbered(alloc, b"make ", *domain as u64, out)?;
+            push_plain(alloc, b"make ", *domain, out)?;
             out.push(b' ')?;
             out.extend_from_slice(name.bytes())
         }
-        Step::Fail(domain) => push_numbered(alloc, b"fail ", *domain as u64, out),
+        Step::Fail(domain) => push_plain(alloc, b"fail ", *domain, out),
         Step::Ask(domain, retry, line) => push_asked(alloc, *domain, *retry, line.bytes(), out),
         Step::Answer(serial, code) => {
-            push_numbered(alloc, b"answer ", *serial, out)?;
-            push_numbered(alloc, b" ", *code, out)
+            push_wide(alloc, b"answer ", *serial, out)?;
+            push_wide(alloc, b" ", *code, out)
         }
         Step::Attach => out.extend_from_slice(b"attach"),
         Step::Detach => out.extend_from_slice(b"detach"),
         Step::Edit(editor, file, line) => push_edited(alloc, *editor, *file, line.bytes(), out),
-        Step::End(tree) => push_numbered(alloc, b"end ", *tree as u64, out),
+        Step::End(tree) => push_plain(alloc, b"end ", *tree, out),
     }
 }
 
@@ -164,9 +157,10 @@ pub(crate) fn push_step_line(
     step: &(Step, Reply),
     out: &mut Vec<u8>,
 ) -> Result<(), NoMemory>
-    ensures { OnOk result (out.new.items ≡ out.old.items ++ step_line number step.now) }
+    ensures text { OnOk result (out.new.items ≡ out.old.items ++ step_line number step.now) }
+    ensures range { OnOk result (is_typed_step step.now ≡ true) }
 {
-    push_numbered(alloc, b"step ", number, out)?;
+    push_wide(alloc, b"step ", number, out)?;
     out.push(b' ')?;
     push_reply(alloc, step.1, out)?;
     out.push(b' ')?;
@@ -180,7 +174,8 @@ pub(crate) fn push_steps(
     steps: &[(Step, Reply)],
     out: &mut Vec<u8>,
 ) -> Result<(), NoMemory>
-    ensures { OnOk result (out.new.items ≡ out.old.items ++ steps_text 0 steps.now) }
+    ensures text { OnOk result (out.new.items ≡ out.old.items ++ steps_text 0 steps.now) }
+    ensures range { OnOk result ((is_wide (length steps.now) ≡ true) × (list_all is_typed_step steps.now ≡ true)) }
 {
     let mut count = 0;
     while count < steps.len() {

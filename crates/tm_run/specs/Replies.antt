@@ -1,0 +1,80 @@
+-- The reply in a step's line, one word. A word that a reply can't have is read as some reply all the same: what is read counts only where
+-- its printed line is the line that was read.
+use Rattle.std.specs.Prelude.{if◌then◌else◌, List, [], ◌∷◌, codes, Option, Some, None}
+use Rattle.tm_word.specs.Words.{Text}
+use Rattle.tm_types.specs.declared.entry.LineKind.{LineKind}
+use Rattle.tm_types.specs.declared.step.MakeReply.{MakeReply}
+use Rattle.tm_types.specs.declared.step.EditReply.{EditReply}
+use Rattle.tm_types.specs.declared.step.Held.{Held}
+use Rattle.tm_types.specs.declared.step.AnswerFault.{AnswerFault}
+use Rattle.tm_word.specs.Texts.{texts_equal, pieces}
+use Rattle.tm_run.specs.Fields.{u32_of, u64_of}
+
+-- a domain that was made, or that was there
+abbrev pub new_or_old : Text → Text → MakeReply
+new_or_old word domain = if texts_equal word (codes "new") then MakeReply.New (u32_of domain) else MakeReply.Old (u32_of domain)
+
+-- `new` or `old`, and a domain's number after a colon
+abbrev pub made_in : List Text → MakeReply
+made_in [] = MakeReply.Old 0
+made_in (word ∷ []) = MakeReply.Old 0
+made_in (word ∷ domain ∷ []) = new_or_old word domain
+made_in (word ∷ domain ∷ other ∷ others) = MakeReply.Old 0
+
+-- what became of a name that was to be made, cut at its colon
+unfoldable pub make_of : Text → MakeReply
+make_of word = made_in (pieces 58 word)
+
+-- `held` and a serial after a colon; anything else for nobody
+abbrev pub held_in : List Text → Held
+held_in [] = Held.Nobody
+held_in (word ∷ []) = Held.Nobody
+held_in (word ∷ serial ∷ []) = Held.Serial (u64_of serial)
+held_in (word ∷ serial ∷ other ∷ others) = Held.Nobody
+
+-- what became of a question, cut at its colon
+unfoldable pub held_of : Text → Held
+held_of word = held_in (pieces 58 word)
+
+-- why an answer has no effect; anything else for none
+unfoldable pub fault_of : Text → Option AnswerFault
+fault_of word = if texts_equal word (codes "no_query") then Some AnswerFault.NoQuery else (if texts_equal word (codes "answered") then Some AnswerFault.Answered else (if texts_equal word (codes "bad") then Some AnswerFault.BadAnswer else None))
+
+-- what is wrong with a policy line
+unfoldable pub kind_of : Text → LineKind
+kind_of word =
+    if texts_equal word (codes "keyword")
+    then LineKind.Keyword
+    else if texts_equal word (codes "arity")
+    then LineKind.Arity
+    else if texts_equal word (codes "name")
+    then LineKind.Name
+    else if texts_equal word (codes "number")
+    then LineKind.Number
+    else if texts_equal word (codes "address")
+    then LineKind.Address
+    else if texts_equal word (codes "domain")
+    then LineKind.Domain
+    else if texts_equal word (codes "condition")
+    then LineKind.Condition
+    else if texts_equal word (codes "profile") then LineKind.Profile else if texts_equal word (codes "version") then LineKind.Version else LineKind.KernelDomain
+
+-- what became of a policy line that isn't bad
+unfoldable pub edited_of : Text → EditReply
+edited_of word =
+    if texts_equal word (codes "not_manager")
+    then EditReply.NotManager
+    else if texts_equal word (codes "no_domain")
+    then EditReply.NoDomain
+    else if texts_equal word (codes "no_profile") then EditReply.NoProfile else if texts_equal word (codes "no_line") then EditReply.NoSuchLine else EditReply.Done
+
+-- the pieces of the word: alone, or `bad` and a kind after a colon
+abbrev pub edited_in : List Text → EditReply
+edited_in [] = EditReply.Done
+edited_in (word ∷ []) = edited_of word
+edited_in (word ∷ kind ∷ []) = EditReply.BadLine (kind_of kind)
+edited_in (word ∷ kind ∷ other ∷ others) = EditReply.Done
+
+-- what became of a policy line, cut at its colon
+unfoldable pub edit_of : Text → EditReply
+edit_of word = edited_in (pieces 58 word)
