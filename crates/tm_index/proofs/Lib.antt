@@ -1,0 +1,17 @@
+pub mod ListLaws
+pub mod BucketLaws
+pub mod PlaceLaws
+pub mod ListingLaws
+pub mod NameLaws
+pub mod SearchLaws
+pub mod IndexLaws
+pub mod FoundLaws
+pub mod TellingLaws
+pub mod KnownLaws
+pub mod ChangeLaws
+pub mod LiteralLaws
+pub mod MakeLaws
+pub mod LineLaws
+pub mod SettingLaws
+pub mod DeleteLaws
+pub mod RemoveLaws

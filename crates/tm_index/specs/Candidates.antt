@@ -1,0 +1,41 @@
+-- What is found first at two lists of places.
+use Rattle.std.specs.Prelude.{ℕ, Bool, false, List, [], Option, Some, None, if◌then◌else◌, nat_lt, option_map, slice_get}
+use Rattle.std.specs.Option.{option_and_then}
+use Rattle.tm_word.specs.Words.{Word}
+use Rattle.tm_types.specs.declared.unions.Groups.{Groups}
+use Rattle.tm_types.specs.declared.unions.NamePlace.{NamePlace}
+use Rattle.tm_types.specs.declared.entry.Entry.{Entry}
+use Rattle.tm_types.specs.declared.request.Proc.{Proc}
+use Rattle.tm_types.specs.declared.request.Request.{Request}
+use Rattle.tm_rules.specs.Condition.{first_of_all}
+use Rattle.tm_rules.specs.Search.{grants}
+use Rattle.tm_index.specs.Buckets.{Places}
+use Rattle.tm_index.specs.Listing.{has_name}
+
+-- what the element at a place has
+abbrev pub at_place : {A B : Type 0} → (ℕ → A → Option B) → List A → ℕ → Option B
+at_place f xs place = option_and_then (f place) (slice_get xs place)
+
+-- the place of an entry that grants, with the place of the name that matched
+abbrev pub granted : Groups → Proc → Request → ℕ → Entry → Option (ℕ × NamePlace)
+granted groups process request place entry = option_map (λ name. (place, name)) (grants groups process request entry)
+
+-- what is found first at these places
+abbrev pub first_at : Groups → Proc → Request → List Entry → List ℕ → Option (ℕ × NamePlace)
+first_at groups process request entries places = first_of_all (at_place (granted groups process request) entries) places
+
+-- the one at the smaller place
+abbrev pub sooner : {B : Type 0} → Option (ℕ × B) → Option (ℕ × B) → Option (ℕ × B)
+sooner None y = y
+sooner (Some x) None = Some x
+sooner (Some x) (Some y) = if nat_lt y.0 x.0 then Some y else Some x
+
+-- the places of a name; none without a name
+abbrev pub places_named : Places → Option Word → List ℕ
+places_named places None = []
+places_named places (Some name) = places name
+
+-- an entry of that name
+abbrev pub is_wanted : Option Word → Entry → Bool
+is_wanted None entry = false
+is_wanted (Some name) entry = has_name name entry

@@ -1,0 +1,9 @@
+pub mod Buckets
+pub mod Labels
+pub mod Listing
+pub mod Candidates
+pub mod Index
+pub mod Known
+pub mod Looked
+pub mod Quiet
+pub mod Gone

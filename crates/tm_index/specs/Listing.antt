@@ -1,0 +1,80 @@
+-- The index of one list of entries.
+use Rattle.std.specs.Prelude.{ℕ, suc, Bool, false, ◌&&◌, not, List, [], ◌∷◌, ◌++◌, Option, Some, None, if◌then◌else◌, ◌==◌, is_some, slice_get, bit_and}
+use Rattle.std.specs.Option.{option_map_or}
+use Rattle.tm_word.specs.Words.{Text, Word}
+use Rattle.tm_word.specs.Texts.{texts_equal}
+use Rattle.tm_types.specs.declared.entry.Entry.{Entry}
+use Rattle.tm_rules.specs.Policy.{same_line}
+use Rattle.tm_index.specs.Buckets.{Places, places_at, with_place, closing}
+use Rattle.tm_index.specs.Labels.{is_named, is_literally_named, literal_of, line_key}
+use Rattle.tm_index.specs.declared.label.Label.{Label}
+use Rattle.tm_index.specs.declared.list.ListIndex.{ListIndex}
+
+-- the places, from this one on, of the elements that pass
+abbrev pub places_from : {A : Type 0} → (A → Bool) → ℕ → List A → List ℕ
+places_from test n [] = []
+places_from test n (x ∷ xs) = if test x then n ∷ places_from test (suc n) xs else places_from test (suc n) xs
+
+-- the places of the entries whose first name argument is a literal that matches this name
+unfoldable pub literal_places : Word → List Entry → List ℕ
+literal_places name entries = places_from (λ (entry : Entry). is_named name entry.args) 0 entries
+
+-- the places of the entries that have no name argument, or a first one that is no literal
+unfoldable pub other_places : List Entry → List ℕ
+other_places entries = places_from (λ (entry : Entry). not (is_literally_named entry.args)) 0 entries
+
+-- where the entries of a list stand: by their literal name, those without one, and by the words of their lines
+pub record Listed : Type 0 where
+  pub named : Places
+  pub others : List ℕ
+  pub lines : Places
+
+-- what an index tells
+abbrev pub listed : ListIndex → Listed
+listed index = record { named = places_at index.named; others = index.others; lines = places_at index.lines }
+
+-- it is this name
+abbrev pub has_name : Word → Entry → Bool
+has_name name entry = option_map_or (texts_equal name) (literal_of entry.args) false
+
+-- it has no literal name
+abbrev pub has_no_name : Entry → Bool
+has_no_name entry = not (is_some (literal_of entry.args))
+
+-- its line has these words
+abbrev pub has_key : Text → Entry → Bool
+has_key key entry = texts_equal key (line_key entry)
+
+-- where the entries of this list stand
+unfoldable pub listing : List Entry → Listed
+listing entries = record { named = λ name. places_from (has_name name) 0 entries; others = places_from has_no_name 0 entries; lines = λ key. places_from (has_key key) 0 entries }
+
+-- one more place of a name
+abbrev pub with_name : Option Word → ℕ → Places → Places
+with_name None place places = places
+with_name (Some name) place places = with_place name place places
+
+-- one more place without a name
+abbrev pub with_other : Option Word → ℕ → List ℕ → List ℕ
+with_other None place places = places ++ place ∷ []
+with_other (Some name) place places = places
+
+-- one more place of a name, or without one
+abbrev pub noting_name : Option Word → ℕ → Listed → Listed
+noting_name name place x = record { named = with_name name place x.named; others = with_other name place x.others; lines = x.lines }
+
+-- an entry more, last
+unfoldable pub noting : Label → ℕ → Listed → Listed
+noting label place x = record { named = with_name label.name place x.named; others = with_other label.name place x.others; lines = with_place label.key place x.lines }
+
+-- the entry at a place is gone
+unfoldable pub closed : ℕ → Listed → Listed
+closed place x = record { named = λ name. closing place (x.named name); others = closing place x.others; lines = λ key. closing place (x.lines key) }
+
+-- the element at a place passes
+abbrev pub holds_at : {A : Type 0} → (A → Bool) → List A → ℕ → Bool
+holds_at test xs place = option_map_or test (slice_get xs place) false
+
+-- an entry has all of a line
+abbrev pub has_all : Entry → Entry → Bool
+has_all line entry = same_line entry line && bit_and entry.perms.bits line.perms.bits == line.perms.bits

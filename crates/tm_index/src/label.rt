@@ -1,0 +1,163 @@
+//! By what an entry is found in an index.
+ghost use Rattle.std.specs.Prelude.{◌≡◌, ◌++◌, ◌∷◌, IfOk, OnOk};
+ghost use Rattle.std.specs.Option.{option_copied};
+ghost use Rattle.std.specs.List.{flat_map};
+ghost use Rattle.tm_word.specs.declared.Component.{Component};
+ghost use Rattle.tm_word.specs.Printing.{element_bytes, literal_word};
+ghost use Rattle.tm_types.specs.Request.{joined_bytes};
+ghost use Rattle.tm_rules.specs.Equality.{patterns_equal};
+ghost use Rattle.tm_index.specs.Labels.{pattern_of, first_pattern, literal_name, literal_of, line_key, label_of};
+
+use std::alloc::Global;
+use tm_cond::print_cond;
+use tm_entry::print_acl;
+use tm_list::{NoMemory, Same, Seq};
+use tm_pattern::literal;
+use tm_types::entry::{Args, Entry, Perms};
+use tm_types::unions::NameUnion;
+use tm_word::{Component, Element, Pattern, Text, Word};
+
+/// What an entry is found by: the literal that its first name argument is, and the printed words of its arguments and its condition,
+/// which equal lines share.
+#[derive(Drop)]
+pub(crate) struct Label {
+    pub(crate) name: Option<Word>,
+    pub(crate) key: Text,
+}
+
+// The pattern of a name argument.
+fn pattern_of(name: &NameUnion) -> Option<&Pattern>
+    ensures { option_copied result ≡ pattern_of name.now }
+{
+    match name {
+        NameUnion::One(pattern) => Some(pattern),
+        NameUnion::Group(_) => None,
+    }
+}
+
+// The pattern of the first name argument of a line.
+fn first_pattern(args: &Args) -> Option<&Pattern>
+    ensures { option_copied result ≡ first_pattern args.now }
+{
+    match args {
+        Args::Path(name) => pattern_of(name),
+        Args::Execute(name, _) => pattern_of(name),
+        Args::PathNumber(name, _) => pattern_of(name),
+        Args::Device(name, _, _, _) => pattern_of(name),
+        Args::Path2(name, _) => pattern_of(name),
+        Args::Mount(name, _, _, _) => pattern_of(name),
+        Args::Inet(_, _, _) => None,
+        Args::Unix(_, name) => pattern_of(name),
+        Args::Env(pattern) => Some(pattern),
+        Args::Manual(_) => None,
+    }
+}
+
+// Appends the byte that an element stands for.
+fn push_element(element: Element, out: &mut Vec<u8>) -> Result<(), NoMemory>
+    ensures { OnOk result (out.new.items ≡ out.old.items ++ element_bytes element) }
+{
+    match element {
+        Element::Byte(byte) => {
+            out.push(byte)?;
+            Ok(())
+        }
+        _ => Ok(()),
+    }
+}
+
+// Appends the bytes of a part of a literal.
+fn push_bytes(part: &[Element], out: &mut Vec<u8>) -> Result<(), NoMemory>
+    ensures { OnOk result (out.new.items ≡ out.old.items ++ flat_map element_bytes part.now) }
+{
+    for element in part {
+        push_element(*element, out)?;
+    }
+    Ok(())
+}
+
+// Appends the components after the first, each behind its slash.
+fn push_components(components: &[Component], out: &mut Vec<u8>) -> Result<(), NoMemory>
+    ensures { OnOk result (out.new.items ≡ out.old.items ++
+        flat_map (λ (c : Component). 47 ∷ flat_map element_bytes c.first) components.now) }
+{
+    for component in components {
+        out.push(b'/')?;
+        push_bytes(component.first.as_slice(), out)?;
+    }
+    Ok(())
+}
+
+// The bytes of a literal, component by component.
+fn literal_bytes(alloc: Global, pattern: &[Component]) -> Result<Vec<u8>, NoMemory>
+    ensures { IfOk result (λ bytes. bytes.items ≡ joined_bytes pattern.now) }
+{
+    let mut bytes = Vec::new(alloc);
+    match pattern {
+        [] => Ok(bytes),
+        [first, others @ ..] => {
+            push_bytes(first.first.as_slice(), &mut bytes)?;
+            push_components(others, &mut bytes)?;
+            Ok(bytes)
+        }
+    }
+}
+
+// The name that a pattern would be, were it a literal.
+#[tactic(auto, using(tm_types::proofs::Literals::literal_components))]
+fn literal_word(alloc: Global, pattern: &Pattern) -> Result<Word, NoMemory>
+    ensures { IfOk result (λ word. word ≡ literal_word pattern.now) }
+{
+    Ok(Seq::from_vec(literal_bytes(alloc, pattern.as_slice())?))
+}
+
+// Whether two patterns are equal.
+fn patterns_equal(left: &Pattern, right: &Pattern) -> bool
+    ensures { result ≡ patterns_equal left.now right.now }
+{
+    left.same(right)
+}
+
+// The name of a literal; None for any other pattern.
+fn literal_name(alloc: Global, pattern: &Pattern) -> Result<Option<Word>, NoMemory>
+    ensures { IfOk result (λ name. name ≡ literal_name pattern.now) }
+{
+    let word = literal_word(alloc, pattern)?;
+    if patterns_equal(pattern, &literal(alloc, &word)?) {
+        Ok(Some(word))
+    } else {
+        Ok(None)
+    }
+}
+
+// The name that the first name argument is, where it is a literal.
+#[tactic(auto, unfolding(crate::specs::Labels::literal_of))]
+fn literal_of(alloc: Global, args: &Args) -> Result<Option<Word>, NoMemory>
+    ensures { IfOk result (λ name. name ≡ literal_of args.now) }
+{
+    match first_pattern(args) {
+        Some(pattern) => literal_name(alloc, pattern),
+        None => Ok(None),
+    }
+}
+
+// The printed words of the arguments and the condition.
+#[tactic(auto, unfolding(crate::specs::Labels::line_key))]
+fn line_key(alloc: Global, entry: &Entry) -> Result<Text, NoMemory>
+    ensures { IfOk result (λ key. key ≡ line_key entry.now) }
+{
+    let mut text = Vec::new(alloc);
+    print_acl(alloc, &entry.args, Perms { bits: 1 }, &mut text)?;
+    print_cond(alloc, &entry.cond, &mut text)?;
+    Ok(Seq::from_vec(text))
+}
+
+/// What an entry is found by. Errors: want of memory.
+#[tactic(auto, unfolding(crate::specs::Labels::label_of))]
+pub(crate) fn label_of(alloc: Global, entry: &Entry) -> Result<Label, NoMemory>
+    ensures { IfOk result (λ label. label ≡ label_of entry.now) }
+{
+    let name = literal_of(alloc, &entry.args)?;
+    let key = line_key(alloc, entry)?;
+    Ok(Label { name, key })
+}

@@ -1,0 +1,21 @@
+//! A representation of a policy with an index, so that neither a request nor a learned line takes time that grows with the policy.
+//! Stands on tm_policy, whose search it shares, on tm_domains and tm_namespaces for changes in place, on tm_entry and tm_cond for the words of a line, and on the kit's hash map.
+//! Promises that each call answers as the definitions say of the policy, that the index is always that of the policy, and that after want of memory both are as before.
+#![tactic(auto)]
+
+mod adding;
+mod buckets;
+mod changes;
+mod index;
+mod indexed;
+mod label;
+mod learning;
+mod lines;
+mod list;
+mod making;
+mod quiet;
+mod removing;
+mod search;
+mod settings;
+
+pub use indexed::Indexed;

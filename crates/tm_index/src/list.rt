@@ -1,0 +1,187 @@
+//! The index of one list of entries.
+ghost use Rattle.std.specs.Prelude.{◌≡◌, ℕ, ◌<◌, [], length, IfOk, IfSome, OnOk, OnErr};
+ghost use Rattle.std.specs.List.{position_from, find, list_any};
+ghost use Rattle.tm_types.specs.declared.entry.Entry.{Entry};
+ghost use Rattle.tm_rules.specs.Few.{IsShort};
+ghost use Rattle.tm_rules.specs.Policy.{has_line, same_line};
+ghost use Rattle.std.specs.Option.{option_copied};
+ghost use Rattle.tm_index.specs.Listing.{Listed, listed, listing, noting_name, noting, closed, holds_at, has_all};
+ghost use Rattle.tm_index.specs.Labels.{label_of};
+
+use crate::buckets::{Buckets, close};
+use crate::label::{Label, label_of};
+use std::alloc::Global;
+use tm_list::{NoMemory, Seq};
+use tm_rules::same_line;
+use tm_types::entry::Entry;
+use tm_word::Word;
+
+/// Where the entries of a list stand: by the literal that the first name argument is, those without one, and by the words of their
+/// lines. Places are from 0 and rise.
+#[derive(Drop)]
+pub(crate) struct ListIndex {
+    pub(crate) named: Buckets,
+    pub(crate) others: Seq<u32>,
+    pub(crate) lines: Buckets,
+}
+
+impl ListIndex {
+    /// The index of no entry, which takes no memory.
+    #[tactic(auto, unfolding(crate::specs::Buckets::places_at, crate::specs::Listing::listing))]
+    pub(crate) fn new(alloc: Global) -> ListIndex
+        ensures { listed result ≡ listing [] }
+    {
+        ListIndex {
+            named: Buckets::new(alloc),
+            others: Seq::new(alloc),
+            lines: Buckets::new(alloc),
+        }
+    }
+
+    // Notes a place under a name, or among the others.
+    fn note_name(&mut self, alloc: Global, name: Option<&Word>, place: u32) -> Result<(), NoMemory>
+        ensures done { OnOk result (listed self.new ≡
+            noting_name (option_copied name.entry) place (listed self.old)) }
+        ensures kept { OnErr result (listed self.new ≡ listed self.old) }
+    {
+        match name {
+            Some(name) => self.named.note(alloc, name.bytes(), place),
+            None => self.others.push(place),
+        }
+    }
+
+    // Takes the last place out that stands under a name, or among the others.
+    fn take_name(&mut self, name: Option<&Word>)
+        ensures { (before : Listed) → (place : ℕ) →
+            listed self.old ≡ noting_name (option_copied name.entry) place before → listed self.new ≡ before }
+    {
+        match name {
+            Some(name) => self.named.take_last(name.bytes()),
+            None => {
+                let _ = self.others.pop();
+            }
+        }
+    }
+
+    /// Notes an entry that stands last, at this place. After want of memory the index is as before.
+    #[tactic(auto, unfolding(crate::specs::Listing::noting))]
+    pub(crate) fn note(&mut self, alloc: Global, place: u32, label: &Label) -> Result<(), NoMemory>
+        ensures done { OnOk result (listed self.new ≡ noting label.now place (listed self.old)) }
+        ensures kept { OnErr result (listed self.new ≡ listed self.old) }
+    {
+        self.note_name(alloc, label.name.as_ref(), place)?;
+        match self.lines.note(alloc, label.key.bytes(), place) {
+            Ok(()) => Ok(()),
+            Err(fault) => {
+                self.take_name(label.name.as_ref());
+                Err(fault)
+            }
+        }
+    }
+
+    /// Takes the entry out that was noted last.
+    pub(crate) fn take_last(&mut self, label: &Label)
+        ensures { (before : Listed) → (place : ℕ) →
+            listed self.old ≡ noting label.now place before → listed self.new ≡ before }
+    {
+        self.take_name(label.name.as_ref());
+        self.lines.take_last(label.key.bytes());
+    }
+
+    /// The entry at this place is gone: those after it move up.
+    pub(crate) fn close(&mut self, place: u32)
+        ensures { listed self.new ≡ closed place (listed self.old) }
+    {
+        self.named.close(place);
+        close(&mut self.others, place);
+        self.lines.close(place);
+    }
+
+    /// Where the first entry of the list stands that shares a line: the one with its arguments and its condition. Takes no memory.
+    pub(crate) fn entry_place(
+        &self,
+        entries: &[Entry],
+        label: &Label,
+        line: &Entry,
+    ) -> Option<usize>
+        requires listed { listed self.now ≡ listing entries.now }
+        requires label { label.now ≡ label_of line.now }
+        ensures found { result ≡ position_from (λ (entry : Entry). same_line entry line.now) 0 entries.now }
+        ensures within { IfSome result (λ place. place < length entries.now) }
+    {
+        first_sharing(entries, self.lines.get(label.key.bytes()), line)
+    }
+
+    /// Whether the list has the whole line: an entry that shares it has each of its permissions. Takes no memory.
+    pub(crate) fn has_line(&self, entries: &[Entry], label: &Label, line: &Entry) -> bool
+        requires listed { listed self.now ≡ listing entries.now }
+        requires label { label.now ≡ label_of line.now }
+        ensures { result ≡ has_line line.now entries.now }
+    {
+        any_having(entries, self.lines.get(label.key.bytes()), line)
+    }
+}
+
+/// The index of a list of entries. Errors: want of memory.
+pub(crate) fn list_of(alloc: Global, entries: &[Entry]) -> Result<ListIndex, NoMemory>
+    requires { IsShort entries.now }
+    ensures { IfOk result (λ made. listed made ≡ listing entries.now) }
+{
+    let mut made = ListIndex::new(alloc);
+    for (place, entry) in entries.iter().enumerate() {
+        let label = label_of(alloc, entry)?;
+        made.note(alloc, place as u32, &label)?;
+    }
+    Ok(made)
+}
+
+// Whether the entry at this place shares a line.
+fn shares_at(entries: &[Entry], place: u32, line: &Entry) -> bool
+    ensures { result ≡ holds_at (λ (entry : Entry). same_line entry line.now) entries.now place }
+{
+    match entries.get(place as usize) {
+        Some(entry) => same_line(entry, line),
+        None => false,
+    }
+}
+
+// The first of these places at which an entry shares a line.
+fn first_sharing(entries: &[Entry], places: &[u32], line: &Entry) -> Option<usize>
+    ensures { result ≡ find (holds_at (λ (entry : Entry). same_line entry line.now) entries.now) places.now }
+{
+    for place in places {
+        if shares_at(entries, *place, line) {
+            return Some(*place as usize);
+        }
+    }
+    None
+}
+
+// Whether an entry has all of a line.
+fn has_all(entry: &Entry, line: &Entry) -> bool
+    ensures { result ≡ has_all line.now entry.now }
+{
+    same_line(entry, line) && entry.perms.bits & line.perms.bits == line.perms.bits
+}
+
+// Whether the entry at this place has all of a line.
+fn has_all_at(entries: &[Entry], place: u32, line: &Entry) -> bool
+    ensures { result ≡ holds_at (has_all line.now) entries.now place }
+{
+    match entries.get(place as usize) {
+        Some(entry) => has_all(entry, line),
+        None => false,
+    }
+}
+
+// Whether an entry at one of these places has all of a line.
+fn any_having(entries: &[Entry], places: &[u32], line: &Entry) -> bool
+    ensures { result ≡ list_any (holds_at (has_all line.now) entries.now) places.now }
+{
+    for place in places {
+        if has_all_at(entries, *place, line) {
+            return true;
+        }
+    }
+    false
+}

@@ -1,0 +1,63 @@
+//! Lines of the profile and the exception file: a namespace that they make has no ACL groups.
+ghost use Rattle.std.specs.Prelude.{◌≡◌, true, IfOk, OnOk, OnErr};
+ghost use Rattle.tm_types.specs.declared.policy.PolicyLine.{PolicyLine};
+ghost use Rattle.tm_rules.specs.Few.{IsFew};
+ghost use Rattle.tm_rules.specs.Edit.{apply_read};
+ghost use Rattle.tm_index.specs.Index.{Told, told, telling, IsIndexOf, noting_namespace};
+ghost use Rattle.tm_index.specs.Quiet.{is_setting};
+
+use crate::index::Index;
+use std::alloc::Global;
+use tm_edit::apply_read;
+use tm_list::{Map, NoMemory};
+use tm_types::policy::{Cursor, Policy, PolicyLine};
+use tm_types::step::EditReply;
+
+// Notes a namespace without ACL groups, last. After want of memory the index is as before.
+fn note_namespace(alloc: Global, index: &mut Index) -> Result<(), NoMemory>
+    ensures done { OnOk result (told index.new ≡ noting_namespace (told index.old)) }
+    ensures kept { OnErr result (told index.new ≡ told index.old) }
+{
+    index.groups.push(Map::new(alloc))
+}
+
+// Takes the namespace out that was noted last.
+fn take_namespace(index: &mut Index)
+    ensures { (before : Told) → told index.old ≡ noting_namespace before → told index.new ≡ before }
+{
+    let _ = index.groups.pop();
+}
+
+/// Does a line of the profile file, or one of the exception file that isn't of an ACL group. A namespace is noted first, and that is taken
+/// back where the line makes none.
+pub(crate) fn edit_setting(
+    alloc: Global,
+    policy: &mut Policy,
+    index: &mut Index,
+    cursor: &mut Cursor,
+    line: PolicyLine,
+) -> Result<EditReply, NoMemory>
+    requires few { IsFew policy.old }
+    requires index { IsIndexOf index.old policy.old }
+    requires setting { is_setting line ≡ true }
+    ensures done { IfOk result (λ reply. apply_read policy.old cursor.old line ≡
+        record { policy = policy.new; cursor = cursor.new; reply = reply }) }
+    ensures kept { OnErr result ((policy.new ≡ policy.old) × (cursor.new ≡ cursor.old)) }
+    ensures few { IsFew policy.new }
+    ensures index { IsIndexOf index.new policy.new }
+{
+    note_namespace(alloc, index)?;
+    let before = policy.namespaces.len();
+    match apply_read(alloc, policy, cursor, line) {
+        Ok(reply) => {
+            if policy.namespaces.len() == before {
+                take_namespace(index);
+            }
+            Ok(reply)
+        }
+        Err(fault) => {
+            take_namespace(index);
+            Err(fault)
+        }
+    }
+}
