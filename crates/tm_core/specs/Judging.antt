@@ -1,28 +1,29 @@
--- The verdict by what a search tells: the place of the entry and of its name.
-use Rattle.std.specs.Prelude.{Bool, false, ◌≡◌, Option, Some, None}
-use Rattle.tm_rules.specs.Words.{DomainName}
-use Rattle.tm_types.specs.declared.entry.Entry.{Entry}
-use Rattle.tm_types.specs.declared.policy.Mode.{Mode}
-use Rattle.tm_types.specs.declared.policy.Domain.{Domain}
+-- What a look shows: the verdict on a request at a state, and the audit text that goes with it.
+use Rattle.std.specs.Prelude.{ℕ, Option, option_map, List, length}
+use Rattle.std.specs.Option.{option_and_then}
+use Rattle.tm_types.specs.declared.request.Proc.{Proc}
 use Rattle.tm_types.specs.declared.request.Request.{Request}
-use Rattle.tm_types.specs.declared.verdict.Found.{Found}
-use Rattle.tm_types.specs.declared.verdict.Reason.{Reason}
-use Rattle.tm_types.specs.declared.verdict.Move.{Move}
 use Rattle.tm_types.specs.declared.verdict.Verdict.{Verdict}
-use Rattle.tm_rules.specs.Condition.{is_execute, is_manual}
-use Rattle.tm_legal.specs.Verdict.{moving, made, by_mode}
+use Rattle.tm_types.specs.declared.step.Look.{Look}
+use Rattle.tm_rules.specs.Audit.{audit_text}
+use Rattle.tm_grammar.specs.Tomoyo.{tomoyo_grammar}
+use Rattle.tm_legal.specs.Verdict.{verdict}
+use Rattle.tm_legal.specs.Steps.{State}
+use Rattle.tm_legal.specs.Run.{Situation}
+use Rattle.tm_legal.specs.Play.{InProgress}
+use Rattle.tm_machine.specs.Machine.{Course}
+use Rattle.tm_take.specs.Taking.{begun_with}
+use Rattle.tm_core.specs.declared.judging.Judged.{Judged}
 
--- granted by the entry that was found
-abbrev pub by_place : Option Mode → Found → Move → Option DomainName → Verdict
-by_place mode found move target = record { mode = mode; reason = Reason.Entry found.place; name = found.name; step = move; target = made move target; line = None }
+-- the verdict, where there is one, with its audit text
+abbrev pub judged : State → ℕ → Proc → Request → Option Judged
+judged s d process request =
+    option_map (λ (v : Verdict). record { verdict = v; audit = audit_text tomoyo_grammar s.policy d process request v })
+    (verdict tomoyo_grammar.is_path s.policy s.queries.attached d process request)
 
--- from the mode on: disabled, an entry that was found, else what the mode says
-unfoldable pub by_found : Mode → Bool → Domain → Option Found → Entry → Move → Option DomainName → Verdict
-by_found Mode.Disabled attached domain found line move target = moving (Some Mode.Disabled) Reason.Disabled move target
-by_found mode attached domain (Some found) line move target = by_place (Some mode) found move target
-by_found mode attached domain None line move target = by_mode mode attached domain None line move target
-
--- neither an execute nor a manual transition
-pub record IsOther (request : Request) : Type 0 where
-  pub no_execute : is_execute request ≡ false
-  pub no_manual : is_manual request ≡ false
+-- the take that a look of a process begins at a machine's newest version
+abbrev pub looked : Course → Situation → Request → ℕ → List Look → Option InProgress
+looked course now request retry before =
+    option_and_then
+    (λ d. option_map (λ (j : Judged). begun_with tomoyo_grammar (length course.made) now d request retry before j.verdict j.audit) (judged course.state d now.process request))
+    now.domain

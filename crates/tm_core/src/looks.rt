@@ -1,176 +1,118 @@
-//! A tree's next look.
-ghost use Rattle.std.specs.Prelude.{◌≡◌, [], Bool, true, false, IfOk, OnOk, IsSome, Option, option_map, Some, None};
-ghost use Rattle.std.specs.List.{AllByRecursion};
-ghost use Rattle.tm_word.specs.Words.{Text};
-ghost use Rattle.tm_rules.specs.Grammar.{Grammar};
-ghost use Rattle.tm_legal.specs.Verdict.{verdict};
-ghost use Rattle.tm_core.specs.Judging.{IsOther};
-ghost use Rattle.tm_legal.specs.Play.{passed, going_on};
-ghost use Rattle.tm_core.specs.declared.looks.Told.{Told};
-ghost use Rattle.tm_core.specs.Stands.{situation_of, situations, owed_steps, begun_of, begun_with, looked, Looks, way_of, ItemIsOther, CanLook, LooksFirst};
+//! A look of a tree: the take that it begins.
+ghost use Rattle.std.specs.Prelude.{◌≡◌, ◌++◌, ◌∷◌, true, suc, IsSome, Some, [], IfOk, OnOk};
+ghost use Rattle.tm_rules.specs.Requests.{is_request};
+ghost use Rattle.tm_grammar.specs.Tomoyo.{tomoyo_grammar};
+ghost use Rattle.tm_legal.specs.Play.{InProgress, IsNamed, going_on};
+ghost use Rattle.tm_take.specs.Situations.{situation_of};
+ghost use Rattle.tm_take.specs.Ways.{way_of};
+ghost use Rattle.tm_core.specs.Judging.{looked};
 
-use crate::machine::Machine;
-use crate::situations::ProcessSituation;
-use crate::verdicts::verdict_by;
-use crate::ways::{Owed, RequestInProgress, TreeOnWay, begun, go_on, pass, steps_owed};
+use crate::judging::judge;
 use std::alloc::Global;
 use tm_list::NoMemory;
+use tm_machine::Machine;
 use tm_policy::Rep;
-use tm_types::request::{Proc, Request};
-use tm_types::verdict::Verdict;
+use tm_take::{PendingLook, RequestInProgress, TreeOnWay, begin};
+use tm_types::request::Request;
 
-/// The verdict on a request at the newest version, where nobody is attached; so it asks nobody.
-fn verdict_now<R: Rep>(
-    alloc: Global,
-    machine: &Machine<R>,
-    domain: u32,
-    process: &Proc,
-    request: &Request,
-) -> Result<Option<Verdict>, NoMemory>
-    requires { IsOther request.now }
-    ensures { IfOk result (λ v. (is_path : Text → Bool) → v ≡ verdict is_path machine.now.policy false domain process.now request.now) }
-{
-    let seen = machine.search(domain, process, request);
-    verdict_by(alloc, machine.policy(), false, domain, request, seen)
-}
-
-/// What a look tells: its version, the domain of the process, the verdict, and the steps that it asks for.
-#[derive(Drop)]
-struct Told {
-    version: u64,
-    domain: u32,
-    verdict: Verdict,
-    owed: Owed,
-}
-
-/// A look at the newest version.
-fn glance<R: Rep>(
-    alloc: Global,
-    machine: &Machine<R>,
-    now: ProcessSituation,
-    request: &Request,
-) -> Result<Option<Told>, NoMemory>
-    requires { IsOther request.now }
-    ensures { IfOk result (λ told. (g : Grammar) → option_map (λ (x : Told). begun_with g x.version (situation_of now) x.domain request.now x.verdict (owed_steps x.owed)) told ≡ looked g machine.now (situation_of now) request.now) }
-{
-    let Some(domain) = now.domain else {
-        return Ok(None);
-    };
-    let Some(verdict) = verdict_now(alloc, machine, domain, &now.process, request)? else {
-        return Ok(None);
-    };
-    let version = machine.version();
-    let owed = steps_owed(alloc, domain, &verdict)?;
-    Ok(Some(Told {
-        version,
-        domain,
-        verdict,
-        owed,
-    }))
-}
-
-/// The take that a look begins.
-fn attempt_of(
-    alloc: Global,
-    now: ProcessSituation,
-    request: Request,
-    told: Told,
-) -> RequestInProgress
-    ensures { (g : Grammar) → begun_of result ≡ begun_with g told.version (situation_of now) told.domain request told.verdict (owed_steps told.owed) }
-{
-    let Told {
-        version,
-        domain,
-        verdict,
-        owed,
-    } = told;
-    begun(alloc, version, now, domain, request, verdict, owed)
-}
-
-/// The take that a look has begun goes on or ends.
-fn settle_look(
-    alloc: Global,
-    tree: &mut TreeOnWay,
-    now: ProcessSituation,
-    request: Request,
-    told: Told,
-) -> Result<(), NoMemory>
-    requires { tree.old.begun ≡ [] }
-    ensures { OnOk result ((g : Grammar) → going_on g (way_of tree.old) (begun_with g told.version (situation_of now) told.domain request told.verdict (owed_steps told.owed)) ≡ way_of tree.new) }
-{
-    let attempt = attempt_of(alloc, now, request, told);
-    go_on(
-        alloc,
-        &mut tree.spots,
-        &mut tree.begun,
-        &mut tree.takes,
-        attempt,
-    )
-}
-
-/// A look for this request of the process of this pid.
+// A look at the newest version: the take that it begins, or goes on with.
 fn look<R: Rep>(
     alloc: Global,
     machine: &Machine<R>,
-    tree: &mut TreeOnWay,
-    pid: u32,
-    request: Request,
-) -> Result<bool, NoMemory>
-    requires other { IsOther request }
-    requires idle { tree.old.begun ≡ [] }
-    requires can { (g : Grammar) × IsSome (looked g machine.now (situations tree.old.spots pid) request) }
-    ensures moved { IfOk result (λ moved. moved ≡ true) }
-    ensures looks { OnOk result ((g : Grammar) → Looks g machine.now (situations tree.old.spots pid) request (way_of tree.old) (way_of tree.new)) }
+    pending: PendingLook,
+) -> Result<Option<RequestInProgress>, NoMemory>
+    requires named { IsNamed tomoyo_grammar.is_path machine.now.state.policy }
+    requires asked { is_request tomoyo_grammar.is_path pending.request ≡ true }
+    ensures { IfOk result (λ begun. begun ≡ looked machine.now (situation_of pending.now) pending.request pending.retry pending.looked) }
 {
-    let now = tree.spots.at(pid);
-    match glance(alloc, machine, now, &request) {
-        Ok(Some(told)) => {
-            settle_look(alloc, tree, now, request, told)?;
-            Ok(true)
+    let Some(domain) = pending.now.domain else {
+        drop(pending);
+        return Ok(None);
+    };
+    match judge(
+        alloc,
+        machine,
+        domain,
+        &pending.now.process,
+        &pending.request,
+    ) {
+        Ok(Some(judged)) => {
+            let begun = begin(
+                alloc,
+                machine.version(),
+                domain,
+                pending,
+                judged.verdict,
+                judged.audit,
+            )?;
+            Ok(Some(begun))
         }
         Ok(None) => {
-            drop(request);
-            Ok(false)
+            drop(pending);
+            Ok(None)
         }
         Err(fault) => {
-            drop(request);
+            drop(pending);
             Err(fault)
         }
     }
 }
 
-/// The next look of a tree that has no take begun: true, or false with nothing changed where no request is left.
+// A look that there is, and the take goes on or ends.
+fn look_and_go<R: Rep>(
+    alloc: Global,
+    machine: &Machine<R>,
+    tree: &mut TreeOnWay,
+    pending: PendingLook,
+) -> Result<(), NoMemory>
+    requires named { IsNamed tomoyo_grammar.is_path machine.now.state.policy }
+    requires asked { is_request tomoyo_grammar.is_path pending.request ≡ true }
+    requires there { IsSome (looked machine.now (situation_of pending.now) pending.request pending.retry pending.looked) }
+    ensures { OnOk result ((b : InProgress) → looked machine.now (situation_of pending.now) pending.request pending.retry pending.looked ≡ Some b →
+        way_of tree.new ≡ going_on tomoyo_grammar (way_of tree.old) b) }
+{
+    match look(alloc, machine, pending)? {
+        Some(begun) => tree.go_on(begun),
+        None => unreachable!(),
+    }
+}
+
+/// The first look of a request, which a tree has passed to.
 pub(crate) fn first_look<R: Rep>(
     alloc: Global,
     machine: &Machine<R>,
     tree: &mut TreeOnWay,
-) -> Result<bool, NoMemory>
-    requires others { AllByRecursion ItemIsOther tree.old.lines }
-    requires idle { tree.old.begun ≡ [] }
-    requires can { (g : Grammar) × CanLook g machine.now (passed g (situations tree.old.spots) tree.old.lines).0 (passed g (situations tree.old.spots) tree.old.lines).1 }
-    ensures { IfOk result (λ moved. (g : Grammar) → LooksFirst g machine.now moved (way_of tree.old) (way_of tree.new)) }
+    pid: u32,
+    request: Request,
+) -> Result<(), NoMemory>
+    requires named { IsNamed tomoyo_grammar.is_path machine.now.state.policy }
+    requires asked { is_request tomoyo_grammar.is_path request ≡ true }
+    requires there { IsSome (looked machine.now ((way_of tree.old).at pid) request 0 []) }
+    ensures { OnOk result ((b : InProgress) → looked machine.now ((way_of tree.old).at pid) request 0 [] ≡ Some b →
+        way_of tree.new ≡ going_on tomoyo_grammar (way_of tree.old) b) }
 {
-    match pass(&mut tree.spots, &mut tree.lines)? {
-        Some((pid, request)) => look(alloc, machine, tree, pid, request),
-        None => Ok(false),
-    }
+    let now = tree.at(pid);
+    look_and_go(
+        alloc,
+        machine,
+        tree,
+        PendingLook::first(alloc, now, request),
+    )
 }
 
-/// The verdict on a request of this process in the domain of this number, at the newest version, where nobody is attached. The domain,
-/// its profile and the request's permission are there.
-pub fn verdict<R: Rep>(
+/// The next look of a take that has heard `retry`.
+pub(crate) fn look_again<R: Rep>(
     alloc: Global,
     machine: &Machine<R>,
-    domain: u32,
-    process: &Proc,
-    request: &Request,
-) -> Result<Verdict, NoMemory>
-    requires other { IsOther request.now }
-    requires there { (is_path : Text → Bool) × IsSome (verdict is_path machine.now.policy false domain process.now request.now) }
-    ensures { IfOk result (λ v. (is_path : Text → Bool) → verdict is_path machine.now.policy false domain process.now request.now ≡ Some v) }
+    tree: &mut TreeOnWay,
+    attempt: RequestInProgress,
+) -> Result<(), NoMemory>
+    requires named { IsNamed tomoyo_grammar.is_path machine.now.state.policy }
+    requires asked { is_request tomoyo_grammar.is_path attempt.request ≡ true }
+    requires there { IsSome (looked machine.now attempt.now attempt.request (suc attempt.retry) (attempt.looked ++ attempt.look ∷ [])) }
+    ensures { OnOk result ((b : InProgress) → looked machine.now attempt.now attempt.request (suc attempt.retry) (attempt.looked ++ attempt.look ∷ []) ≡ Some b →
+        way_of tree.new ≡ going_on tomoyo_grammar (way_of tree.old) b) }
 {
-    match verdict_now(alloc, machine, domain, process, request)? {
-        Some(verdict) => Ok(verdict),
-        None => unreachable!(),
-    }
+    let pending = attempt.again()?;
+    look_and_go(alloc, machine, tree, pending)
 }

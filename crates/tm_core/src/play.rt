@@ -1,77 +1,61 @@
 //! A play from its first turn to its end, and what it leaves.
-ghost use Rattle.std.specs.Prelude.{◌≡◌, ◌++◌, ◌≤◌, ◌+◌, [], length, if◌then◌else◌, IfOk, OnOk, flat_map, map};
+ghost use Rattle.std.specs.Prelude.{◌≡◌, ◌++◌, IfOk, OnOk, flat_map, length, map};
+ghost use Rattle.tm_rules.specs.Words.{Trace};
+ghost use Rattle.tm_desk.specs.Desks.{desk_book, IsDesk};
 ghost use Rattle.tm_types.specs.declared.step.Take.{Take};
-ghost use Rattle.tm_legal.specs.Legal.{Scene, Legal, final_policy};
-ghost use Rattle.tm_legal.specs.Play.{Way, start_of, run_of, turns, work_left, Plays};
-ghost use Rattle.tm_core.specs.Stands.{IsBuilt, IsReached, IsInRound, IsOver, player_of, way_of};
+ghost use Rattle.tm_legal.specs.Legal.{Legal, final_policy};
+ghost use Rattle.tm_legal.specs.Play.{Way, CanPlay, start_of, run_of, turns, Plays};
+ghost use Rattle.tm_take.specs.Ways.{way_of};
+ghost use Rattle.tm_core.specs.Scenes.{scene_of, IsReached};
+ghost use Rattle.tm_core.specs.Rounds.{IsOver};
+ghost use Rattle.tm_core.specs.Players.{course_of, player_of};
 
-use crate::machine::Machine;
-use crate::player::{Player, step_alone, step_place};
-use crate::ways::TreeOnWay;
-use std::alloc::Global;
+use crate::player::Player;
+use crate::rounds::{one_round, play_rounds, play_turns};
+use std::alloc::{AllocError, Global};
+use tm_desk::Desk;
 use tm_list::{NoMemory, Seq};
+use tm_machine::Machine;
 use tm_policy::Rep;
-use tm_types::step::{Run, Take, Turn};
+use tm_take::TreeOnWay;
+use tm_types::step::{Query, Run, Take, Turn};
 
-/// The turns of a schedule, one after another; an activity that can't move is passed over.
-fn play_turns<R: Rep>(
-    alloc: Global,
-    player: &mut Player<R>,
-    schedule: &[Turn],
-) -> Result<(), NoMemory>
-    requires { (scene : Scene) × IsReached scene (player_of player.old.machine player.old.trees.items) }
-    ensures { OnOk result ((scene : Scene) → IsReached scene (player_of player.old.machine player.old.trees.items) → IsReached scene (player_of player.new.machine player.new.trees.items) × (turns scene (player_of player.old.machine player.old.trees.items) schedule.now ≡ player_of player.new.machine player.new.trees.items)) }
-{
-    for turn in schedule {
-        step_alone(alloc, player, *turn)?;
-    }
-    Ok(())
-}
-
-/// One event of each tree, by number: whether one of them has moved.
-fn play_round<R: Rep>(alloc: Global, player: &mut Player<R>) -> Result<bool, NoMemory>
-    requires { (scene : Scene) × IsReached scene (player_of player.old.machine player.old.trees.items) }
-    ensures round { IfOk result (λ moved. (scene : Scene) → IsReached scene (player_of player.old.machine player.old.trees.items) → IsInRound scene (player_of player.old.machine player.old.trees.items) (player_of player.new.machine player.new.trees.items) (length player.old.trees.items) moved) }
-    ensures less { IfOk result (λ moved. (if moved then 1 else 0) + work_left (player_of player.new.machine player.new.trees.items) ≤ work_left (player_of player.old.machine player.old.trees.items)) }
-{
-    let mut moved = false;
-    for place in 0..player.trees.len() {
-        if step_place(alloc, player, place)? {
-            moved = true;
-        }
-    }
-    Ok(moved)
-}
-
-/// Rounds in the default order, until nobody can move.
-fn play_rounds<R: Rep>(alloc: Global, player: &mut Player<R>) -> Result<(), NoMemory>
-    requires { (scene : Scene) × IsReached scene (player_of player.old.machine player.old.trees.items) }
-    ensures { OnOk result ((scene : Scene) → IsReached scene (player_of player.old.machine player.old.trees.items) → IsOver scene (player_of player.old.machine player.old.trees.items) (player_of player.new.machine player.new.trees.items)) }
-{
-    loop {
-        if !play_round(alloc, player)? {
-            return Ok(());
-        }
-    }
-}
-
-/// Plays the schedule, and then the default order, round and round, until nobody can move.
-pub fn play_out<R: Rep>(
+/// Plays the schedule, and then the default order, round and round, until nobody can move. The desk is asked where the machine was started
+/// for a supervisor.
+///
+/// Errors: want of memory.
+pub fn play_out<R: Rep, F: Fn(&Query) -> u64>(
     alloc: Global,
     mut player: Player<R>,
+    desk: &Desk<'_, F>,
     schedule: &[Turn],
 ) -> Result<Player<R>, NoMemory>
-    requires { (scene : Scene) × IsReached scene (player_of player.machine player.trees.items) }
-    ensures over { IfOk result (λ played. (scene : Scene) → IsReached scene (player_of player.machine player.trees.items) → IsOver scene (turns scene (player_of player.machine player.trees.items) schedule.now) (player_of played.machine played.trees.items)) }
-    ensures ends { IfOk result (λ played. (scene : Scene) → IsBuilt scene → player_of player.machine player.trees.items ≡ start_of scene → final_policy scene (run_of (player_of played.machine played.trees.items)) ≡ played.machine.policy) }
-    ensures plays { IfOk result (λ played. (scene : Scene) → IsBuilt scene → player_of player.machine player.trees.items ≡ start_of scene → Plays scene schedule.now (run_of (player_of played.machine played.trees.items)) × Legal scene (run_of (player_of played.machine played.trees.items))) }
+    requires desk { IsDesk F.Fn desk.now }
+    requires reached { (trace : Trace) × IsReached trace (desk_book desk.now) (course_of player) (player_of player) }
+    ensures start { IfOk result (λ played. (course_of played).start ≡ (course_of player).start) }
+    ensures over { IfOk result (λ played. (trace : Trace) → IsReached trace (desk_book desk.now) (course_of player) (player_of player) →
+        IsOver (scene_of (course_of player).start trace (desk_book desk.now)) (turns (scene_of (course_of player).start trace (desk_book desk.now)) (player_of player) schedule.now) (player_of played)) }
+    ensures plays { IfOk result (λ played. (trace : Trace) → IsReached trace (desk_book desk.now) (course_of player) (player_of player) →
+        player_of player ≡ start_of (scene_of (course_of player).start trace (desk_book desk.now)) →
+        Plays (scene_of (course_of player).start trace (desk_book desk.now)) schedule.now (run_of (player_of played))) }
+    ensures legal { IfOk result (λ played. (trace : Trace) → IsReached trace (desk_book desk.now) (course_of player) (player_of player) →
+        player_of player ≡ start_of (scene_of (course_of player).start trace (desk_book desk.now)) →
+        Legal (scene_of (course_of player).start trace (desk_book desk.now)) (run_of (player_of played))) }
+    ensures ends { IfOk result (λ played. (trace : Trace) → IsReached trace (desk_book desk.now) (course_of player) (player_of player) →
+        player_of player ≡ start_of (scene_of (course_of player).start trace (desk_book desk.now)) →
+        final_policy (scene_of (course_of player).start trace (desk_book desk.now)) (run_of (player_of played)) ≡ (course_of played).state.policy) }
 {
-    play_turns(alloc, &mut player, schedule)?;
-    play_rounds(alloc, &mut player)?;
+    let Ok(editors) = u32::try_from(player.machine().opening().editors.len()) else {
+        drop(player);
+        return Err(AllocError);
+    };
+    let everybody = one_round(alloc, editors, player.machine().opening().trees)?;
+    play_turns(alloc, &mut player, desk, schedule)?;
+    play_rounds(alloc, &mut player, desk, everybody.as_slice())?;
     Ok(player)
 }
 
-/// Puts these takes last.
+// Puts these takes last.
 fn append(out: &mut Seq<Take>, takes: Seq<Take>) -> Result<(), NoMemory>
     ensures { OnOk result (out.new ≡ out.old ++ takes) }
 {
@@ -81,23 +65,25 @@ fn append(out: &mut Seq<Take>, takes: Seq<Take>) -> Result<(), NoMemory>
     Ok(())
 }
 
-/// The takes of all trees, tree by tree.
+// The takes of all trees, tree by tree.
 fn all_takes(alloc: Global, trees: Vec<TreeOnWay>) -> Result<Seq<Take>, NoMemory>
     ensures { IfOk result (λ takes. takes ≡ flat_map (λ (way : Way). way.takes) (map way_of trees.items)) }
 {
     let mut all = Seq::new(alloc);
     for tree in trees {
-        append(&mut all, tree.takes)?;
+        append(&mut all, tree.into_takes())?;
     }
     Ok(all)
 }
 
 /// The run of a play that is over, and the machine at its last version.
+///
+/// Errors: want of memory.
 pub fn end_play<R: Rep>(alloc: Global, player: Player<R>) -> Result<(Run, Machine<R>), NoMemory>
-    ensures run { IfOk result (λ ended. ended.0 ≡ run_of (player_of player.machine player.trees.items)) }
-    ensures machine { IfOk result (λ ended. ended.1 ≡ player.machine) }
+    ensures run { IfOk result (λ ended. ended.0 ≡ run_of (player_of player)) }
+    ensures machine { IfOk result (λ ended. ended.1 ≡ course_of player) }
 {
-    let Player { machine, trees } = player;
+    let Player { machine, trees, .. } = player;
     let steps = machine.history(alloc)?;
     let takes = all_takes(alloc, trees)?;
     Ok((Run { steps, takes }, machine))

@@ -6,11 +6,9 @@
 #[cfg(test)]
 mod audit;
 #[cfg(test)]
+mod calls;
+#[cfg(test)]
 mod desk;
-#[cfg(test)]
-mod forms_schedule;
-#[cfg(test)]
-mod forms_trace;
 #[cfg(test)]
 mod policy;
 #[cfg(test)]
@@ -41,5 +39,9 @@ mod text_managers;
 mod text_profiles;
 #[cfg(test)]
 mod top_call;
+#[cfg(test)]
+mod top_plays;
+#[cfg(test)]
+mod top_refusals;
 #[cfg(test)]
 mod trace;

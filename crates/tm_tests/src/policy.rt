@@ -1,22 +1,17 @@
-//! Calls of `tm_policy` and of the verdict in `tm_core`.
+//! Calls of `tm_policy`.
 ghost use Rattle.std.specs.Prelude.{IfOk};
 ghost use Rattle.tm_rules.specs.Few.{IsFew};
 
-use crate::samples::{policy, process, read, read_line};
+use crate::samples::{policy, read_line};
 use std::alloc::{AllocError, Global};
 use std::test::Fail;
-use tm_core::{Machine, verdict};
 use tm_list::{Copied, NoMemory, Seq};
 use tm_policy::{
     Plain, PolicyCalls, Rep, apply_learn, apply_make, domain_at, is_few, print_entry, profile_of,
 };
-use tm_rules::{is_execute, is_manual};
 use tm_types::entry::Entry;
-use tm_types::function_at;
 use tm_types::policy::{Mode, Policy};
-use tm_types::request::Request;
 use tm_types::step::{LearnReply, MakeReply};
-use tm_types::verdict::{EntryPlace, Reason, Verdict};
 use tm_word::bytes_equal;
 
 /// The reply to a line that the first domain learns; the domain and its profile are there.
@@ -46,30 +41,6 @@ fn make(alloc: Global, policy: &mut Policy, name: &[u8]) -> Result<MakeReply, No
     }
     let name = Seq::from_bytes(alloc, name)?;
     apply_make(alloc, policy, 0, name)
-}
-
-/// The verdict on a request in the domain of this number, which is there with its profile; the request is neither an execute nor a manual
-/// transition.
-fn verdict_on<R: Rep>(
-    alloc: Global,
-    machine: &Machine<R>,
-    number: u32,
-    request: &Request,
-) -> Result<Verdict, NoMemory> {
-    let policy = machine.policy();
-    let Some(domain) = domain_at(policy, number) else {
-        return Err(AllocError);
-    };
-    let Some(_profile) = profile_of(policy, domain) else {
-        return Err(AllocError);
-    };
-    let Some(_function) = function_at(request.args(), request.perm()) else {
-        return Err(AllocError);
-    };
-    if is_execute(request) || is_manual(request) {
-        return Err(AllocError);
-    }
-    verdict(alloc, machine, number, &process(), request)
 }
 
 /// The lines of the first domain, as they are printed, each with a newline behind it.
@@ -162,50 +133,4 @@ fn a_domain_is_made_once(rt: HostRuntime) -> Result<(), Fail> {
         None => assert!(rt; false),
     }
     Ok(())
-}
-
-#[test]
-fn reads_are_judged_by_the_mode(rt: HostRuntime) -> Result<(), Fail> {
-    let alloc = rt.alloc();
-    let missed = [
-        Reason::Disabled,
-        Reason::Learn,
-        Reason::Permissive,
-        Reason::NoEntry,
-    ];
-    let modes = [
-        Mode::Disabled,
-        Mode::Learning,
-        Mode::Permissive,
-        Mode::Enforcing,
-    ];
-    for place in 0..4 {
-        let rep = plain(policy(alloc, modes[place], None)?)?;
-        let machine = Machine::start(alloc, rep, Vec::new(alloc), 1, false)?;
-        assert_eq!(rt; machine.opening().copy(alloc)?.trees, 1);
-        assert!(rt; machine.step_at(0).is_none() && machine.step_at(1).is_none());
-        for (number, name) in [(0, "/a"), (1, "/b")] {
-            let own = verdict_on(alloc, &machine, number, &read(alloc, name.as_bytes())?)?;
-            let by_entry = matches!(own.reason, Reason::Entry(EntryPlace::Own(0)));
-            assert!(rt; by_entry == (place != 0));
-            let other = verdict_on(alloc, &machine, 1 - number, &read(alloc, name.as_bytes())?)?;
-            assert!(rt; reason_number(other.reason) == reason_number(missed[place]));
-        }
-    }
-    Ok(())
-}
-
-/// The case of a reason.
-fn reason_number(reason: Reason) -> u8 {
-    match reason {
-        Reason::Entry(_) => 0,
-        Reason::Disabled => 1,
-        Reason::Permissive => 2,
-        Reason::Quota => 3,
-        Reason::Learn => 4,
-        Reason::Ask => 5,
-        Reason::NoEntry => 6,
-        Reason::NotReady => 7,
-        Reason::NoManual => 8,
-    }
 }

@@ -1,12 +1,13 @@
 //! The top call over files in memory.
+use crate::calls::{call, files_of};
 use std::alloc::Global;
 use std::test::Fail;
-use tm_io::{FileList, FileName, MemoryShelf, MemorySink};
+use tm_io::{FileList, FileName};
 use tm_list::NoMemory;
 use tm_types::entry::LineKind;
 use tm_types::step::{EditReply, FileKind};
 use tm_word::Text;
-use tomoyo::{OutName, Status, run_alone};
+use tomoyo::{OutName, Status};
 
 const PROFILE: &[u8] = b"PROFILE_VERSION=20150505\n\
 0-CONFIG={ mode=disabled grant_log=no reject_log=no }\n\
@@ -15,46 +16,6 @@ const PROFILE: &[u8] = b"PROFILE_VERSION=20150505\n\
 2-PREFERENCE={ max_audit_log=1024 max_learning_entry=3 }\n";
 
 const TRACE: &[u8] = b"tree 7 <kernel>\ndo 7 file read /a\ndo 7 file read /b\n";
-
-// How a call ended, and what it stored and put.
-#[derive(Drop)]
-struct Ended {
-    status: Status,
-    run: Text,
-    profile: Text,
-    exception: Text,
-    domain: Text,
-    manager: Text,
-    line: Text,
-}
-
-// What a shelf holds of a file, nothing where it isn't there.
-fn held(alloc: Global, shelf: &MemoryShelf, name: FileName) -> Result<Text, NoMemory> {
-    match shelf.get(name) {
-        Some(bytes) => Text::from_bytes(alloc, bytes),
-        None => Ok(Text::new(alloc)),
-    }
-}
-
-// A call with this word over these files, of which calls with these numbers fail.
-fn call(alloc: Global, word: &str, files: FileList, fails: Vec<u32>) -> Result<Ended, NoMemory> {
-    let mut words = Vec::new(alloc);
-    if !word.is_empty() {
-        words.push(String::from_str(alloc, word)?)?;
-    }
-    let mut shelf = MemoryShelf::new(alloc, files, fails);
-    let mut out = MemorySink::new(alloc, Vec::new(alloc));
-    let status = run_alone(alloc, words.as_slice(), &mut shelf, &mut out);
-    Ok(Ended {
-        status,
-        run: held(alloc, &shelf, FileName::Run)?,
-        profile: held(alloc, &shelf, FileName::ProfileNew)?,
-        exception: held(alloc, &shelf, FileName::ExceptionPolicyNew)?,
-        domain: held(alloc, &shelf, FileName::DomainPolicyNew)?,
-        manager: held(alloc, &shelf, FileName::ManagerNew)?,
-        line: Text::from_bytes(alloc, out.bytes())?,
-    })
-}
 
 // The two needed policy files.
 fn policy_files(alloc: Global, domain_policy: &[u8]) -> Result<FileList, NoMemory> {
@@ -142,17 +103,6 @@ file getattr /b\n\
 }
 
 #[test]
-fn a_line_that_is_not_built_is_named(rt: HostRuntime) -> Result<(), Fail> {
-    let alloc = rt.alloc();
-    let texts = files(alloc, b"<kernel>\nuse_profile 1\nfile unlink /a\n", TRACE)?;
-    let ended = call(alloc, "step", texts, Vec::new(alloc))?;
-    assert!(rt; matches!(ended.status, Status::NotBuilt(FileName::DomainPolicy, 3)));
-    assert!(rt; ended.run.is_empty());
-    assert!(rt; ended.line.is_empty());
-    Ok(())
-}
-
-#[test]
 fn two_trees_that_look_at_one_version_learn_one_line(rt: HostRuntime) -> Result<(), Fail> {
     let alloc = rt.alloc();
     let trace = b"tree 7 <kernel>\ndo 7 file read /x\ntree 8 <kernel>\ndo 8 file read /x\n";
@@ -174,19 +124,6 @@ audit -\n";
     assert!(rt; matches!(ended.status, Status::Done));
     assert_eq!(rt; ended.run.bytes(), run);
     assert_eq!(rt; ended.line.bytes(), line);
-    Ok(())
-}
-
-#[test]
-fn a_schedule_names_trees_that_are_there(rt: HostRuntime) -> Result<(), Fail> {
-    let alloc = rt.alloc();
-    let mut texts = files(alloc, b"<kernel>\nuse_profile 1\n", TRACE)?;
-    texts.push((
-        FileName::Schedule,
-        Text::from_bytes(alloc, b"tree 1\ntree 9\n")?,
-    ))?;
-    let ended = call(alloc, "step", texts, Vec::new(alloc))?;
-    assert!(rt; matches!(ended.status, Status::NotBuilt(FileName::Schedule, 2)));
     Ok(())
 }
 
@@ -307,6 +244,49 @@ network inet stream connect 192.0.2.1 80\n\n";
     );
     assert_eq!(rt; ended.line.bytes(), b"domains 2 entries 3\n".as_slice());
     assert!(rt; ended.run.is_empty());
+    Ok(())
+}
+
+#[test]
+fn a_policy_of_one_namespace_is_printed(rt: HostRuntime) -> Result<(), Fail> {
+    let alloc = rt.alloc();
+    let profile = "PROFILE_VERSION=20150505\n\
+0-CONFIG={ mode=disabled grant_log=no reject_log=no }\n\
+1-CONFIG={ mode=enforcing grant_log=yes reject_log=yes }\n\
+2-CONFIG={ mode=learning grant_log=no reject_log=no }\n\
+4-CONFIG={ mode=permissive grant_log=no reject_log=no }\n";
+    let domain = "<kernel>\n\
+use_profile 1\n\
+file read /a\n";
+    let files = [
+        (FileName::Profile, profile),
+        (FileName::DomainPolicy, domain),
+    ];
+    let ended = call(alloc, "print", files_of(alloc, &files)?, Vec::new(alloc))?;
+    let profile = "<kernel> PROFILE_VERSION=20150505\n\
+<kernel> 0-COMMENT=\n\
+<kernel> 0-PREFERENCE={ max_audit_log=1024 max_learning_entry=2048 }\n\
+<kernel> 0-CONFIG={ mode=disabled grant_log=no reject_log=no }\n\
+<kernel> 1-COMMENT=\n\
+<kernel> 1-PREFERENCE={ max_audit_log=1024 max_learning_entry=2048 }\n\
+<kernel> 1-CONFIG={ mode=enforcing grant_log=yes reject_log=yes }\n\
+<kernel> 2-COMMENT=\n\
+<kernel> 2-PREFERENCE={ max_audit_log=1024 max_learning_entry=2048 }\n\
+<kernel> 2-CONFIG={ mode=learning grant_log=no reject_log=no }\n\
+<kernel> 4-COMMENT=\n\
+<kernel> 4-PREFERENCE={ max_audit_log=1024 max_learning_entry=2048 }\n\
+<kernel> 4-CONFIG={ mode=permissive grant_log=no reject_log=no }\n";
+    let domain = "<kernel>\n\
+use_profile 1\n\
+file read /a\n\
+\n";
+    assert!(rt; matches!(ended.status, Status::Done));
+    assert_eq!(rt; ended.profile.bytes(), profile.as_bytes());
+    assert!(rt; ended.exception.is_empty());
+    assert_eq!(rt; ended.domain.bytes(), domain.as_bytes());
+    assert!(rt; ended.manager.is_empty());
+    assert_eq!(rt; ended.line.bytes(), "domains 1 entries 1\n".as_bytes());
+    assert!(rt; ended.run.is_empty() && ended.audit.is_empty());
     Ok(())
 }
 

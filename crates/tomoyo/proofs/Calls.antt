@@ -65,7 +65,6 @@ fetches-stopped files want state rose (Status.BadScript name line kind) a b caus
 fetches-stopped files want state rose (Status.TooMany what) a b cause last = absurd cause
 fetches-stopped files want state rose (Status.WriteFault name) a b cause last = absurd cause
 fetches-stopped files want state rose Status.OutOfMemory a b cause last = first-last files want.name a b last
-fetches-stopped files want state rose (Status.NotBuilt name line) a b cause last = absurd cause
 
 -- a fetch decides before anything is stored
 pub stores-unfetched : (files : List FileName) (held : Files) (wants : List Want) (rose : Type 0) (status : Status) (a b : Names) → FetchStops held wants rose status → Noted [] a b → StoresOf files status a b
@@ -81,7 +80,6 @@ stores-unfetched files held wants rose (Status.BadScript name line kind) a b sto
 stores-unfetched files held wants rose (Status.TooMany what) a b stops none = none
 stores-unfetched files held wants rose (Status.WriteFault name) a b stops none = absurd stops.cause
 stores-unfetched files held wants rose Status.OutOfMemory a b stops none = first-none files a b none
-stores-unfetched files held wants rose (Status.NotBuilt name line) a b stops none = none
 
 -- what was read is refused after all fetches, and before anything is stored
 pub fetches-refused : (command : Command) (files : List FileName) (texts : Texts) (status : Status) (a b : Names) → Refuses command texts status → Noted files a b → FetchesOf files status a b
@@ -97,7 +95,6 @@ fetches-refused command files texts (Status.BadScript name line kind) a b refuse
 fetches-refused command files texts (Status.TooMany what) a b refused all = all
 fetches-refused command files texts (Status.WriteFault name) a b refused all = all
 fetches-refused command files texts Status.OutOfMemory a b refused all = first-all files a b all
-fetches-refused command files texts (Status.NotBuilt name line) a b refused all = all
 
 pub stores-refused : (command : Command) (files : List FileName) (texts : Texts) (status : Status) (a b : Names) → Refuses command texts status → Noted [] a b → StoresOf files status a b
 stores-refused command files texts Status.Done a b refused none = absurd (refusal-kind command texts Status.Done refused)
@@ -112,7 +109,6 @@ stores-refused command files texts (Status.BadScript name line kind) a b refused
 stores-refused command files texts (Status.TooMany what) a b refused none = none
 stores-refused command files texts (Status.WriteFault name) a b refused none = absurd (refusal-kind command texts (Status.WriteFault name) refused)
 stores-refused command files texts Status.OutOfMemory a b refused none = first-none files a b none
-stores-refused command files texts (Status.NotBuilt name line) a b refused none = none
 
 -- an outcome is carried out after all fetches
 pub fetches-carried : (files : List FileName) (outcome : Outcome) (old new : Outside) (status : Status) (a b : Names) → CarriedOut outcome old new status → Noted files a b → FetchesOf files status a b
@@ -128,7 +124,6 @@ fetches-carried files outcome old new (Status.BadScript name line kind) a b h al
 fetches-carried files outcome old new (Status.TooMany what) a b h all = all
 fetches-carried files outcome old new (Status.WriteFault name) a b h all = all
 fetches-carried files outcome old new Status.OutOfMemory a b h all = first-all files a b all
-fetches-carried files outcome old new (Status.NotBuilt name line) a b h all = all
 
 -- the stores of an outcome after calls that stored nothing
 pub stores-after : (files : List FileName) (status : Status) (a b c : Names) → Noted [] a b → StoresOf files status b c → StoresOf files status a c
@@ -145,4 +140,3 @@ stores-after files (Status.TooMany what) a b c none h = none-before a b c [] non
 stores-after files (Status.WriteFault (OutName.File name)) a b c none h = record { before = h.before; after = h.after; all = h.all; noted = none-before a b c (h.before ++ name ∷ []) none h.noted }
 stores-after files (Status.WriteFault OutName.StandardOutput) a b c none h = none-before a b c files none h
 stores-after files Status.OutOfMemory a b c none h = record { made = h.made; left = h.left; all = h.all; noted = none-before a b c h.made none h.noted }
-stores-after files (Status.NotBuilt name line) a b c none h = none-before a b c [] none h

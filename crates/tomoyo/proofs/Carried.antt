@@ -45,4 +45,3 @@ carried-after outcome old mid new (Status.UndefinedProfile domain) quiet h = abs
 carried-after outcome old mid new (Status.BadTrace line kind) quiet h = absurd h.0
 carried-after outcome old mid new (Status.BadScript name line kind) quiet h = absurd h.0
 carried-after outcome old mid new (Status.TooMany what) quiet h = absurd h.0
-carried-after outcome old mid new (Status.NotBuilt name line) quiet h = absurd h.0

@@ -10,7 +10,7 @@ use Rattle.tomoyo.specs.Fetches.{Texts, AllGiven, FetchStops}
 use Rattle.tomoyo.specs.Stores.{is_named}
 use Rattle.tomoyo.specs.Ends.{Outside, Untouched, Ends, CarriedOut}
 use Rattle.tomoyo.specs.Call.{wants_of, Refuses, Allows, CommandCause}
-use Rattle.tomoyo.proofs.Refusals.{refusal-kind, not-built, bad-policy, undefined-profile, names-allowed}
+use Rattle.tomoyo.proofs.Refusals.{refusal-kind, bad-policy, undefined-profile, bad-trace, bad-script, too-many, names-allowed}
 use Rattle.tomoyo.proofs.Others.{named-at, self-same}
 
 -- a fetch that ends the call
@@ -19,7 +19,6 @@ fetch-cause command old new Status.Done stops untouched = absurd stops.cause
 fetch-cause command old new (Status.ReadFault name) stops untouched = (stops, untouched)
 fetch-cause command old new (Status.WriteFault name) stops untouched = absurd stops.cause
 fetch-cause command old new Status.OutOfMemory stops untouched = untouched.written
-fetch-cause command old new (Status.NotBuilt name line) stops untouched = absurd stops.cause
 fetch-cause command old new (Status.BadWords place) stops untouched = absurd stops.cause
 fetch-cause command old new (Status.Absent name) stops untouched = (stops, untouched)
 fetch-cause command old new (Status.TooLong name) stops untouched = (stops, untouched)
@@ -35,15 +34,14 @@ refused-cause command old new texts Status.Done given refused untouched = tt
 refused-cause command old new texts (Status.ReadFault name) given refused untouched = absurd (refusal-kind command texts (Status.ReadFault name) refused)
 refused-cause command old new texts (Status.WriteFault name) given refused untouched = absurd (refusal-kind command texts (Status.WriteFault name) refused)
 refused-cause command old new texts Status.OutOfMemory given refused untouched = untouched.written
-refused-cause command old new texts (Status.NotBuilt name line) given refused untouched = (not-built command old.files texts name line given refused, untouched)
 refused-cause command old new texts (Status.BadWords place) given refused untouched = absurd (refusal-kind command texts (Status.BadWords place) refused)
 refused-cause command old new texts (Status.Absent name) given refused untouched = absurd (refusal-kind command texts (Status.Absent name) refused)
 refused-cause command old new texts (Status.TooLong name) given refused untouched = absurd (refusal-kind command texts (Status.TooLong name) refused)
 refused-cause command old new texts (Status.BadPolicy file line reply) given refused untouched = (bad-policy command old.files texts file line reply given refused, untouched)
 refused-cause command old new texts (Status.UndefinedProfile domain) given refused untouched = (undefined-profile command old.files texts domain given refused, untouched)
-refused-cause command old new texts (Status.BadTrace line kind) given refused untouched = absurd (refusal-kind command texts (Status.BadTrace line kind) refused)
-refused-cause command old new texts (Status.BadScript name line kind) given refused untouched = absurd (refusal-kind command texts (Status.BadScript name line kind) refused)
-refused-cause command old new texts (Status.TooMany what) given refused untouched = absurd (refusal-kind command texts (Status.TooMany what) refused)
+refused-cause command old new texts (Status.BadTrace line kind) given refused untouched = (bad-trace command old.files texts line kind given refused, untouched)
+refused-cause command old new texts (Status.BadScript name line kind) given refused untouched = (bad-script command old.files texts name line kind given refused, untouched)
+refused-cause command old new texts (Status.TooMany what) given refused untouched = (too-many command old.files texts what given refused, untouched)
 
 -- an outcome that is carried out
 carried-cause : (command : Command) (old new : Outside) (texts : Texts) (outcome : Outcome) (status : Status) → Allows command texts outcome → CarriedOut outcome old new status → CommandCause command old new status
@@ -53,7 +51,6 @@ carried-cause command old new texts outcome (Status.WriteFault (OutName.File nam
     (h.0.1, ap (λ (names : List FileName). is_named names name) (sym (names-allowed command texts outcome allowed)) ∙ named-at outcome.stores h.0.0.made name (h.0.0.text ++ h.0.0.rest) (self-same name) h.0.0.at, h.1)
 carried-cause command old new texts outcome (Status.WriteFault OutName.StandardOutput) allowed h = h.rose
 carried-cause command old new texts outcome Status.OutOfMemory allowed h = h.1
-carried-cause command old new texts outcome (Status.NotBuilt name line) allowed h = absurd h.0
 carried-cause command old new texts outcome (Status.BadWords place) allowed h = absurd h.0
 carried-cause command old new texts outcome (Status.Absent name) allowed h = absurd h.0
 carried-cause command old new texts outcome (Status.TooLong name) allowed h = absurd h.0

@@ -14,7 +14,7 @@ use Rattle.tomoyo.specs.Fetches.{Texts, IsTold, TellsAll}
 use Rattle.tomoyo.specs.Stores.{stored, Leaves, names_of, is_named}
 use Rattle.tomoyo.specs.Ends.{Outside, Ends, CarriedOut}
 use Rattle.tomoyo.specs.Play.{Plays}
-use Rattle.tomoyo.specs.Print.{policy_of, counts_text, printed_policy}
+use Rattle.tomoyo.specs.Print.{policy_of, printed_policy}
 use Rattle.tomoyo.specs.Call.{wants_of, stored_by, step_stores, policy_stores, Refuses, Allows, IsPlayed, IsShown, HasDone}
 use Rattle.tomoyo.proofs.Refusals.{refusal-kind, names-allowed}
 use Rattle.tomoyo.proofs.Others.{changed-other, not-first, not-later, stored-other, leaves-other, cut-other, first-other}
@@ -27,7 +27,6 @@ carried-others old new outcome (Status.ReadFault named) name h e = absurd h.0
 carried-others old new outcome (Status.WriteFault (OutName.File named)) name h e = cut-other outcome.stores old.files new.files named name h.0.0 e
 carried-others old new outcome (Status.WriteFault OutName.StandardOutput) name h e = leaves-other outcome.stores old.files new.files name h.files e
 carried-others old new outcome Status.OutOfMemory name h e = first-other outcome.stores h.0.0 old.files new.files name h.0.1 e
-carried-others old new outcome (Status.NotBuilt named line) name h e = absurd h.0
 carried-others old new outcome (Status.BadWords place) name h e = absurd h.0
 carried-others old new outcome (Status.Absent named) name h e = absurd h.0
 carried-others old new outcome (Status.TooLong named) name h e = absurd h.0

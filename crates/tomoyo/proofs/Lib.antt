@@ -7,5 +7,5 @@ pub mod Causes
 pub mod Calls
 pub mod Exact
 pub mod Headline
-pub mod Openings
+pub mod Readings
 pub mod Playing

@@ -1,104 +1,188 @@
 -- What is refused, and what is stored.
-use Rattle.std.proofs.Common.{◌≡◌, ℕ, Option, Some, None, Result, Ok, Err, ap, subst}
+use Rattle.std.proofs.Common.{◌≡◌, ℕ, Option, Some, None, Result, Ok, Err, ap, refl, subst, ◌⊎◌, inl, inr, length}
+use Rattle.std.specs.Prelude.{unwrap_or}
+use Rattle.tm_word.specs.Words.{Text}
+use Rattle.tm_word.specs.Gives.{◌>>=◌}
 use Rattle.tm_io.specs.declared.names.FileName.{FileName}
 use Rattle.tomoyo.specs.declared.status.Status.{Status}
+use Rattle.tomoyo.specs.declared.status.What.{What}
 use Rattle.tomoyo.specs.declared.carry.Outcome.{Outcome}
+use Rattle.tomoyo.specs.declared.reading.Loaded.{Loaded}
 use Rattle.tomoyo.specs.declared.words.Command.{Command}
-use Rattle.tomoyo.specs.Fetches.{Texts}
 use Rattle.tomoyo.specs.Stores.{names_of}
 use Rattle.tm_io.specs.Files.{Files}
 use Rattle.tm_types.specs.declared.policy.Policy.{Policy}
+use Rattle.tm_types.specs.declared.request.ScriptKind.{ScriptKind}
+use Rattle.tm_types.specs.declared.request.TraceKind.{TraceKind}
 use Rattle.tm_types.specs.declared.step.FileKind.{FileKind}
 use Rattle.tm_types.specs.declared.step.EditReply.{EditReply}
 use Rattle.tm_types.specs.declared.step.LoadFault.{LoadFault}
-use Rattle.tomoyo.specs.Fetches.{AllGiven}
-use Rattle.tomoyo.specs.Play.{step_refusal, not_built_at}
-use Rattle.tomoyo.specs.Print.{policy_of, load_refusal}
-use Rattle.tomoyo.specs.Call.{wants_of, stored_by, refusal_of, Allows, IsNotBuilt, IsLoadFault}
+use Rattle.tm_trace.specs.Reading.{trace_of, tree_line_at}
+use Rattle.tm_script.specs.Edits.{edits_of}
+use Rattle.tm_script.specs.Answers.{answers_of}
+use Rattle.tm_script.specs.Schedule.{schedule_of}
+use Rattle.tomoyo.specs.Fetches.{Texts, AllGiven, content}
+use Rattle.tomoyo.specs.Print.{policy_of, fault_status, load_refusal}
+use Rattle.tomoyo.specs.Reading.{of_policy, of_trace, of_script, excess, homeless, within_limits, with_homes, refused, step_reading, step_refusal}
+use Rattle.tomoyo.specs.Call.{wants_of, stored_by, refusal_of, Allows, IsLoadFault, IsStepFault}
 
--- the statuses of refusals
+-- What `step` refuses
+
+-- the statuses of faults beside the policy
+abbrev IsLater : Status → Type 0
+IsLater (Status.BadTrace line kind) = Unit {0}
+IsLater (Status.BadScript name line kind) = Unit {0}
+IsLater (Status.TooMany what) = Unit {0}
+IsLater _ = ⊥
+
+-- a reading in two steps fails as its first step or as its second
+failed : {A B : Type 0} (P : Status → Type 0) (r : Result A Status) (f : A → Result B Status) (status : Status) → ((s : Status) → r ≡ Err s → P s) → ((x : A) → f x ≡ Err status → P status) → (r >>= f) ≡ Err status → P status
+failed P (Ok x) f status first second e = second x e
+failed P (Err s) f status first second e = let same : s ≡ status = cc in subst P same (first s refl)
+
+trace-later : {A : Type 0} (r : Result A (ℕ × TraceKind)) (status : Status) → of_trace r ≡ Err status → IsLater status
+trace-later (Ok x) status e = absurd cc
+trace-later (Err fault) status e = let same : Status.BadTrace fault.0 fault.1 ≡ status = cc in subst (λ (s : Status). IsLater s) same tt
+
+script-later : {A : Type 0} (name : FileName) (r : Result A (ℕ × ScriptKind)) (status : Status) → of_script name r ≡ Err status → IsLater status
+script-later name (Ok x) status e = absurd cc
+script-later name (Err fault) status e = let same : Status.BadScript name fault.0 fault.1 ≡ status = cc in subst (λ (s : Status). IsLater s) same tt
+
+limits-later : (o : Option What) (loaded : Loaded) (status : Status) → within_limits o loaded ≡ Err status → IsLater status
+limits-later None loaded status e = absurd cc
+limits-later (Some what) loaded status e = let same : Status.TooMany what ≡ status = cc in subst (λ (s : Status). IsLater s) same tt
+
+homes-later : (text : Text) (o : Option ℕ) (loaded : Loaded) (status : Status) → with_homes text o loaded ≡ Err status → IsLater status
+homes-later text None loaded status e = absurd cc
+homes-later text (Some place) loaded status e = let same : Status.BadTrace (unwrap_or (tree_line_at text place) 0) TraceKind.NoDomain ≡ status = cc in subst (λ (s : Status). IsLater s) same tt
+
+-- how a reading of the policy and of what comes after it fails
+abbrev FailsSo : Texts → Status → Type 0
+FailsSo texts status = ((fault : LoadFault) × (policy_of texts ≡ Err fault) × (fault_status fault ≡ status)) ⊎ IsLater status
+
+policy-fails : {A : Type 0} (r : Result Policy LoadFault) (f : Policy → Result A Status) (status : Status) → ((policy : Policy) → f policy ≡ Err status → IsLater status) → (of_policy r >>= f) ≡ Err status
+    → ((fault : LoadFault) × (r ≡ Err fault) × (fault_status fault ≡ status)) ⊎ IsLater status
+policy-fails (Ok policy) f status later e = inr (later policy e)
+policy-fails (Err fault) f status later e = let same : fault_status fault ≡ status = cc in inl (fault, refl, same)
+
+step-fails : (texts : Texts) (status : Status) → step_reading texts ≡ Err status → FailsSo texts status
+unfolding step_reading
+step-fails texts status e =
+    policy-fails (policy_of texts) _ status
+    (λ policy after_policy. failed IsLater (of_trace (trace_of (content texts FileName.Trace))) _ status (trace-later (trace_of (content texts FileName.Trace)))
+    (λ trace after_trace. failed IsLater (of_script FileName.Edits (edits_of (content texts FileName.Edits))) _ status (script-later FileName.Edits (edits_of (content texts FileName.Edits)))
+    (λ editors after_editors. failed IsLater (of_script FileName.Answers (answers_of (content texts FileName.Answers))) _ status (script-later FileName.Answers (answers_of (content texts FileName.Answers)))
+    (λ book after_book. failed IsLater (of_script FileName.Schedule (schedule_of (length trace) (length editors) (content texts FileName.Schedule))) _ status
+    (script-later FileName.Schedule (schedule_of (length trace) (length editors) (content texts FileName.Schedule)))
+    (λ schedule after_schedule.
+    let read : Loaded = record { policy = policy; trace = trace; editors = editors; book = book; schedule = schedule } in
+    failed IsLater (within_limits (excess read) read) (λ few. with_homes (content texts FileName.Trace) (homeless few.policy few.trace) few) status (limits-later (excess read) read)
+    (λ few after_limits. homes-later (content texts FileName.Trace) (homeless few.policy few.trace) few status after_limits) after_schedule) after_book) after_editors) after_trace) after_policy) e
+
+was-refused : (r : Result Loaded Status) (status : Status) → refused r ≡ Some status → r ≡ Err status
+was-refused (Ok loaded) status e = absurd cc
+was-refused (Err s) status e = let same : s ≡ status = cc in ap (λ x. Err x) same
+
+step-refused : (texts : Texts) (status : Status) → step_refusal texts ≡ Some status → FailsSo texts status
+unfolding step_refusal
+step-refused texts status e = step-fails texts status (was-refused (step_reading texts) status e)
+
+-- The statuses of refusals
+
 abbrev pub IsRefusal : Status → Type 0
-IsRefusal (Status.NotBuilt name line) = Unit {0}
 IsRefusal (Status.BadPolicy file line reply) = Unit {0}
 IsRefusal (Status.UndefinedProfile domain) = Unit {0}
+IsRefusal (Status.BadTrace line kind) = Unit {0}
+IsRefusal (Status.BadScript name line kind) = Unit {0}
+IsRefusal (Status.TooMany what) = Unit {0}
 IsRefusal Status.OutOfMemory = Unit {0}
 IsRefusal _ = ⊥
 
--- the status of a line that isn't built
-line-kind : (x : Option (FileName × ℕ)) (status : Status) → not_built_at x ≡ Some status → IsRefusal status
-line-kind None status e = cc
-line-kind (Some at) status e =
-    let is : Status.NotBuilt at.0 at.1 ≡ status = cc in
-    subst (λ (s : Status). IsRefusal s) is tt
+fault-kind : (fault : LoadFault) → IsRefusal (fault_status fault)
+fault-kind (LoadFault.Line file line reply) = tt
+fault-kind (LoadFault.UndefinedProfile domain) = tt
+fault-kind LoadFault.NoMemory = tt
 
-step-kind : (texts : Texts) (status : Status) → step_refusal texts ≡ Some status → IsRefusal status
-unfolding step_refusal
-step-kind texts status e = line-kind _ status e
+later-kind : (status : Status) → IsLater status → IsRefusal status
+later-kind (Status.BadTrace line kind) h = tt
+later-kind (Status.BadScript name line kind) h = tt
+later-kind (Status.TooMany what) h = tt
+later-kind Status.Done h = h
+later-kind (Status.BadWords place) h = h
+later-kind (Status.ReadFault name) h = h
+later-kind (Status.Absent name) h = h
+later-kind (Status.TooLong name) h = h
+later-kind (Status.BadPolicy file line reply) h = tt
+later-kind (Status.UndefinedProfile domain) h = tt
+later-kind (Status.WriteFault name) h = h
+later-kind Status.OutOfMemory h = tt
 
--- the fault by the status
-load-kind : (r : Result Policy LoadFault) (status : Status) → load_refusal r ≡ Some status → IsRefusal status
-load-kind (Ok policy) status e = cc
-load-kind (Err (LoadFault.Line file line reply)) status e =
-    let is : Status.BadPolicy file line reply ≡ status = cc in
-    subst (λ (s : Status). IsRefusal s) is tt
-load-kind (Err (LoadFault.UndefinedProfile domain)) status e =
-    let is : Status.UndefinedProfile domain ≡ status = cc in
-    subst (λ (s : Status). IsRefusal s) is tt
-load-kind (Err LoadFault.NoMemory) status e =
-    let is : Status.OutOfMemory ≡ status = cc in
-    subst (λ (s : Status). IsRefusal s) is tt
+step-kind : (texts : Texts) (status : Status) → FailsSo texts status → IsRefusal status
+step-kind texts status (inl h) = subst (λ (s : Status). IsRefusal s) h.2 (fault-kind h.0)
+step-kind texts status (inr later) = later-kind status later
+
+-- a fault of loading, by the refusal
+load-refused : (r : Result Policy LoadFault) (status : Status) → load_refusal r ≡ Some status → (fault : LoadFault) × (r ≡ Err fault) × (fault_status fault ≡ status)
+load-refused (Ok policy) status e = absurd cc
+load-refused (Err fault) status e = let same : fault_status fault ≡ status = cc in (fault, refl, same)
 
 pub refusal-kind : (command : Command) (texts : Texts) (status : Status) → refusal_of command texts ≡ Some status → IsRefusal status
-refusal-kind Command.Step texts status e = step-kind texts status e
-refusal-kind Command.Print texts status e = load-kind (policy_of texts) status e
+refusal-kind Command.Step texts status e = step-kind texts status (step-refused texts status e)
+refusal-kind Command.Print texts status e = step-kind texts status (inl (load-refused (policy_of texts) status e))
 
--- the causes of the statuses of refusals
-load-not-built : (r : Result Policy LoadFault) (name : FileName) (line : ℕ) → load_refusal r ≡ Some (Status.NotBuilt name line) → ⊥
-load-not-built (Ok policy) name line e = cc
-load-not-built (Err (LoadFault.Line file number reply)) name line e = cc
-load-not-built (Err (LoadFault.UndefinedProfile domain)) name line e = cc
-load-not-built (Err LoadFault.NoMemory) name line e = cc
+-- The causes of the statuses of refusals
 
-load-line : (r : Result Policy LoadFault) (file : FileKind) (line : ℕ) (reply : EditReply) → load_refusal r ≡ Some (Status.BadPolicy file line reply) → r ≡ Err (LoadFault.Line file line reply)
-load-line (Ok policy) file line reply e = cc
-load-line (Err (LoadFault.Line f n y)) file line reply e = cc
-load-line (Err (LoadFault.UndefinedProfile domain)) file line reply e = cc
-load-line (Err LoadFault.NoMemory) file line reply e = cc
+abbrev HasFault : Texts → Status → Type 0
+HasFault texts status = (fault : LoadFault) × (policy_of texts ≡ Err fault) × (fault_status fault ≡ status)
 
-load-undefined : (r : Result Policy LoadFault) (domain : ℕ) → load_refusal r ≡ Some (Status.UndefinedProfile domain) → r ≡ Err (LoadFault.UndefinedProfile domain)
-load-undefined (Ok policy) domain e = cc
-load-undefined (Err (LoadFault.Line f n y)) domain e = cc
-load-undefined (Err (LoadFault.UndefinedProfile d)) domain e = cc
-load-undefined (Err LoadFault.NoMemory) domain e = cc
+loaded-so : (command : Command) (texts : Texts) (status : Status) → ¬ IsLater status → refusal_of command texts ≡ Some status → HasFault texts status
+loaded-so Command.Step texts status not_later e = go (step-refused texts status e)
+  where
+    go : FailsSo texts status → HasFault texts status
+    go (inl h) = h
+    go (inr later) = absurd (not_later later)
+loaded-so Command.Print texts status not_later e = load-refused (policy_of texts) status e
 
--- a line that isn't built has no status of loading
-line-line : (x : Option (FileName × ℕ)) (file : FileKind) (line : ℕ) (reply : EditReply) → not_built_at x ≡ Some (Status.BadPolicy file line reply) → ⊥
-line-line None file line reply e = cc
-line-line (Some at) file line reply e = cc
+fault-line : (fault : LoadFault) (file : FileKind) (line : ℕ) (reply : EditReply) → fault_status fault ≡ Status.BadPolicy file line reply → fault ≡ LoadFault.Line file line reply
+fault-line (LoadFault.Line f n y) file line reply e = cc
+fault-line (LoadFault.UndefinedProfile domain) file line reply e = cc
+fault-line LoadFault.NoMemory file line reply e = cc
 
-line-undefined : (x : Option (FileName × ℕ)) (domain : ℕ) → not_built_at x ≡ Some (Status.UndefinedProfile domain) → ⊥
-line-undefined None domain e = cc
-line-undefined (Some at) domain e = cc
+fault-undefined : (fault : LoadFault) (domain : ℕ) → fault_status fault ≡ Status.UndefinedProfile domain → fault ≡ LoadFault.UndefinedProfile domain
+fault-undefined (LoadFault.Line f n y) domain e = cc
+fault-undefined (LoadFault.UndefinedProfile d) domain e = cc
+fault-undefined LoadFault.NoMemory domain e = cc
 
-step-line : (texts : Texts) (file : FileKind) (line : ℕ) (reply : EditReply) → step_refusal texts ≡ Some (Status.BadPolicy file line reply) → ⊥
-unfolding step_refusal
-step-line texts file line reply e = line-line _ file line reply e
-
-step-undefined : (texts : Texts) (domain : ℕ) → step_refusal texts ≡ Some (Status.UndefinedProfile domain) → ⊥
-unfolding step_refusal
-step-undefined texts domain e = line-undefined _ domain e
-
-pub not-built : (command : Command) (files : Files) (texts : Texts) (name : FileName) (line : ℕ) → AllGiven files (wants_of command) texts → refusal_of command texts ≡ Some (Status.NotBuilt name line) → IsNotBuilt command files (Status.NotBuilt name line)
-not-built Command.Step files texts name line given e = (texts, given, e)
-not-built Command.Print files texts name line given e = load-not-built (policy_of texts) name line e
-
-pub bad-policy : (command : Command) (files : Files) (texts : Texts) (file : FileKind) (line : ℕ) (reply : EditReply) → AllGiven files (wants_of command) texts → refusal_of command texts ≡ Some (Status.BadPolicy file line reply) → IsLoadFault command files (LoadFault.Line file line reply)
-bad-policy Command.Step files texts file line reply given e = step-line texts file line reply e
-bad-policy Command.Print files texts file line reply given e = (texts, given, load-line (policy_of texts) file line reply e)
+pub bad-policy : (command : Command) (files : Files) (texts : Texts) (file : FileKind) (line : ℕ) (reply : EditReply) → AllGiven files (wants_of command) texts → refusal_of command texts ≡ Some (Status.BadPolicy file line reply)
+    → IsLoadFault command files (LoadFault.Line file line reply)
+bad-policy command files texts file line reply given e =
+    let (fault, is, same) = loaded-so command texts (Status.BadPolicy file line reply) (λ h. h) e in
+    (texts, given, subst (λ (f : LoadFault). policy_of texts ≡ Err f) (fault-line fault file line reply same) is)
 
 pub undefined-profile : (command : Command) (files : Files) (texts : Texts) (domain : ℕ) → AllGiven files (wants_of command) texts → refusal_of command texts ≡ Some (Status.UndefinedProfile domain) → IsLoadFault command files (LoadFault.UndefinedProfile domain)
-undefined-profile Command.Step files texts domain given e = step-undefined texts domain e
-undefined-profile Command.Print files texts domain given e = (texts, given, load-undefined (policy_of texts) domain e)
+undefined-profile command files texts domain given e =
+    let (fault, is, same) = loaded-so command texts (Status.UndefinedProfile domain) (λ h. h) e in
+    (texts, given, subst (λ (f : LoadFault). policy_of texts ≡ Err f) (fault-undefined fault domain same) is)
+
+-- `print` has no fault beside the policy
+fault-early : (fault : LoadFault) (status : Status) → fault_status fault ≡ status → ¬ IsLater status
+fault-early (LoadFault.Line file line reply) status e = subst (λ (s : Status). ¬ IsLater s) e (λ h. h)
+fault-early (LoadFault.UndefinedProfile domain) status e = subst (λ (s : Status). ¬ IsLater s) e (λ h. h)
+fault-early LoadFault.NoMemory status e = subst (λ (s : Status). ¬ IsLater s) e (λ h. h)
+
+step-fault : (command : Command) (files : Files) (texts : Texts) (status : Status) → IsLater status → AllGiven files (wants_of command) texts → refusal_of command texts ≡ Some status → IsStepFault command files status
+step-fault Command.Step files texts status later given e = (texts, given, e)
+step-fault Command.Print files texts status later given e = let (fault, is, same) = load-refused (policy_of texts) status e in absurd (fault-early fault status same later)
+
+pub bad-trace : (command : Command) (files : Files) (texts : Texts) (line : ℕ) (kind : TraceKind) → AllGiven files (wants_of command) texts → refusal_of command texts ≡ Some (Status.BadTrace line kind) → IsStepFault command files (Status.BadTrace line kind)
+bad-trace command files texts line kind given e = step-fault command files texts (Status.BadTrace line kind) tt given e
+
+pub bad-script : (command : Command) (files : Files) (texts : Texts) (name : FileName) (line : ℕ) (kind : ScriptKind) → AllGiven files (wants_of command) texts → refusal_of command texts ≡ Some (Status.BadScript name line kind)
+    → IsStepFault command files (Status.BadScript name line kind)
+bad-script command files texts name line kind given e = step-fault command files texts (Status.BadScript name line kind) tt given e
+
+pub too-many : (command : Command) (files : Files) (texts : Texts) (what : What) → AllGiven files (wants_of command) texts → refusal_of command texts ≡ Some (Status.TooMany what) → IsStepFault command files (Status.TooMany what)
+too-many command files texts what given e = step-fault command files texts (Status.TooMany what) tt given e
 
 -- an outcome stores the command's files
 pub names-allowed : (command : Command) (texts : Texts) (outcome : Outcome) → Allows command texts outcome → names_of outcome.stores ≡ stored_by command

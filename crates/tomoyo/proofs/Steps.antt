@@ -44,7 +44,6 @@ cause-earlier want state a b c (Status.BadScript name line kind) le h = h
 cause-earlier want state a b c (Status.TooMany what) le h = h
 cause-earlier want state a b c (Status.WriteFault name) le h = h
 cause-earlier want state a b c Status.OutOfMemory le h = h
-cause-earlier want state a b c (Status.NotBuilt name line) le h = h
 
 -- a fetch that stops after others
 pub stops-at : (files mid : Files) (wants : List Want) (k : ℕ) (d : Want) (texts : Texts) (a b c : ℕ) (status : Status) → k < length wants → AllGiven files (take k wants) texts → SameFiles files mid → a ≤ b → FetchCause (get_or wants k d) (mid (get_or wants k d).name) (Rose b c) status → FetchStops files wants (Rose a c) status

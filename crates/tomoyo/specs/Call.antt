@@ -24,7 +24,8 @@ use Rattle.tomoyo.specs.Stores.{is_named}
 use Rattle.tm_io.specs.Notes.{Noted}
 use Rattle.tomoyo.specs.Calls.{Names, wanted, FetchesOf, StoresOf}
 use Rattle.tomoyo.specs.Ends.{Outside, Untouched, Ends}
-use Rattle.tomoyo.specs.Play.{step_refusal, RefusedBy, Plays}
+use Rattle.tomoyo.specs.Reading.{step_refusal, RefusedBy}
+use Rattle.tomoyo.specs.Play.{Plays}
 use Rattle.tomoyo.specs.Print.{policy_of, print_refusal, counts_text, printed_policy}
 
 abbrev pub want : FileName → Bool → Want
@@ -91,15 +92,14 @@ abbrev pub CallEnds : Result Command ℕ → Outside → Outside → Status → 
 CallEnds (Err place) old new status = (status ≡ Status.BadWords place) × Untouched old new
 CallEnds (Ok command) old new status = Ends (wants_of command) (Refuses command) (Allows command) old new status
 
--- a line of what `step` reads that isn't built
-abbrev pub IsNotBuilt : Command → Files → Status → Type 0
-IsNotBuilt Command.Step files status = (texts : Texts) × AllGiven files (wants_of Command.Step) texts × (step_refusal texts ≡ Some status)
-IsNotBuilt Command.Print files status = ⊥
-
--- a fault of loading what `print` reads
+-- a fault of loading what was read
 abbrev pub IsLoadFault : Command → Files → LoadFault → Type 0
-IsLoadFault Command.Step files fault = ⊥
-IsLoadFault Command.Print files fault = (texts : Texts) × AllGiven files (wants_of Command.Print) texts × (policy_of texts ≡ Err fault)
+IsLoadFault command files fault = (texts : Texts) × AllGiven files (wants_of command) texts × (policy_of texts ≡ Err fault)
+
+-- a refusal of what `step` reads beside the policy
+abbrev pub IsStepFault : Command → Files → Status → Type 0
+IsStepFault Command.Step files status = (texts : Texts) × AllGiven files (wants_of Command.Step) texts × (step_refusal texts ≡ Some status)
+IsStepFault Command.Print files status = ⊥
 
 -- a fetch that ends the call: nothing is stored, and nothing is put
 abbrev pub IsUnfetched : Command → Outside → Outside → Status → Type 0
@@ -111,9 +111,11 @@ CommandCause command old new Status.Done = ⊤
 CommandCause command old new (Status.ReadFault name) = IsUnfetched command old new (Status.ReadFault name)
 CommandCause command old new (Status.Absent name) = IsUnfetched command old new (Status.Absent name)
 CommandCause command old new (Status.TooLong name) = IsUnfetched command old new (Status.TooLong name)
-CommandCause command old new (Status.NotBuilt name line) = IsNotBuilt command old.files (Status.NotBuilt name line) × Untouched old new
 CommandCause command old new (Status.BadPolicy file line reply) = IsLoadFault command old.files (LoadFault.Line file line reply) × Untouched old new
 CommandCause command old new (Status.UndefinedProfile domain) = IsLoadFault command old.files (LoadFault.UndefinedProfile domain) × Untouched old new
+CommandCause command old new (Status.BadTrace line kind) = IsStepFault command old.files (Status.BadTrace line kind) × Untouched old new
+CommandCause command old new (Status.BadScript name line kind) = IsStepFault command old.files (Status.BadScript name line kind) × Untouched old new
+CommandCause command old new (Status.TooMany what) = IsStepFault command old.files (Status.TooMany what) × Untouched old new
 CommandCause command old new (Status.WriteFault (OutName.File name)) =
     Rose old.shelf_faults new.shelf_faults × (is_named (stored_by command) name ≡ true) × (new.written ≡ old.written)
 CommandCause command old new (Status.WriteFault OutName.StandardOutput) = Rose old.sink_faults new.sink_faults

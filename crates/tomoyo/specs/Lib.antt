@@ -4,7 +4,7 @@ pub mod Fetches
 pub mod Stores
 pub mod Calls
 pub mod Ends
-pub mod Forms
-pub mod Play
 pub mod Print
+pub mod Reading
+pub mod Play
 pub mod Call

@@ -20,7 +20,6 @@ exit_code (Status.BadScript name line kind) = 8
 exit_code (Status.TooMany what) = 9
 exit_code (Status.WriteFault name) = 10
 exit_code Status.OutOfMemory = 11
-exit_code (Status.NotBuilt name line) = 12
 
 -- what there is too much of
 abbrev pub what_text : What → List ℕ
@@ -53,4 +52,3 @@ status_text (Status.BadScript name line kind) = line_text (file_text name) line 
 status_text (Status.TooMany what) = codes "too many " ++ what_text what
 status_text (Status.WriteFault name) = codes "can't write " ++ out_text name
 status_text Status.OutOfMemory = codes "out of memory"
-status_text (Status.NotBuilt name line) = line_text (file_text name) line (codes "not built")

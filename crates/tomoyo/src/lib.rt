@@ -5,9 +5,9 @@
 
 mod carry;
 mod fetches;
-mod forms;
 mod play;
 mod print;
+mod reading;
 mod status;
 mod top;
 mod words;

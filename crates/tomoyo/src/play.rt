@@ -1,4 +1,4 @@
-//! The play of the files: they are loaded, the trace is played by the schedule under the opened policy, and the run is printed and summed up.
+//! The play of the files: what they hold is read and played, and the run is printed and summed up.
 ghost use Rattle.std.specs.Prelude.{◌≡◌, ◌++◌, IfOk, IfErr, OnOk, None};
 ghost use Rattle.tm_rules.specs.Few.{IsFew};
 ghost use Rattle.tm_run.specs.RunText.{run_text};
@@ -7,21 +7,25 @@ ghost use Rattle.tm_text.specs.DomainText.{domain_text};
 ghost use Rattle.tm_text.specs.ExceptionText.{exception_text};
 ghost use Rattle.tm_text.specs.ManagerText.{manager_text};
 ghost use Rattle.tm_text.specs.ProfileText.{profile_text};
-ghost use Rattle.tomoyo.specs.Play.{opened, step_refusal, RefusedBy, CanBePlayed, PlaysOn, PlaysLoaded, Plays, audit_word, audits_of, IsPrinted, IsPolicyPrinted};
+ghost use Rattle.tm_legal.specs.Play.{CanPlay};
+ghost use Rattle.tomoyo.specs.Reading.{start_of, scene_of, step_refusal, RefusedBy};
+ghost use Rattle.tomoyo.specs.Play.{PlaysLoaded, Plays, audit_word, audits_of, IsPlayOf, IsPrinted, IsPolicyPrinted};
 
-use crate::forms::{Loaded, load};
+use crate::reading::{Loaded, read_step};
 use crate::status::Status;
 use std::alloc::{AllocError, Global};
-use tm_core::{Machine, end_play, play_out, start_play};
+use tm_core::{end_play, play_out, start_play};
+use tm_desk::{Desk, book_code};
+use tm_index::Indexed;
 use tm_io::FileList;
-use tm_list::{Copied, NoMemory};
-use tm_policy::{Plain, PolicyCalls, is_few};
+use tm_list::NoMemory;
+use tm_machine::Machine;
 use tm_rerun::summary_line;
 use tm_run::print_run;
+use tm_script::has_supervisor;
 use tm_text::{print_domain, print_exception, print_manager, print_profile};
 use tm_types::policy::Policy;
-use tm_types::request::Trace;
-use tm_types::step::{Run, Take, Turn};
+use tm_types::step::{Query, Run, Take};
 use tm_word::Text;
 
 /// The printed files of a policy.
@@ -43,27 +47,30 @@ pub struct Played {
     pub summary: Text,
 }
 
-// The run that an opening and a trace play by a schedule and then by the default order, and the machine at its last version.
-fn run_of(
-    alloc: Global,
-    opening: &Policy,
-    trace: Trace,
-    schedule: &[Turn],
-) -> Result<(Run, Machine<Plain>), NoMemory>
-    requires few { IsFew opening.now }
-    requires can { (policy : Policy) × (opening.now ≡ opened policy) × CanBePlayed policy trace }
-    ensures { IfOk result (λ ended. PlaysOn opening.now trace schedule.now ended.0 ended.1.policy) }
+// The run that is played of what was read, and the machine at its last version.
+fn run_of(alloc: Global, loaded: Loaded) -> Result<(Run, Machine<Indexed>), NoMemory>
+    requires few { IsFew loaded.policy }
+    requires can { CanPlay (scene_of loaded) }
+    ensures plays { IfOk result (λ ended. IsPlayOf loaded ended.0 ended.1.state.policy) }
+    ensures opening { IfOk result (λ ended. ended.1.start ≡ start_of loaded) }
 {
-    let policy = opening.copy(alloc)?;
-    let rep = Plain::new(policy);
+    let Loaded {
+        policy,
+        trace,
+        editors,
+        book,
+        schedule,
+    } = loaded;
     let Ok(trees) = u32::try_from(trace.len()) else {
         return Err(AllocError);
     };
-    let machine = Machine::start(alloc, rep, Vec::new(alloc), trees, false)?;
+    let stands = has_supervisor(&book);
+    let rep = Indexed::new(alloc, policy)?;
+    let machine = Machine::start(alloc, rep, editors.into_vec(), trees, stands)?;
     let player = start_play(alloc, machine, trace)?;
-    let played = play_out(alloc, player, schedule)?;
-    let (run, last) = end_play(alloc, played)?;
-    Ok((run, last))
+    let desk = Desk::new(&book, |query: &Query| book_code(&book, query));
+    let played = play_out(alloc, player, &desk, schedule.as_slice())?;
+    end_play(alloc, played)
 }
 
 // Appends the audit text of a take, where it has one.
@@ -124,39 +131,26 @@ fn texts_of(alloc: Global, run: &Run, opening: &Policy, last: &Policy) -> Result
     })
 }
 
-// Opens what was loaded, and plays it. A list of 2^32 members doesn't fit in memory beside its text.
-fn play_loaded(
-    alloc: Global,
-    mut policy: Policy,
-    trace: Trace,
-    schedule: &[Turn],
-) -> Result<Played, NoMemory>
-    requires { CanBePlayed policy trace }
-    ensures { IfOk result (PlaysLoaded (opened policy) trace schedule.now) }
+// Plays what was read.
+fn play_loaded(alloc: Global, loaded: Loaded) -> Result<Played, NoMemory>
+    requires few { IsFew loaded.policy }
+    requires can { CanPlay (scene_of loaded) }
+    ensures { IfOk result (PlaysLoaded loaded) }
 {
-    policy.set_opened();
-    if !is_few(&policy) {
-        return Err(AllocError);
-    }
-    let (run, machine) = run_of(alloc, &policy, trace, schedule)?;
-    texts_of(alloc, &run, &policy, machine.policy())
+    let (run, machine) = run_of(alloc, loaded)?;
+    texts_of(alloc, &run, &machine.opening().policy, machine.policy())
 }
 
-/// Plays what was read, or refuses it.
-#[tactic(auto, using(crate::proofs::Playing::can_be_played, crate::proofs::Playing::plays_texts))]
+/// Plays what the files hold, or refuses it.
 pub fn play_of(alloc: Global, texts: &FileList) -> Result<Played, Status>
     ensures played { IfOk result (λ played. (step_refusal texts.now ≡ None) × Plays texts.now played) }
     ensures refused { IfErr result (RefusedBy (step_refusal texts.now)) }
 {
-    let Loaded {
-        policy,
-        trace,
-        schedule,
-    } = match load(alloc, texts) {
+    let loaded = match read_step(alloc, texts) {
         Ok(loaded) => loaded,
         Err(status) => return Err(status),
     };
-    match play_loaded(alloc, policy, trace, schedule.as_slice()) {
+    match play_loaded(alloc, loaded) {
         Ok(played) => Ok(played),
         Err(_) => Err(Status::OutOfMemory),
     }

@@ -1,7 +1,7 @@
 //! What `print` gives of the files: the policy that they load to, and the line of its counts.
 ghost use Rattle.std.specs.Prelude.{◌≡◌, ◌++◌, [], ◌∷◌, Ok, decimal, IfOk, IfErr, OnOk};
 ghost use Rattle.tm_rules.specs.Few.{IsFew};
-ghost use Rattle.tomoyo.specs.Play.{RefusedBy};
+ghost use Rattle.tomoyo.specs.Reading.{RefusedBy};
 ghost use Rattle.tomoyo.specs.Print.{policy_files, policy_of, print_refusal, counts_text};
 
 use crate::fetches::text_at;

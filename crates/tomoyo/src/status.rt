@@ -40,7 +40,6 @@ pub enum Status {
     TooMany(What),
     WriteFault(OutName),
     OutOfMemory,
-    NotBuilt(FileName, u64),
 }
 
 impl Status {
@@ -61,7 +60,6 @@ impl Status {
             Status::TooMany(_) => 9,
             Status::WriteFault(_) => 10,
             Status::OutOfMemory => 11,
-            Status::NotBuilt(_, _) => 12,
         }
     }
 }
@@ -117,7 +115,6 @@ impl fmt::Display for Status {
             Status::TooMany(what) => write!(f, "too many {what}"),
             Status::WriteFault(name) => write!(f, "can't write {name}"),
             Status::OutOfMemory => f.write_str("out of memory"),
-            Status::NotBuilt(name, line) => write!(f, "{name} line {line}: not built"),
         }
     }
 }

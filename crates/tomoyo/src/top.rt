@@ -183,8 +183,10 @@ fn perform<S: Shelf, K: Sink>(alloc: Global, command: Command, shelf: &mut S, ou
 ///
 /// The first fetch that gives neither a text nor a file that may be missing decides, and no later one is made: `Absent` where
 /// `profile`, `domain_policy` or, for `step`, `trace` isn't there, `TooLong` where a file has more than 16,777,216 bytes, `ReadFault`
-/// where reading failed. Of what `print` has read, the first line that isn't done is `BadPolicy`, and without one the first live domain
-/// whose profile isn't defined is `UndefinedProfile`. Of what `step` has read, the first line that isn't built is `NotBuilt`.
+/// where reading failed. Of the policy files, the first line that isn't done is `BadPolicy`, and without one the first live domain
+/// whose profile isn't defined is `UndefinedProfile`. Of what `step` reads beside them, the first faulty line of `trace`, or else of
+/// `edits`, `answers` and `schedule`, is `BadTrace` or `BadScript`; then a limit that is passed is `TooMany`; and then the first tree
+/// whose domain isn't live is `BadTrace` at the tree's line.
 pub fn run_alone<S: Shelf, K: Sink>(
     alloc: Global,
     words: &[String],

@@ -42,7 +42,6 @@ Exit statuses:
    9  there is too much of something
   10  a file or standard output can't be written
   11  out of memory
-  12  a line is of a form that isn't built yet
 ";
 
 // The longest word that is looked at; no form of a command has a longer one.

@@ -1,31 +1,50 @@
-use Rattle.std.proofs.Common.{Bool, refl}
-use Rattle.tm_types.specs.declared.step.Turn.{Turn}
-use Rattle.tm_legal.specs.Legal.{Scene}
-use Rattle.tm_legal.specs.Play.{event}
-use Rattle.tm_core.specs.Stands.{player_of, IsReached, Answers}
-use Rattle.tm_core.proofs.Walking.{ok_if}
-use Rattle.tm_core.proofs.Reached.{nothing_else, led-on}
+use Rattle.std.proofs.Common.{refl}
+use Rattle.tm_legal.specs.Play.{player_event, supervisor_step}
+use Rattle.tm_core.specs.Players.{course_of, player_of}
+use Rattle.tm_core.proofs.PlayerLaws.{reached-goes}
 use Rattle.tm_core.proofs.player.step_alone.Goals as goal
 
-pub returns-in-Tree-clause-led : goal.returns-in-Tree-clause-led
-returns-in-Tree-clause-led g c =
-    ok_if
-    (λ (moved : Bool). (scene : Scene) → IsReached scene (player_of c.args.player.now.machine c.args.player.now.trees.items) → Answers moved (event scene (player_of c.args.player.now.machine c.args.player.now.trees.items) (Turn.Tree c.in-Tree.number)) (player_of c.step_tree.new.player.machine c.step_tree.new.player.trees.items) (player_of c.args.player.now.machine c.args.player.now.trees.items))
-    c.step_tree.result
-    (λ moved answers. λ scene h. led-on scene c.args.player.now.machine c.args.player.now.trees.items h (Turn.Tree c.in-Tree.number) moved (player_of c.step_tree.new.player.machine c.step_tree.new.player.trees.items) (answers scene h))
-    c.step_tree.ensures
+pub step_tree-requires : goal.step_tree-requires
+step_tree-requires g c = reached-goes c.requires.0 c.requires.1 (course_of c.args.player.now) (player_of c.args.player.now) c.requires.2
 
-pub returns-in-Editor : goal.returns-in-Editor
-returns-in-Editor g c = record { event = λ scene h. (nothing_else scene c.args.player.now.machine c.args.player.now.trees.items h c.args.turn (rw c.in-Editor.is tt), refl); led = λ scene h. h }
+pub step_editor-requires : goal.step_editor-requires
+step_editor-requires g c = reached-goes c.requires.0 c.requires.1 (course_of c.args.player.now) (player_of c.args.player.now) c.requires.2
 
-pub returns-in-Desk : goal.returns-in-Desk
-returns-in-Desk g c = record { event = λ scene h. (nothing_else scene c.args.player.now.machine c.args.player.now.trees.items h c.args.turn (rw c.in-Desk.is tt), refl); led = λ scene h. h }
+pub returns-in-Tree-clause-event : goal.returns-in-Tree-clause-event
+unfolding player_event
+returns-in-Tree-clause-event g c = rw c.in-Tree.is c.step_tree.ensures.event
 
-pub returns-in-Attach : goal.returns-in-Attach
-returns-in-Attach g c = record { event = λ scene h. (nothing_else scene c.args.player.now.machine c.args.player.now.trees.items h c.args.turn (rw c.in-Attach.is tt), refl); led = λ scene h. h }
+pub returns-in-Tree-clause-makers : goal.returns-in-Tree-clause-makers
+returns-in-Tree-clause-makers g c = rw c.in-Tree.is c.step_tree.ensures.makers
 
-pub returns-in-Answer : goal.returns-in-Answer
-returns-in-Answer g c = record { event = λ scene h. (nothing_else scene c.args.player.now.machine c.args.player.now.trees.items h c.args.turn (rw c.in-Answer.is tt), refl); led = λ scene h. h }
+pub returns-in-Editor-clause-event : goal.returns-in-Editor-clause-event
+unfolding player_event
+returns-in-Editor-clause-event g c = rw c.in-Editor.is c.step_editor.ensures.event
 
-pub returns-in-Detach : goal.returns-in-Detach
-returns-in-Detach g c = record { event = λ scene h. (nothing_else scene c.args.player.now.machine c.args.player.now.trees.items h c.args.turn (rw c.in-Detach.is tt), refl); led = λ scene h. h }
+pub returns-in-Editor-clause-makers : goal.returns-in-Editor-clause-makers
+returns-in-Editor-clause-makers g c = rw c.in-Editor.is c.step_editor.ensures.makers
+
+pub returns-in-Desk-clause-event : goal.returns-in-Desk-clause-event
+unfolding player_event supervisor_step
+returns-in-Desk-clause-event g c = rw c.in-Desk.is (refl, refl)
+
+pub returns-in-Attach-clause-event : goal.returns-in-Attach-clause-event
+unfolding player_event
+returns-in-Attach-clause-event g c = rw c.in-Attach.is c.step_supervisor.ensures.event
+
+pub returns-in-Attach-clause-makers : goal.returns-in-Attach-clause-makers
+returns-in-Attach-clause-makers g c = rw c.in-Attach.is c.step_supervisor.ensures.makers
+
+pub returns-in-Answer-clause-event : goal.returns-in-Answer-clause-event
+unfolding player_event
+returns-in-Answer-clause-event g c = rw c.in-Answer.is c.step_supervisor-in-Answer.ensures.event
+
+pub returns-in-Answer-clause-makers : goal.returns-in-Answer-clause-makers
+returns-in-Answer-clause-makers g c = rw c.in-Answer.is c.step_supervisor-in-Answer.ensures.makers
+
+pub returns-in-Detach-clause-event : goal.returns-in-Detach-clause-event
+unfolding player_event
+returns-in-Detach-clause-event g c = rw c.in-Detach.is c.step_supervisor-in-Detach.ensures.event
+
+pub returns-in-Detach-clause-makers : goal.returns-in-Detach-clause-makers
+returns-in-Detach-clause-makers g c = rw c.in-Detach.is c.step_supervisor-in-Detach.ensures.makers

@@ -1,25 +1,34 @@
-use Rattle.std.proofs.Common.{rules, ◌≡◌, ◌∙◌, sym, subst}
-use Rattle.tm_legal.specs.Play.{run_of}
-use Rattle.tm_core.specs.Stands.{player_of}
-use Rattle.tomoyo.specs.Play.{opened, PlaysOn}
-use Rattle.tomoyo.proofs.Playing.{reached, plays_on}
+use Rattle.std.proofs.Common.{rules, ◌≡◌, ◌∙◌, sym, ap, subst}
+use Rattle.tm_desk.specs.Desks.{desk_book}
+use Rattle.tm_types.specs.declared.step.Book.{Book}
+use Rattle.tm_machine.specs.Machine.{Course}
+use Rattle.tm_legal.specs.Play.{Player}
+use Rattle.tm_legal.specs.Play as core
+use Rattle.tm_core.specs.Scenes.{IsReached}
+use Rattle.tm_core.specs.Scenes as scenes
+use Rattle.tm_core.specs.Players.{course_of, player_of}
+use Rattle.tomoyo.specs.Reading.{start_of}
+use Rattle.tomoyo.proofs.Playing.{reached, play-of}
 use Rattle.tomoyo.proofs.play.run_of.Goals as goal
 
-pub play_out-requires : goal.play_out-requires
-play_out-requires c =
-    let can = c.requires.can in
-    let policy_is : c.in_ok-machine.machine.policy ≡ opened can.0 = search rules in
-    reached can.0 c.args.trace (player_of c.in_ok-player.player.machine c.in_ok-player.player.trees.items) can.2 (λ scene alone policy trace. c.in_ok-player.ensures scene alone (policy ∙ sym policy_is) trace)
+pub play_out-requires-clause-reached : goal.play_out-requires-clause-reached
+play_out-requires-clause-reached c =
+    let start_is : c.in_ok-machine.machine.start ≡ start_of c.args.loaded = search rules in
+    let course : Course = course_of c.in_ok-player.player in
+    let player : Player = player_of c.in_ok-player.player in
+    let book : Book = desk_book c.new-desk.result in
+    let same : course.start ≡ start_of c.args.loaded = ap (λ (m : Course). m.start) c.in_ok-player.ensures.machine ∙ start_is in
+    let starts : player ≡ core.start_of (scenes.scene_of course.start c.args.loaded.trace book) = subst (λ (m : Course). player ≡ core.start_of (scenes.scene_of m.start c.args.loaded.trace book)) (sym c.in_ok-player.ensures.machine) (c.in_ok-player.ensures.starts book) in
+    (c.args.loaded.trace, reached c.args.loaded book course player same c.new-desk.ensures.book c.requires.can starts)
 
-pub returns : goal.returns
-returns c =
-    let can = c.requires.can in
-    let policy_is : c.in_ok-machine.machine.policy ≡ opened can.0 = search rules in
-    let player = player_of c.in_ok-player.player.machine c.in_ok-player.player.trees.items in
-    let run = run_of (player_of c.in_ok-played.played.machine c.in_ok-played.played.trees.items) in
-    let run_is : c.in_ok-run.run' ≡ run = search rules in
-    let last_is : c.in_ok-run.last.policy ≡ c.in_ok-played.played.machine.policy = search rules in
-    subst (λ r. PlaysOn c.args.opening.now c.args.trace c.args.schedule.now r c.in_ok-run.last.policy) (sym run_is)
-    (subst (λ l. PlaysOn c.args.opening.now c.args.trace c.args.schedule.now run l) (sym last_is)
-    (subst (λ p. PlaysOn p c.args.trace c.args.schedule.now run c.in_ok-played.played.machine.policy) (sym can.1)
-    (plays_on can.0 c.args.trace c.args.schedule.now run c.in_ok-played.played.machine.policy player can.2 (λ scene alone policy trace. c.in_ok-player.ensures scene alone (policy ∙ sym policy_is) trace) c.in_ok-played.ensures.plays c.in_ok-played.ensures.ends)))
+pub returns-clause-plays : goal.returns-clause-plays
+returns-clause-plays c =
+    let start_is : c.in_ok-machine.machine.start ≡ start_of c.args.loaded = search rules in
+    let course : Course = course_of c.in_ok-player.player in
+    let player : Player = player_of c.in_ok-player.player in
+    let book : Book = desk_book c.new-desk.result in
+    let same : course.start ≡ start_of c.args.loaded = ap (λ (m : Course). m.start) c.in_ok-player.ensures.machine ∙ start_is in
+    let starts : player ≡ core.start_of (scenes.scene_of course.start c.args.loaded.trace book) = subst (λ (m : Course). player ≡ core.start_of (scenes.scene_of m.start c.args.loaded.trace book)) (sym c.in_ok-player.ensures.machine) (c.in_ok-player.ensures.starts book) in
+    let h : IsReached c.args.loaded.trace book course player = reached c.args.loaded book course player same c.new-desk.ensures.book c.requires.can starts in
+    play-of c.args.loaded course.start book c.as_slice.result.now (player_of c.in_ok-played.played) (course_of c.in_ok-played.played) c.end_play.result same c.new-desk.ensures.book c.as_slice.ensures
+    (c.in_ok-played.ensures.plays c.args.loaded.trace h starts) (c.in_ok-played.ensures.legal c.args.loaded.trace h starts) (c.in_ok-played.ensures.ends c.args.loaded.trace h starts) c.end_play.ensures.run c.end_play.ensures.machine

@@ -1,6 +1,0 @@
-use Rattle.std.proofs.Common.{◌≡◌, ◌≤◌, length, take}
-use Rattle.tm_legal.specs.Run.{do_pids}
-use Rattle.tm_core.proofs.lines.count_requests.Given as goal
-
-abbrev pub invariant-loop-item : goal.invariant-loop-item
-invariant-loop-item l = (l.requests ≡ length (do_pids (take l.item-index l.items))) × (l.requests ≤ l.item-index)

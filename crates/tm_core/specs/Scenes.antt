@@ -1,0 +1,27 @@
+-- The scenes of a machine, and the players that turns have led to.
+use Rattle.std.specs.Prelude.{◌≡◌, Bool, true, false, List, length, Option, Some, None, if◌then◌else◌}
+use Rattle.tm_rules.specs.Words.{Trace}
+use Rattle.tm_types.specs.declared.step.Book.{Book}
+use Rattle.tm_types.specs.declared.step.Start.{Start}
+use Rattle.tm_types.specs.declared.step.Turn.{Turn}
+use Rattle.tm_grammar.specs.Tomoyo.{tomoyo_grammar}
+use Rattle.tm_legal.specs.Legal.{Scene}
+use Rattle.tm_legal.specs.Play.{Player, CanPlay, start_of, turns}
+use Rattle.tm_machine.specs.Machine.{Course}
+
+-- what a machine that was started so plays with a trace; the book counts where a supervisor stands
+abbrev pub scene_of : Start → Trace → Book → Scene
+scene_of start trace book =
+    record { grammar = tomoyo_grammar; policy = start.policy; trace = trace; editors = start.editors; book = if start.desk then Some book else None }
+
+-- a player that some turns have led to, of a scene that can be played
+pub record IsReached (trace : Trace) (book : Book) (course : Course) (player : Player) : Type 0 where
+  pub trees : length trace ≡ course.start.trees
+  pub can : CanPlay (scene_of course.start trace book)
+  pub schedule : List Turn
+  pub led : player ≡ turns (scene_of course.start trace book) (start_of (scene_of course.start trace book)) schedule
+
+-- true: the player has had the event; false: there is none, and the player is as before
+abbrev pub Answers : Bool → Option Player → Player → Player → Type 0
+Answers true event new old = event ≡ Some new
+Answers false event new old = (event ≡ None) × (new ≡ old)

@@ -1,4 +1,0 @@
-pub mod Pids
-pub mod TraceLaws
-pub mod OpeningLaws
-mod TextLines

@@ -1,0 +1,15 @@
+use Rattle.std.proofs.Common.{ap}
+use Rattle.tomoyo.specs.Reading.{refused, step_refusal}
+use Rattle.tomoyo.proofs.Readings.{can-play}
+use Rattle.tomoyo.proofs.Playing.{refuses}
+use Rattle.tomoyo.proofs.play.play_of.Goals as goal
+
+pub returns-in-Err-clause-refused : goal.returns-in-Err-clause-refused
+returns-in-Err-clause-refused c = refuses c.args.texts.now c.in-Err.status c.in-Err.ensures.exact
+
+pub play_loaded-requires-clause-can : goal.play_loaded-requires-clause-can
+play_loaded-requires-clause-can c = can-play c.args.texts.now c.in-Ok.loaded c.in-Ok.ensures.exact
+
+pub returns-in-Ok-play_loaded-clause-played : goal.returns-in-Ok-play_loaded-clause-played
+unfolding step_refusal
+returns-in-Ok-play_loaded-clause-played c = (ap refused c.in-Ok.ensures.exact, record { loaded = c.in-Ok.loaded; read = c.in-Ok.ensures.exact; plays = c.in-Ok-play_loaded.ensures })
