@@ -338,7 +338,7 @@ fn task_request(alloc: Global, words: &[Text]) -> Result<(Args, u8, &[Text]), Li
 ///
 /// Errors: `Arity` where a word is missing, another kind at the first wrong word.
 #[tactic(auto, unfolding(crate::specs::Requests::request_line))]
-pub(crate) fn request_line(alloc: Global, words: &[Text]) -> Result<(Args, u8, &[Text]), LineFault>
+pub fn request_line(alloc: Global, words: &[Text]) -> Result<(Args, u8, &[Text]), LineFault>
     ensures { Gives line_cause (λ x. (x.0, x.1, x.2.now)) result (request_line words.now) }
 {
     match words {

@@ -1,0 +1,10 @@
+//! What is told of records that are left out.
+use crate::log::Source;
+use tm_record::Reason;
+
+/// A record that is left out, and why.
+#[derive(Clone, Copy)]
+pub struct LeftOut {
+    pub source: Source,
+    pub reason: Reason,
+}
