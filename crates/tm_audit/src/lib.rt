@@ -8,39 +8,22 @@ ghost use Rattle.std.specs.Option.{option_copied};
 ghost use Rattle.tm_types.specs.declared.policy.Domain.{Domain};
 ghost use Rattle.tm_types.specs.declared.policy.Mode.{Mode};
 ghost use Rattle.tm_grammar.specs.Tomoyo.{tomoyo_grammar};
-ghost use Rattle.tm_rules.specs.Audit.{entry_at, grant_logged, is_logged, granted_text, reason_text, ids_text, audit_text};
+ghost use Rattle.tm_rules.specs.Audit.{grant_logged, is_logged, granted_text, reason_text, ids_text, audit_text};
 ghost use Rattle.tm_audit.specs.Parts.{profile_in, is_audited, logged, header, lines};
 
 use std::alloc::Global;
 use tm_domain::namespace;
 use tm_list::{NoMemory, Seq};
 use tm_number::write_decimal;
-use tm_policy::{domain_at, find_namespace};
+use tm_policy::{domain_at, entry_at, find_namespace};
 use tm_profile::config_of;
 use tm_trace::{print_attributes, print_request};
 use tm_types::entry::Entry;
 use tm_types::function_at;
 use tm_types::policy::{Domain, Logs, Mode, Namespace, Policy, Profile};
 use tm_types::request::{Proc, Request};
-use tm_types::verdict::{EntryPlace, Reason, Verdict};
+use tm_types::verdict::{Reason, Verdict};
 use tm_word::Text;
-
-/// The entry at a place of a domain's lists; None past their ends.
-fn entry_at<'a>(
-    namespace: &'a Namespace,
-    domain: &'a Domain,
-    place: EntryPlace,
-) -> Option<&'a Entry>
-    ensures { option_copied result ≡ entry_at namespace.now domain.now place }
-{
-    match place {
-        EntryPlace::Own(place) => domain.entries.get(place as usize),
-        EntryPlace::Acl(group, place) => match namespace.acl_groups.get(&group) {
-            Some(entries) => entries.get(place as usize),
-            None => None,
-        },
-    }
-}
 
 /// Whether a grant by an entry is logged: its own `grant_log` decides, without one the profile's.
 fn grant_logged(logs: Logs, entry: Option<&Entry>) -> bool

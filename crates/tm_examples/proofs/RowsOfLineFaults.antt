@@ -157,3 +157,7 @@ first_wrong_words_of_exceptions = refl
 first_wrong_words_of_profiles : kinds FileKind.Profile (codes "PROFILE_VERSION=1 x" ∷ codes "PROFILE_VERSION=20150505 x" ∷ codes "PROFILE_VERSION=" ∷ codes "<a> PROFILE_VERSION=1" ∷ codes "256-CONFIG={ x" ∷ codes "0-CONFIG={ mode=x }" ∷ codes "0-CONFIG={ mode=dis" ∷ codes "0-CONFIG={ mode=disabled } x" ∷ []) ≡ Some LineKind.Version ∷ Some LineKind.Profile ∷ Some LineKind.Arity ∷ Some LineKind.Domain ∷ Some LineKind.Profile ∷ Some LineKind.Profile ∷ Some LineKind.Arity ∷ Some LineKind.Profile ∷ []
 unfolding read
 first_wrong_words_of_profiles = refl
+
+first_wrong_words_of_managers : kinds FileKind.Manager (codes "x" ∷ codes "manage_by" ∷ codes "manage_by_non_root x" ∷ codes "/\\*" ∷ codes "/a x" ∷ codes "<a> x" ∷ codes "delete" ∷ codes "del" ∷ codes "delete x" ∷ codes "delete manage_by" ∷ codes "delete del" ∷ codes "delete delete /a" ∷ []) ≡ Some LineKind.Keyword ∷ Some LineKind.Arity ∷ Some LineKind.Arity ∷ Some LineKind.Name ∷ Some LineKind.Arity ∷ Some LineKind.Domain ∷ Some LineKind.Arity ∷ Some LineKind.Arity ∷ Some LineKind.Keyword ∷ Some LineKind.Arity ∷ Some LineKind.Keyword ∷ Some LineKind.Keyword ∷ []
+unfolding read
+first_wrong_words_of_managers = refl

@@ -1,6 +1,7 @@
-//! Whether an entry grants a request.
+//! Whether an entry grants a request, and the place of an entry.
 ghost use Rattle.std.specs.Prelude.{◌≡◌, ◌&&◌, true, Some, IsSome};
 ghost use Rattle.std.specs.Option.{option_copied};
+ghost use Rattle.tm_rules.specs.Audit.{entry_at};
 ghost use Rattle.tm_rules.specs.Few.{IsShort};
 ghost use Rattle.tm_rules.specs.Condition.{is_execute, holds};
 ghost use Rattle.tm_rules.specs.Policy.{has_permission};
@@ -12,6 +13,7 @@ use tm_domains::has_permission;
 use tm_file::{file_args_match, path_args_match};
 use tm_net::net_args_match;
 use tm_types::entry::{Args, Entry};
+use tm_types::policy::{Domain, Namespace};
 use tm_types::request::{Proc, Request};
 use tm_types::unions::{Groups, NamePlace};
 use tm_types::verdict::EntryPlace;
@@ -107,5 +109,22 @@ pub fn place_in(group: Option<u8>, place: u32) -> EntryPlace
     match group {
         Some(group) => EntryPlace::Acl(group, place),
         None => EntryPlace::Own(place),
+    }
+}
+
+/// The entry at a place of a domain's lists, its own or those of its namespace's ACL groups; None past their ends. Takes no memory.
+pub fn entry_at<'a>(
+    namespace: &'a Namespace,
+    domain: &'a Domain,
+    place: EntryPlace,
+) -> Option<&'a Entry>
+    ensures { option_copied result ≡ entry_at namespace.now domain.now place }
+{
+    match place {
+        EntryPlace::Own(place) => domain.entries.get(place as usize),
+        EntryPlace::Acl(group, place) => match namespace.acl_groups.get(&group) {
+            Some(entries) => entries.get(place as usize),
+            None => None,
+        },
     }
 }

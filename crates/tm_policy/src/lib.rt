@@ -14,7 +14,7 @@ mod scan;
 mod searching;
 
 pub use few::is_few;
-pub use granting::{entry_grants, place_in};
+pub use granting::{entry_at, entry_grants, place_in};
 pub use learning::{apply_learn, apply_make};
 pub use opening::PolicyCalls;
 pub use plain::Plain;

@@ -12,6 +12,7 @@ mod ways;
 
 pub use laws::events;
 pub use lines::{Lines, pass};
+pub use owing::grants;
 pub use requests::{NextEvent, PendingLook, RequestInProgress, begin};
 pub use situations::{ProcessSituation, ProcessSituations};
 pub use ways::TreeOnWay;

@@ -32,8 +32,8 @@ pub(crate) enum Awaited {
     Look,
 }
 
-// Whether a verdict grants by its reason alone; a held request waits for its answer.
-pub(crate) fn grants(reason: &Reason) -> bool
+/// Whether a verdict grants by its reason alone; a held request waits for its answer. Takes no memory.
+pub fn grants(reason: &Reason) -> bool
     ensures { result ≡ is_granting reason.now }
 {
     match reason {

@@ -3,7 +3,6 @@ ghost use Rattle.std.specs.Prelude.{◌≡◌, true, IfOk};
 ghost use Rattle.std.specs.Option.{option_copied};
 ghost use Rattle.tm_word.specs.Spelling.{spell};
 ghost use Rattle.tm_word.specs.Printing.{spelled_pattern};
-ghost use Rattle.tm_rules.specs.Audit.{entry_at};
 ghost use Rattle.tm_rules.specs.Condition.{is_execute};
 ghost use Rattle.tm_rules.specs.Search.{found_of, aggregated, path_of, union_name, written_name, preference};
 ghost use Rattle.tm_rules.specs.Transition.{candidate};
@@ -14,6 +13,7 @@ use std::marker::Model;
 use tm_except::aggregated;
 use tm_list::{NoMemory, Seq};
 use tm_pattern::print_pattern;
+use tm_policy::entry_at;
 use tm_types::entry::{Args, Entry, Prefer};
 use tm_types::policy::{Domain, Namespace};
 use tm_types::request::Request;
@@ -76,23 +76,6 @@ pub(crate) struct Access<'a> {
     pub domain: &'a Domain,
     pub found: Option<Granting<'a>>,
     pub request: &'a Request,
-}
-
-// The entry at a place of a domain's lists; None past their ends.
-fn entry_at<'a>(
-    namespace: &'a Namespace,
-    domain: &'a Domain,
-    place: EntryPlace,
-) -> Option<&'a Entry>
-    ensures { option_copied result ≡ entry_at namespace.now domain.now place }
-{
-    match place {
-        EntryPlace::Own(place) => domain.entries.get(place as usize),
-        EntryPlace::Acl(group, place) => match namespace.acl_groups.get(&group) {
-            Some(entries) => entries.get(place as usize),
-            None => None,
-        },
-    }
 }
 
 // The entry that a search found, by its place.

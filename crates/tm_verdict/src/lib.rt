@@ -7,19 +7,4 @@ mod candidates;
 mod targets;
 mod verdicts;
 
-ghost use Rattle.std.specs.Prelude.{◌≡◌};
-ghost use Rattle.tm_legal.specs.Verdict.{is_granting};
-
-use tm_types::verdict::Reason;
 pub use verdicts::verdict_of;
-
-/// Whether a verdict grants by its reason alone; a held request waits for its answer.
-pub fn grants(reason: &Reason) -> bool
-    ensures { result ≡ is_granting reason.now }
-{
-    match reason {
-        Reason::Entry(_) | Reason::Disabled | Reason::Permissive | Reason::Quota | Reason::Learn =>
-            true,
-        Reason::Ask | Reason::NoEntry | Reason::NotReady | Reason::NoManual => false,
-    }
-}
