@@ -1,2 +1,3 @@
 pub mod Making
 pub mod Made
+pub mod Faults

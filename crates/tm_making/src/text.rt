@@ -1,9 +1,10 @@
 //! The texts of a log's trace and report. That of the trace is read once to see that it can be.
-ghost use Rattle.std.specs.Prelude.{◌≡◌, IfOk, IsOk};
+ghost use Rattle.std.specs.Prelude.{◌≡◌, IfErr, IfOk, IsOk};
 ghost use Rattle.tm_trace.specs.Printing.{trace_text};
 ghost use Rattle.tm_trace.specs.Reading.{trace_of};
 ghost use Rattle.tm_log.specs.Logs.{log_of};
 ghost use Rattle.tm_making.specs.Made.{report_text, trace_made};
+ghost use Rattle.tm_making.specs.Faults.{FaultCause};
 ghost use Rattle.tm_making.specs.declared.text.TextFault.TheVariants.{NoMemory};
 
 use crate::made::{Made, make_trace};
@@ -28,10 +29,11 @@ impl From<AllocError> for TextFault {
     }
 }
 
-/// The printed text of the trace, which `read_trace` accepts. Errors: `Unreadable` where it doesn't, or want of memory.
+/// The printed text of the trace, which `read_trace` accepts. Errors: `Unreadable` exactly where it doesn't; want of memory.
 pub fn trace_text(alloc: Global, made: &Made) -> Result<Vec<u8>, TextFault>
     ensures printed { IfOk result (λ text. text.items ≡ trace_text made.now.trace) }
     ensures readable { IfOk result (λ text. IsOk (trace_of text.items)) }
+    ensures cause { IfErr result (FaultCause (trace_text made.now.trace)) }
 {
     let mut text = Vec::new(alloc);
     print_trace(alloc, &made.trace, &mut text)?;
@@ -54,6 +56,7 @@ pub fn texts_of(alloc: Global, log: Log) -> Result<Texts, TextFault>
     ensures trace { IfOk result (λ texts. texts.trace.items ≡ trace_text (trace_made log).trace) }
     ensures readable { IfOk result (λ texts. IsOk (trace_of texts.trace.items)) }
     ensures report { IfOk result (λ texts. texts.report.items ≡ report_text (trace_made log)) }
+    ensures cause { IfErr result (FaultCause (trace_text (trace_made log).trace)) }
 {
     let made = make_trace(alloc, log)?;
     let trace = trace_text(alloc, &made)?;
@@ -67,6 +70,7 @@ pub fn convert(alloc: Global, bytes: &[u8]) -> Result<Texts, TextFault>
     ensures trace { IfOk result (λ texts. texts.trace.items ≡ trace_text (trace_made (log_of bytes.now)).trace) }
     ensures readable { IfOk result (λ texts. IsOk (trace_of texts.trace.items)) }
     ensures report { IfOk result (λ texts. texts.report.items ≡ report_text (trace_made (log_of bytes.now))) }
+    ensures cause { IfErr result (FaultCause (trace_text (trace_made (log_of bytes.now)).trace)) }
 {
     let log = read_log(alloc, bytes)?;
     texts_of(alloc, log)
