@@ -1,1 +1,3 @@
 pub mod Summary
+pub mod Rerun
+pub mod Same

@@ -1,6 +1,7 @@
 //! The summary of a run.
 ghost use Rattle.std.specs.Prelude.{◌≡◌, ◌++◌, [], ◌∷◌, decimal, IfOk, OnOk};
 ghost use Rattle.tm_rerun.specs.Summary.{yes_or_no, is_added_reply, is_added, granted_count, learned_count, live_count, counts_text, growth_text, kinds_text, summary_text};
+ghost use Rattle.tm_rerun.specs.Rerun.{rerun_text, no_rerun_text};
 
 use crate::clean::is_clean;
 use std::alloc::Global;
@@ -136,5 +137,31 @@ pub fn summary_line(
     push_growth(alloc, run, policy_final, &mut line)?;
     push_kinds(run, policy_opening, &mut line)?;
     line.push(b'\n')?;
+    Ok(line)
+}
+
+/// The line that a rerun adds to the summary: how many requests it has and how many of them are granted and denied, its steps, and
+/// whether its processes are in the domains that they were in. Fails for want of memory alone.
+#[tactic(auto, unfolding(crate::specs::Rerun::rerun_text))]
+pub fn rerun_line(alloc: Global, run: &Run, same: bool) -> Result<Vec<u8>, NoMemory>
+    ensures { IfOk result (λ line. line.items ≡ rerun_text run.now same) }
+{
+    let mut line = Vec::new(alloc);
+    line.extend_from_slice(b"rerun ")?;
+    push_counts(alloc, run, &mut line)?;
+    line.extend_from_slice(b" steps ")?;
+    push_count(alloc, run.steps.len(), &mut line)?;
+    line.extend_from_slice(b" same ")?;
+    push_yes_or_no(same, &mut line)?;
+    line.push(b'\n')?;
+    Ok(line)
+}
+
+/// The line that stands in its place where the rerun is left out. Fails for want of memory alone.
+pub fn no_rerun_line(alloc: Global) -> Result<Vec<u8>, NoMemory>
+    ensures { IfOk result (λ line. line.items ≡ no_rerun_text) }
+{
+    let mut line = Vec::new(alloc);
+    line.extend_from_slice(b"rerun none\n")?;
     Ok(line)
 }
