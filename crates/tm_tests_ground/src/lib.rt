@@ -6,6 +6,8 @@
 #[cfg(test)]
 mod addr;
 #[cfg(test)]
+mod generated;
+#[cfg(test)]
 mod io;
 #[cfg(test)]
 mod list;
