@@ -6,8 +6,6 @@
 #[cfg(test)]
 mod addr;
 #[cfg(test)]
-mod generated;
-#[cfg(test)]
 mod io;
 #[cfg(test)]
 mod list;
