@@ -5,71 +5,39 @@ use tm_list::NoMemory;
 use tm_word::Text;
 use tomoyo::{Status, run_alone};
 
-/// How a call ended, and what it stored and put.
+const PROFILE: &[u8] = b"0-CONFIG={ mode=disabled }\n";
+
+const DOMAIN_POLICY: &[u8] = b"<kernel>\n";
+
+const TRACE: &[u8] = b"tree 7 <kernel>\ndo 7 file read /a\n";
+
+/// How a call ended, and what it put.
 #[derive(Drop)]
 pub struct Ended {
     pub status: Status,
-    pub run: Text,
-    pub audit: Text,
-    pub profile: Text,
-    pub exception: Text,
-    pub domain: Text,
-    pub manager: Text,
     pub line: Text,
 }
 
-impl Ended {
-    /// Whether the call stored nothing and put nothing.
-    pub fn is_silent(&self) -> bool {
-        self.run.is_empty()
-            && self.audit.is_empty()
-            && self.profile.is_empty()
-            && self.exception.is_empty()
-            && self.domain.is_empty()
-            && self.manager.is_empty()
-            && self.line.is_empty()
-    }
-}
-
-/// These files, in order.
-pub fn files_of(alloc: Global, given: &[(FileName, &str)]) -> Result<FileList, NoMemory> {
+// The files that a play needs.
+fn needed_files(alloc: Global) -> Result<FileList, NoMemory> {
     let mut files = FileList::new(alloc);
-    for (name, text) in given {
-        files.push((*name, Text::from_bytes(alloc, text.as_bytes())?))?;
-    }
+    files.push((FileName::Profile, Text::from_bytes(alloc, PROFILE)?))?;
+    files.push((
+        FileName::DomainPolicy,
+        Text::from_bytes(alloc, DOMAIN_POLICY)?,
+    ))?;
+    files.push((FileName::Trace, Text::from_bytes(alloc, TRACE)?))?;
     Ok(files)
 }
 
-// What a shelf holds of a file, nothing where it isn't there.
-fn held(alloc: Global, shelf: &MemoryShelf, name: FileName) -> Result<Text, NoMemory> {
-    match shelf.get(name) {
-        Some(bytes) => Text::from_bytes(alloc, bytes),
-        None => Ok(Text::new(alloc)),
-    }
-}
-
-/// A call with this word over these files, of which calls with these numbers fail.
-pub fn call(
-    alloc: Global,
-    word: &str,
-    files: FileList,
-    fails: Vec<u32>,
-) -> Result<Ended, NoMemory> {
-    let mut words = Vec::new(alloc);
-    if !word.is_empty() {
-        words.push(String::from_str(alloc, word)?)?;
-    }
-    let mut shelf = MemoryShelf::new(alloc, files, fails);
+/// A call of `step` of which the fetch or store with this number, from 0, fails.
+pub fn call(alloc: Global, fails: u32) -> Result<Ended, NoMemory> {
+    let words = vec![in alloc; String::from_str(alloc, "step")?]?;
+    let mut shelf = MemoryShelf::new(alloc, needed_files(alloc)?, vec![in alloc; fails]?);
     let mut out = MemorySink::new(alloc, Vec::new(alloc));
     let status = run_alone(alloc, words.as_slice(), &mut shelf, &mut out);
     Ok(Ended {
         status,
-        run: held(alloc, &shelf, FileName::Run)?,
-        audit: held(alloc, &shelf, FileName::Audit)?,
-        profile: held(alloc, &shelf, FileName::ProfileNew)?,
-        exception: held(alloc, &shelf, FileName::ExceptionPolicyNew)?,
-        domain: held(alloc, &shelf, FileName::DomainPolicyNew)?,
-        manager: held(alloc, &shelf, FileName::ManagerNew)?,
         line: Text::from_bytes(alloc, out.bytes())?,
     })
 }

@@ -40,8 +40,4 @@ mod text_profiles;
 #[cfg(test)]
 mod top_call;
 #[cfg(test)]
-mod top_plays;
-#[cfg(test)]
-mod top_refusals;
-#[cfg(test)]
 mod trace;
