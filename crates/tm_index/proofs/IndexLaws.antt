@@ -90,9 +90,9 @@ put-there n v (x ∷ xs) = go (put-there n v xs) (nat_lt x.0 n) (x.0 == n) refl 
     go ih false false h k = let here : (n == n) ≡ true = eq-eqb n n refl in rw here refl
 
 -- every other key has what it had
-pub put-other : {A : Type 0} (n m : ℕ) (v : A) (xs : List (ℕ × A)) → (n == m) ≡ false → at_key (put_key n v xs) m ≡ at_key xs m
-put-other n m v [] apart = rw apart refl
-put-other n m v (x ∷ xs) apart = go (put-other n m v xs apart) (nat_lt x.0 n) (x.0 == n) refl
+pub put_other : {A : Type 0} (n m : ℕ) (v : A) (xs : List (ℕ × A)) → (n == m) ≡ false → at_key (put_key n v xs) m ≡ at_key xs m
+put_other n m v [] apart = rw apart refl
+put_other n m v (x ∷ xs) apart = go (put_other n m v xs apart) (nat_lt x.0 n) (x.0 == n) refl
   where
     go : at_key (put_key n v xs) m ≡ at_key xs m → (b c : Bool) → (x.0 == n) ≡ c → at_key (if b then x ∷ put_key n v xs else (if c then (n, v) ∷ xs else (n, v) ∷ x ∷ xs)) m ≡ (if x.0 == m then Some x.1 else at_key xs m)
     go ih true c k = ap (λ t. if x.0 == m then Some x.1 else t) ih
@@ -111,7 +111,7 @@ groups_next n entries rest list old new before is made number = go (n == number)
     go true h =
         let same : number ≡ n = sym (eqb-true n number h) in
         ap (λ m. groups_listed m number) made ∙ ap (λ k. option_map_or listed (at_key (put_key n list old) k) (listing [])) same ∙ ap (λ o. option_map_or listed o (listing [])) (put-there n list old) ∙ is
-    go false h = ap (λ m. groups_listed m number) made ∙ ap (λ o. option_map_or listed o (listing [])) (put-other n number list old h) ∙ before number
+    go false h = ap (λ m. groups_listed m number) made ∙ ap (λ o. option_map_or listed o (listing [])) (put_other n number list old h) ∙ before number
 
 all-taken : {A : Type 0} (xs : List A) → take (length xs) xs ≡ xs
 all-taken [] = refl

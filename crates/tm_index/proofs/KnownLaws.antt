@@ -43,9 +43,23 @@ own_noted index policy number domain noted e there is =
     cc
 
 -- what is noted of the ACL groups of a namespace that is there
-namespace-noted : (index : Index) (policy : Policy) (k : ℕ) (ns : Namespace) → IsIndexOf index policy → slice_get policy.namespaces k ≡ Some ns → option_map groups_listed (slice_get index.groups k) ≡ Some (groups_listing ns)
+pub namespace-noted : (index : Index) (policy : Policy) (k : ℕ) (ns : Namespace) → IsIndexOf index policy → slice_get policy.namespaces k ≡ Some ns → option_map groups_listed (slice_get index.groups k) ≡ Some (groups_listing ns)
 unfolding telling
 namespace-noted index policy k ns e there = sym (seen_at groups_listed index.groups k) ∙ ap (λ (t : Told). slice_get t.groups k) e ∙ seen_at groups_listing policy.namespaces k ∙ ap (option_map groups_listing) there
+
+-- the lists of its groups
+pub groups_noted : (index : Index) (policy : Policy) (k : ℕ) (ns : Namespace) (lists : List (ℕ × ListIndex)) → IsIndexOf index policy → slice_get policy.namespaces k ≡ Some ns → slice_get index.groups k ≡ Some lists → groups_listed lists ≡ groups_listing ns
+groups_noted index policy k ns lists e there is =
+    let same : Some (groups_listed lists) ≡ Some (groups_listing ns) = sym (ap (option_map groups_listed) is) ∙ namespace-noted index policy k ns e there in
+    cc
+
+-- it is noted
+pub groups_somewhere : (index : Index) (policy : Policy) (k : ℕ) (ns : Namespace) → IsIndexOf index policy → slice_get policy.namespaces k ≡ Some ns → slice_get index.groups k ≡ None → ⊥
+groups_somewhere index policy k ns e there none =
+    let some : option_map groups_listed (slice_get index.groups k) ≡ Some (groups_listing ns) = namespace-noted index policy k ns e there in
+    let nothing : option_map groups_listed (slice_get index.groups k) ≡ None = ap (option_map groups_listed) none in
+    let both : None ≡ Some (groups_listing ns) = sym nothing ∙ some in
+    absurd cc
 
 group-noted : (o : Option (List (ℕ × ListIndex))) (ns : Namespace) (group : ℕ) → option_map groups_listed o ≡ Some (groups_listing ns) → groups_listed (unwrap_or o []) group ≡ groups_listing ns group
 group-noted None ns group e = absurd cc

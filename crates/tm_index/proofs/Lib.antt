@@ -15,3 +15,4 @@ pub mod LineLaws
 pub mod SettingLaws
 pub mod DeleteLaws
 pub mod RemoveLaws
+pub mod GroupLaws

@@ -17,15 +17,11 @@ use Rattle.tm_entries.proofs.Edits.{place_within}
 use Rattle.tm_index.specs.Listing.{Listed, listing, closed}
 use Rattle.tm_index.specs.Index.{Told, telling, counting_in, closing_in, closing_if}
 use Rattle.tm_index.specs.Gone.{gone_at}
+use Rattle.tm_index.specs.Groups.{closed_if}
 use Rattle.tm_index.specs.Quiet.{is_refused}
 use Rattle.tm_index.proofs.ListingLaws.{listing_none, listing_out, listing_left}
 use Rattle.tm_index.proofs.ChangeLaws.{changed-twice, at-changed, pair_by, telling_changed}
 use Rattle.tm_index.proofs.TellingLaws.{told_equal}
-
--- where an entry has gone, the places after it move up
-abbrev pub closed_if : Option ℕ → Listed → Listed
-closed_if None x = x
-closed_if (Some place) x = closed place x
 
 read-get : (entries : List Entry) (k : ℕ) (e : Entry) → slice_get entries k ≡ Some e → e ≡ get_or entries k e
 read-get [] k e h = absurd cc
@@ -38,9 +34,9 @@ read-there (x ∷ xs) zero less none = cc
 read-there (x ∷ xs) (suc k) less none = read-there xs k (omega (arith, less)) none
 
 -- the list after a line is taken out
-listing-deleted : (line : Entry) (entries : List Entry) (at : Option ℕ) → position_from (λ (entry : Entry). same_line entry line) 0 entries ≡ at → listing (deleting line entries) ≡ closed_if (gone_at entries at line) (listing entries)
-listing-deleted line entries None e = sym (listing_none line entries e)
-listing-deleted line entries (Some k) e = go (slice_get entries k) refl
+pub listing_deleted : (line : Entry) (entries : List Entry) (at : Option ℕ) → position_from (λ (entry : Entry). same_line entry line) 0 entries ≡ at → listing (deleting line entries) ≡ closed_if (gone_at entries at line) (listing entries)
+listing_deleted line entries None e = sym (listing_none line entries e)
+listing_deleted line entries (Some k) e = go (slice_get entries k) refl
   where
     inner : (x : Entry) (b : Bool) → slice_get entries k ≡ Some x → (without_permissions x.perms.bits line.perms.bits == 0) ≡ b → listing (deleting line entries) ≡ closed_if (if b then Some k else None) (listing entries)
     inner x true h f = sym (listing_out line entries k x e (read-get entries k x h) (eqb-true _ _ f))
@@ -87,7 +83,7 @@ removed_told policy new number gone domain line there made leaves =
     let after : Domain = record domain { entries = deleting line domain.entries } in
     closing-counting number (count after) gone (telling policy)
     ∙ telling_changed policy number domain after there refl refl (λ (d : Listed × ℕ). (closed_if gone d.0, count after))
-    (pair_by (listing-deleted line domain.entries (position_from (λ (entry : Entry). same_line entry line) 0 domain.entries) refl ∙ ap (λ o. closed_if o (listing domain.entries)) (sym leaves)) refl)
+    (pair_by (listing_deleted line domain.entries (position_from (λ (entry : Entry). same_line entry line) 0 domain.entries) refl ∙ ap (λ o. closed_if o (listing domain.entries)) (sym leaves)) refl)
     ∙ ap telling (sym made)
 
 -- the domain is there afterwards

@@ -7,3 +7,4 @@ pub mod Known
 pub mod Looked
 pub mod Quiet
 pub mod Gone
+pub mod Groups

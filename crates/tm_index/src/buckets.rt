@@ -7,7 +7,8 @@ use std::alloc::Global;
 use std::marker::Model;
 use tm_list::{NoMemory, Seq};
 
-/// For each key the places that were noted under it, in the order in which they were. Contracts see the places of each key.
+/// For each key the places that were noted under it, in the order in which they were. Contracts see the places of each key. A key whose
+/// places have all gone stays.
 #[derive(Drop)]
 pub(crate) struct Buckets {
     lists: IndexMap<Vec<u8>, Seq<u32>>,

@@ -1,6 +1,8 @@
 //! The representation of a policy with an index.
-ghost use Rattle.std.specs.Prelude.{◌≡◌, IfOk, [], Some};
+ghost use Rattle.std.specs.Prelude.{◌≡◌, IfOk, [], None, Some, true};
+ghost use Rattle.std.specs.List.{position_from};
 ghost use Rattle.tm_rules.specs.Few.{IsFew};
+ghost use Rattle.tm_rules.specs.Load.{wants_profile};
 ghost use Rattle.tm_index.specs.Listing.{literal_places, other_places};
 ghost use Rattle.tm_index.specs.Known.{list_of};
 
@@ -12,7 +14,7 @@ use crate::search::{list_at, search};
 use std::alloc::Global;
 use std::marker::Model;
 use tm_list::{Copied, NoMemory};
-use tm_policy::Rep;
+use tm_policy::{PolicyCalls, Rep};
 use tm_types::entry::Entry;
 use tm_types::policy::{Cursor, Policy};
 use tm_types::request::{Proc, Request};
@@ -60,6 +62,16 @@ impl Indexed {
     {
         let Indexed { policy, .. } = self;
         policy
+    }
+
+    /// Opens the policy, in which each live domain has its profile. Nothing of that is noted. Takes no memory.
+    #[tactic(auto, unfolding(crate::specs::Index::telling))]
+    pub fn set_opened(&mut self)
+        requires { position_from (wants_profile self.old) 0 self.old.domains ≡ None }
+        ensures opened { self.new ≡ record self.old { opened = true } }
+        ensures few { IsFew self.old → IsFew self.new }
+    {
+        self.policy.set_opened();
     }
 
     /// The places, from 0 and rising, of the entries whose first name argument, or for `misc env` its pattern, is a literal that matches

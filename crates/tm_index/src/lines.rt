@@ -8,43 +8,17 @@ ghost use Rattle.tm_grammar.specs.Tomoyo.{tomoyo_grammar};
 ghost use Rattle.tm_index.specs.Index.{told, telling, IsIndexOf};
 
 use crate::adding::add_acl;
-use crate::index::{Index, index_of};
+use crate::group_lines::edit_group;
+use crate::index::Index;
 use crate::quiet::{choose, edit_silent, select};
 use crate::removing::{delete, remove_acl};
 use crate::settings::edit_setting;
 use std::alloc::{AllocError, Global};
 use tm_domains::apply_manager;
-use tm_edit::apply_read;
-use tm_list::{Copied, NoMemory};
+use tm_list::NoMemory;
 use tm_policy_line::read_line;
 use tm_types::policy::{Cursor, DomainRule, ManagerRule, Policy, PolicyLine};
 use tm_types::step::{EditReply, FileKind, LineFault};
-
-// Does a line that was read, with an index that is made anew.
-fn edit_anew(
-    alloc: Global,
-    policy: &mut Policy,
-    index: &mut Index,
-    cursor: &mut Cursor,
-    line: PolicyLine,
-) -> Result<EditReply, NoMemory>
-    requires few { IsFew policy.old }
-    requires index { IsIndexOf index.old policy.old }
-    ensures done { IfOk result (λ reply. apply_read policy.old cursor.old line ≡
-        record { policy = policy.new; cursor = cursor.new; reply = reply }) }
-    ensures kept { OnErr result ((policy.new ≡ policy.old) × (cursor.new ≡ cursor.old)) }
-    ensures few { IsFew policy.new }
-    ensures index { IsIndexOf index.new policy.new }
-{
-    let mut next = policy.copy(alloc)?;
-    let mut chosen = *cursor;
-    let reply = apply_read(alloc, &mut next, &mut chosen, line)?;
-    let made = index_of(alloc, &next)?;
-    *policy = next;
-    *index = made;
-    *cursor = chosen;
-    Ok(reply)
-}
 
 // Does a line of the manager file: nothing is noted.
 #[tactic(auto, unfolding(tm_rules::specs::Edit::apply_read, tm_rules::specs::Edit::manager_line))]
@@ -147,7 +121,7 @@ fn edit_read(
         PolicyLine::Exception(line) => {
             edit_setting(alloc, policy, index, cursor, PolicyLine::Exception(line))
         }
-        PolicyLine::Group(line) => edit_anew(alloc, policy, index, cursor, PolicyLine::Group(line)),
+        PolicyLine::Group(line) => edit_group(alloc, policy, index, *cursor, line),
         PolicyLine::Domain(rule) => edit_domain(alloc, policy, index, cursor, rule),
         PolicyLine::Manager(delete, rule) => edit_manager(policy, index, *cursor, delete, rule),
     }

@@ -44,8 +44,8 @@ pub(crate) fn delete(
     reply
 }
 
-// The place of the entry that a line shares, where it has nothing left without the line's permissions.
-fn gone_at(entries: &[Entry], at: Option<usize>, line: &Entry) -> Option<u32>
+/// The place of the entry that a line shares, where it has nothing left without the line's permissions.
+pub(crate) fn gone_at(entries: &[Entry], at: Option<usize>, line: &Entry) -> Option<u32>
     requires { length entries.now < 4294967296 }
     ensures { result ≡ gone_at entries.now at line.now }
 {

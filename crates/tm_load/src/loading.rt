@@ -10,6 +10,7 @@ ghost use Rattle.tm_load.specs.Lines.{all_lines};
 
 use crate::lines::load_file;
 use std::alloc::Global;
+use tm_index::Indexed;
 use tm_policy::{Plain, PolicyCalls, Rep, profile_of};
 use tm_types::policy::{Domain, Policy};
 use tm_types::step::{FileKind, LoadFault, PolicyFiles};
@@ -51,6 +52,21 @@ pub fn open(mut policy: Policy) -> Result<Policy, LoadFault>
     }
 }
 
+// Opens a policy with an index, as `open` opens a plain one.
+fn open_indexed(mut rep: Indexed) -> Result<Indexed, LoadFault>
+    requires { IsFew rep }
+    ensures exact { GivesNow load_cause (λ opened. opened) result (open_policy rep) }
+    ensures few { IfOk result IsFew }
+{
+    match first_without_profile(rep.policy()) {
+        Some(place) => Err(LoadFault::UndefinedProfile(place)),
+        None => {
+            rep.set_opened();
+            Ok(rep)
+        }
+    }
+}
+
 /// Does the lines of these files on any representation of a policy: those of the profile, the exception, the domain and the manager file,
 /// in this order, each file with an empty cursor at first, and each line has to be done.
 ///
@@ -82,4 +98,22 @@ pub fn load(alloc: Global, files: &PolicyFiles) -> Result<Policy, LoadFault>
     };
     let rep = load_into(alloc, Plain::new(policy), files)?;
     open(rep.into_policy())
+}
+
+/// Loads the policy of these files with an index, and opens it, as `load` does: no line takes time that grows with the lines before it.
+///
+/// Errors: those of `load`.
+#[tactic(auto, using(crate::proofs::LoadLaws::load_in_two), unfolding(tm_rules::specs::Load::load))]
+pub fn load_indexed(alloc: Global, files: &PolicyFiles) -> Result<Indexed, LoadFault>
+    ensures exact { Gives load_cause (λ rep. rep) result (load tomoyo_grammar files.now) }
+    ensures few { IfOk result IsFew }
+{
+    let Ok(policy) = Policy::new(alloc) else {
+        return Err(LoadFault::NoMemory);
+    };
+    let Ok(rep) = Indexed::new(alloc, policy) else {
+        return Err(LoadFault::NoMemory);
+    };
+    let rep = load_into(alloc, rep, files)?;
+    open_indexed(rep)
 }
