@@ -1,16 +1,16 @@
 -- The cause of each status, from how the call ends.
-use Rattle.std.proofs.Common.{◌∙◌, ◌++◌, List, ap, sym}
-use Rattle.tm_io.specs.declared.names.FileName.{FileName}
+use Rattle.std.proofs.Common.{◌++◌}
 use Rattle.tm_io.specs.Causes.{Rose}
 use Rattle.tomoyo.specs.declared.status.Status.{Status}
 use Rattle.tomoyo.specs.declared.status.OutName.{OutName}
 use Rattle.tomoyo.specs.declared.carry.Outcome.{Outcome}
 use Rattle.tomoyo.specs.declared.words.Command.{Command}
 use Rattle.tomoyo.specs.Fetches.{Texts, AllGiven, FetchStops}
-use Rattle.tomoyo.specs.Stores.{is_named}
+use Rattle.tomoyo.specs.Stores.{names_of}
 use Rattle.tomoyo.specs.Ends.{Outside, Untouched, Ends, CarriedOut}
 use Rattle.tomoyo.specs.Call.{wants_of, Refuses, Allows, CommandCause}
-use Rattle.tomoyo.proofs.Refusals.{refusal-kind, bad-policy, undefined-profile, bad-trace, bad-script, too-many, names-allowed}
+use Rattle.tomoyo.proofs.Refusals.{refusal-kind, bad-policy, undefined-profile, bad-trace, bad-script, too-many}
+use Rattle.tomoyo.proofs.Named.{names-allowed, named-by}
 use Rattle.tomoyo.proofs.Others.{named-at, self-same}
 
 -- a fetch that ends the call
@@ -48,7 +48,7 @@ carried-cause : (command : Command) (old new : Outside) (texts : Texts) (outcome
 carried-cause command old new texts outcome Status.Done allowed h = tt
 carried-cause command old new texts outcome (Status.ReadFault name) allowed h = absurd h.0
 carried-cause command old new texts outcome (Status.WriteFault (OutName.File name)) allowed h =
-    (h.0.1, ap (λ (names : List FileName). is_named names name) (sym (names-allowed command texts outcome allowed)) ∙ named-at outcome.stores h.0.0.made name (h.0.0.text ++ h.0.0.rest) (self-same name) h.0.0.at, h.1)
+    (h.0.1, named-by command (names_of outcome.stores) name (names-allowed command texts outcome allowed) (named-at outcome.stores h.0.0.made name (h.0.0.text ++ h.0.0.rest) (self-same name) h.0.0.at), h.1)
 carried-cause command old new texts outcome (Status.WriteFault OutName.StandardOutput) allowed h = h.rose
 carried-cause command old new texts outcome Status.OutOfMemory allowed h = h.1
 carried-cause command old new texts outcome (Status.BadWords place) allowed h = absurd h.0

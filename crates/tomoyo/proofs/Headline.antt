@@ -1,23 +1,30 @@
 -- What a call that is done has stored, and what every call leaves.
-use Rattle.std.proofs.Common.{◌≡◌, ◌∙◌, ℕ, ◌∷◌, [], ◌++◌, List, take, drop, true, false, Ok, ap, refl, subst}
+use Rattle.std.proofs.Common.{◌≡◌, ◌∙◌, ℕ, ◌∷◌, [], ◌++◌, List, Bool, ◌&&◌, not, take, drop, true, false, Ok, ap, refl, sym, subst, append_assoc}
+use Rattle.std.specs.Prelude.{Option, Some, None}
+use Rattle.std.specs.List.{AllByRecursion}
+use Rattle.std.proofs.lemmas.Bool.{and_parts}
 use Rattle.tm_types.specs.declared.policy.Policy.{Policy}
 use Rattle.tm_io.specs.declared.names.FileName.{FileName}
 use Rattle.tm_io.specs.Names.{same_name}
-use Rattle.tm_io.specs.Files.{FileState, changed}
+use Rattle.tm_io.specs.Files.{FileState, Files, changed}
 use Rattle.tm_io.specs.Bytes.{then_bytes}
 use Rattle.tomoyo.specs.declared.status.Status.{Status}
 use Rattle.tomoyo.specs.declared.status.OutName.{OutName}
 use Rattle.tomoyo.specs.declared.carry.Outcome.{Outcome}
 use Rattle.tomoyo.specs.declared.play.Played.{Played}
+use Rattle.tomoyo.specs.declared.rerun.RerunTexts.{RerunTexts}
+use Rattle.tomoyo.specs.declared.rerun.Learned.{Learned}
 use Rattle.tomoyo.specs.declared.words.Command.{Command}
 use Rattle.tomoyo.specs.Fetches.{Texts, IsTold, TellsAll}
 use Rattle.tomoyo.specs.Stores.{stored, Leaves, names_of, is_named}
 use Rattle.tomoyo.specs.Ends.{Outside, Ends, CarriedOut}
 use Rattle.tomoyo.specs.Play.{Plays}
+use Rattle.tomoyo.specs.Rerun.{Learns}
 use Rattle.tomoyo.specs.Print.{policy_of, printed_policy}
-use Rattle.tomoyo.specs.Call.{wants_of, stored_by, step_stores, policy_stores, Refuses, Allows, IsPlayed, IsShown, HasDone}
-use Rattle.tomoyo.proofs.Refusals.{refusal-kind, names-allowed}
-use Rattle.tomoyo.proofs.Others.{changed-other, not-first, not-later, stored-other, leaves-other, cut-other, first-other}
+use Rattle.tomoyo.specs.Call.{wants_of, stored_by, step_stores, rerun_stores, learn_stores, policy_stores, Refuses, Allows, IsPlayed, IsLearned, IsShown, HasDone}
+use Rattle.tomoyo.proofs.Refusals.{refusal-kind}
+use Rattle.tomoyo.proofs.Named.{names-allowed, unnamed-by}
+use Rattle.tomoyo.proofs.Others.{changed-other, not-first, not-later, stored-other, leaves-other, cut-other, first-other, self-same}
 use Rattle.tomoyo.proofs.Told.{texts-told}
 
 -- files that the outcome doesn't store
@@ -40,7 +47,7 @@ pub kept-of : (command : Command) (old new : Outside) (status : Status) → Ends
 kept-of command old new status (Ends.Not_fetched stops untouched) name e = untouched.files name
 kept-of command old new status (Ends.Refused texts given refused untouched) name e = untouched.files name
 kept-of command old new status (Ends.Made texts outcome given allowed carried) name e =
-    carried-others old new outcome status name carried (ap (λ (names : List FileName). is_named names name) (names-allowed command texts outcome allowed) ∙ e)
+    carried-others old new outcome status name carried (unnamed-by command (names_of outcome.stores) name (names-allowed command texts outcome allowed) e)
 
 -- a told file that is stored
 changed-self : (stored : FileName) (bytes : List ℕ) (state : FileState) → IsTold state → same_name stored stored ≡ true → changed stored bytes stored state ≡ FileState.Holds bytes
@@ -48,12 +55,31 @@ changed-self stored bytes FileState.Untold is e = absurd is
 changed-self stored bytes FileState.Missing is e = rw e refl
 changed-self stored bytes (FileState.Holds held) is e = rw e refl
 
+not-true : (b : Bool) → not b ≡ true → b ≡ false
+not-true true e = absurd cc
+not-true false e = refl
+
 -- a file that is stored once among others holds its text
 stored-holds : (before after : Texts) (name : FileName) (bytes : List ℕ) (state : FileState) → IsTold state → same_name name name ≡ true → is_named (names_of before) name ≡ false → is_named (names_of after) name ≡ false → stored (before ++ (name, bytes) ∷ after) name state ≡ FileState.Holds bytes
 stored-holds [] after name bytes state told self none later = ap (stored after name) (changed-self name bytes state told self) ∙ stored-other after name (FileState.Holds bytes) later
 stored-holds (s ∷ before) after name bytes state told self none later =
     ap (stored (before ++ (name, bytes) ∷ after) name) (changed-other s.0 s.1 name state (not-first (same_name s.0 name) (is_named (names_of before) name) none))
     ∙ stored-holds before after name bytes state told self (not-later (same_name s.0 name) (is_named (names_of before) name) none) later
+
+-- each name is stored once, and none of those before it
+abbrev are_once : Texts → Texts → Bool
+are_once before [] = true
+are_once before (store ∷ after) = not (is_named (names_of before) store.0) && not (is_named (names_of after) store.0) && are_once (before ++ store ∷ []) after
+
+-- told files that are stored, each once, hold their texts
+all-hold : (before after : Texts) (old new : Files) → TellsAll old → Leaves (before ++ after) old new → are_once before after ≡ true → AllByRecursion (λ (store : FileName × List ℕ). new store.0 ≡ FileState.Holds store.1) after
+all-hold before [] old new tells leaves once = tt
+all-hold before (store ∷ after) old new tells leaves once =
+    let parts = and_parts (not (is_named (names_of before) store.0) && not (is_named (names_of after) store.0)) (are_once (before ++ store ∷ []) after) once in
+    let alone = and_parts (not (is_named (names_of before) store.0)) (not (is_named (names_of after) store.0)) parts.0 in (
+      leaves store.0 ∙ stored-holds before after store.0 store.1 (old store.0) (tells store.0) (self-same store.0) (not-true _ alone.0) (not-true _ alone.1),
+      all-hold (before ++ store ∷ []) after old new tells (subst (λ (stores : Texts). Leaves stores old new) (sym (append_assoc before (store ∷ []) after)) leaves) parts.1,
+    )
 
 -- a step that is done
 step-done : (old new : Outside) → Ends (wants_of Command.Step) (Refuses Command.Step) (Allows Command.Step) old new Status.Done → TellsAll old.files → IsPlayed old new
@@ -65,7 +91,35 @@ step-done old new (Ends.Made texts outcome given allowed carried) tells =
     record {
       played = played;
       plays = subst (λ (ts : Texts). Plays ts played) (texts-told old.files (wants_of Command.Step) texts tells given) allowed.1.1;
-      stored = (leaves FileName.Run ∙ stored-holds [] (drop 1 (step_stores played)) FileName.Run played.run (old.files FileName.Run) (tells FileName.Run) refl refl refl, (leaves FileName.Audit ∙ stored-holds (take 1 (step_stores played)) (drop 2 (step_stores played)) FileName.Audit played.audit (old.files FileName.Audit) (tells FileName.Audit) refl refl refl, (leaves FileName.ProfileNew ∙ stored-holds (take 2 (step_stores played)) (drop 3 (step_stores played)) FileName.ProfileNew played.policy.profile (old.files FileName.ProfileNew) (tells FileName.ProfileNew) refl refl refl, (leaves FileName.ExceptionPolicyNew ∙ stored-holds (take 3 (step_stores played)) (drop 4 (step_stores played)) FileName.ExceptionPolicyNew played.policy.exception (old.files FileName.ExceptionPolicyNew) (tells FileName.ExceptionPolicyNew) refl refl refl, (leaves FileName.DomainPolicyNew ∙ stored-holds (take 4 (step_stores played)) (drop 5 (step_stores played)) FileName.DomainPolicyNew played.policy.domain (old.files FileName.DomainPolicyNew) (tells FileName.DomainPolicyNew) refl refl refl, (leaves FileName.ManagerNew ∙ stored-holds (take 5 (step_stores played)) (drop 6 (step_stores played)) FileName.ManagerNew played.policy.manager (old.files FileName.ManagerNew) (tells FileName.ManagerNew) refl refl refl, tt))))));
+      stored = all-hold [] (step_stores played) old.files new.files tells leaves refl;
+      summary = carried.1 ∙ ap (λ (o : Outcome). then_bytes o.line old.written) allowed.1.2;
+    }
+
+-- what a learn that is done has stored, without its rerun and with it
+learn-holds : (played : Played) (rerun : Option RerunTexts) (old new : Files) → TellsAll old → Leaves (step_stores played ++ rerun_stores rerun) old new
+    → AllByRecursion (λ (store : FileName × List ℕ). new store.0 ≡ FileState.Holds store.1) (step_stores played ++ rerun_stores rerun)
+learn-holds played None old new tells leaves = all-hold [] (step_stores played ++ rerun_stores None) old new tells leaves refl
+learn-holds played (Some rerun) old new tells leaves = all-hold [] (step_stores played ++ rerun_stores (Some rerun)) old new tells leaves refl
+
+-- a rerun that is left out leaves its files as they were
+learn-keeps : (learned : Learned) (old new : Files) → Leaves (learn_stores learned) old new → learned.rerun ≡ None → (new FileName.Run2 ≡ old FileName.Run2) × (new FileName.Audit2 ≡ old FileName.Audit2)
+learn-keeps learned old new leaves none =
+    let stores : Texts = step_stores learned.played ++ rerun_stores None in
+    let left : Leaves stores old new = subst (λ (rerun : Option RerunTexts). Leaves (step_stores learned.played ++ rerun_stores rerun) old new) none leaves in
+    (leaves-other stores old new FileName.Run2 left refl, leaves-other stores old new FileName.Audit2 left refl)
+
+-- a learn that is done
+learn-done : (old new : Outside) → Ends (wants_of Command.Learn) (Refuses Command.Learn) (Allows Command.Learn) old new Status.Done → TellsAll old.files → IsLearned old new
+learn-done old new (Ends.Not_fetched stops untouched) tells = absurd stops.cause
+learn-done old new (Ends.Refused texts given refused untouched) tells = absurd (refusal-kind Command.Learn texts Status.Done refused)
+learn-done old new (Ends.Made texts outcome given allowed carried) tells =
+    let learned : Learned = allowed.1.0 in
+    let leaves : Leaves (learn_stores learned) old.files new.files = subst (λ (o : Outcome). Leaves o.stores old.files new.files) allowed.1.2 carried.0 in
+    record {
+      learned = learned;
+      learns = subst (λ (ts : Texts). Learns ts learned) (texts-told old.files (wants_of Command.Learn) texts tells given) allowed.1.1;
+      stored = learn-holds learned.played learned.rerun old.files new.files tells leaves;
+      kept = learn-keeps learned old.files new.files leaves;
       summary = carried.1 ∙ ap (λ (o : Outcome). then_bytes o.line old.written) allowed.1.2;
     }
 
@@ -91,5 +145,7 @@ print-done old new (Ends.Made texts outcome given allowed carried) tells =
 pub headline-of : (command : Command) (old new : Outside) (status : Status) → Ends (wants_of command) (Refuses command) (Allows command) old new status → HasDone (Ok command) old new status
 headline-of Command.Step old new status ends = λ tells is.
     step-done old new (subst (λ (s : Status). Ends (wants_of Command.Step) (Refuses Command.Step) (Allows Command.Step) old new s) is ends) tells
+headline-of Command.Learn old new status ends = λ tells is.
+    learn-done old new (subst (λ (s : Status). Ends (wants_of Command.Learn) (Refuses Command.Learn) (Allows Command.Learn) old new s) is ends) tells
 headline-of Command.Print old new status ends = λ tells is.
     print-done old new (subst (λ (s : Status). Ends (wants_of Command.Print) (Refuses Command.Print) (Allows Command.Print) old new s) is ends) tells

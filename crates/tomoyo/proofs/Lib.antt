@@ -3,9 +3,11 @@ pub mod Carried
 pub mod Told
 pub mod Others
 pub mod Refusals
+pub mod Named
 pub mod Causes
 pub mod Calls
 pub mod Exact
 pub mod Headline
 pub mod Readings
 pub mod Playing
+pub mod Rerunning

@@ -104,7 +104,7 @@ is-there : {A : Type 0} (o : Option A) → not (is_some o) ≡ false → IsSome 
 is-there None e = absurd cc
 is-there (Some x) e = refl
 
-homes-there : (policy : Policy) (k : ℕ) (trees : Trace) → position_from (λ (tree : Tree). not (is_some (live_domain policy tree.start))) k trees ≡ None → AllByRecursion (λ (tree : Tree). IsSome (live_domain policy tree.start)) trees
+pub homes-there : (policy : Policy) (k : ℕ) (trees : Trace) → position_from (λ (tree : Tree). not (is_some (live_domain policy tree.start))) k trees ≡ None → AllByRecursion (λ (tree : Tree). IsSome (live_domain policy tree.start)) trees
 homes-there policy k [] e = tt
 homes-there policy k (tree ∷ trees) e = go (not (is_some (live_domain policy tree.start))) refl (homes-there policy (k + 1) trees) e
   where

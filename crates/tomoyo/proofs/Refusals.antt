@@ -6,10 +6,8 @@ use Rattle.tm_word.specs.Gives.{◌>>=◌}
 use Rattle.tm_io.specs.declared.names.FileName.{FileName}
 use Rattle.tomoyo.specs.declared.status.Status.{Status}
 use Rattle.tomoyo.specs.declared.status.What.{What}
-use Rattle.tomoyo.specs.declared.carry.Outcome.{Outcome}
 use Rattle.tomoyo.specs.declared.reading.Loaded.{Loaded}
 use Rattle.tomoyo.specs.declared.words.Command.{Command}
-use Rattle.tomoyo.specs.Stores.{names_of}
 use Rattle.tm_io.specs.Files.{Files}
 use Rattle.tm_types.specs.declared.policy.Policy.{Policy}
 use Rattle.tm_types.specs.declared.request.ScriptKind.{ScriptKind}
@@ -24,7 +22,7 @@ use Rattle.tm_script.specs.Schedule.{schedule_of}
 use Rattle.tomoyo.specs.Fetches.{Texts, AllGiven, content}
 use Rattle.tomoyo.specs.Print.{policy_of, fault_status, load_refusal}
 use Rattle.tomoyo.specs.Reading.{of_policy, of_trace, of_script, excess, homeless, within_limits, with_homes, refused, step_reading, step_refusal}
-use Rattle.tomoyo.specs.Call.{wants_of, stored_by, refusal_of, Allows, IsLoadFault, IsStepFault}
+use Rattle.tomoyo.specs.Call.{wants_of, refusal_of, IsLoadFault, IsStepFault}
 
 -- What `step` refuses
 
@@ -128,6 +126,7 @@ load-refused (Err fault) status e = let same : fault_status fault ≡ status = c
 
 pub refusal-kind : (command : Command) (texts : Texts) (status : Status) → refusal_of command texts ≡ Some status → IsRefusal status
 refusal-kind Command.Step texts status e = step-kind texts status (step-refused texts status e)
+refusal-kind Command.Learn texts status e = step-kind texts status (step-refused texts status e)
 refusal-kind Command.Print texts status e = step-kind texts status (inl (load-refused (policy_of texts) status e))
 
 -- The causes of the statuses of refusals
@@ -135,12 +134,13 @@ refusal-kind Command.Print texts status e = step-kind texts status (inl (load-re
 abbrev HasFault : Texts → Status → Type 0
 HasFault texts status = (fault : LoadFault) × (policy_of texts ≡ Err fault) × (fault_status fault ≡ status)
 
+early : (texts : Texts) (status : Status) → ¬ IsLater status → FailsSo texts status → HasFault texts status
+early texts status not_later (inl h) = h
+early texts status not_later (inr later) = absurd (not_later later)
+
 loaded-so : (command : Command) (texts : Texts) (status : Status) → ¬ IsLater status → refusal_of command texts ≡ Some status → HasFault texts status
-loaded-so Command.Step texts status not_later e = go (step-refused texts status e)
-  where
-    go : FailsSo texts status → HasFault texts status
-    go (inl h) = h
-    go (inr later) = absurd (not_later later)
+loaded-so Command.Step texts status not_later e = early texts status not_later (step-refused texts status e)
+loaded-so Command.Learn texts status not_later e = early texts status not_later (step-refused texts status e)
 loaded-so Command.Print texts status not_later e = load-refused (policy_of texts) status e
 
 fault-line : (fault : LoadFault) (file : FileKind) (line : ℕ) (reply : EditReply) → fault_status fault ≡ Status.BadPolicy file line reply → fault ≡ LoadFault.Line file line reply
@@ -172,6 +172,7 @@ fault-early LoadFault.NoMemory status e = subst (λ (s : Status). ¬ IsLater s) 
 
 step-fault : (command : Command) (files : Files) (texts : Texts) (status : Status) → IsLater status → AllGiven files (wants_of command) texts → refusal_of command texts ≡ Some status → IsStepFault command files status
 step-fault Command.Step files texts status later given e = (texts, given, e)
+step-fault Command.Learn files texts status later given e = (texts, given, e)
 step-fault Command.Print files texts status later given e = let (fault, is, same) = load-refused (policy_of texts) status e in absurd (fault-early fault status same later)
 
 pub bad-trace : (command : Command) (files : Files) (texts : Texts) (line : ℕ) (kind : TraceKind) → AllGiven files (wants_of command) texts → refusal_of command texts ≡ Some (Status.BadTrace line kind) → IsStepFault command files (Status.BadTrace line kind)
@@ -183,8 +184,3 @@ bad-script command files texts name line kind given e = step-fault command files
 
 pub too-many : (command : Command) (files : Files) (texts : Texts) (what : What) → AllGiven files (wants_of command) texts → refusal_of command texts ≡ Some (Status.TooMany what) → IsStepFault command files (Status.TooMany what)
 too-many command files texts what given e = step-fault command files texts (Status.TooMany what) tt given e
-
--- an outcome stores the command's files
-pub names-allowed : (command : Command) (texts : Texts) (outcome : Outcome) → Allows command texts outcome → names_of outcome.stores ≡ stored_by command
-names-allowed Command.Step texts outcome allowed = ap (λ (o : Outcome). names_of o.stores) allowed.1.2
-names-allowed Command.Print texts outcome allowed = ap (λ (o : Outcome). names_of o.stores) allowed.1.2

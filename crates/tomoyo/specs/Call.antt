@@ -1,5 +1,5 @@
 -- The top call: what each command reads, stores and allows, and the cause of each status.
-use Rattle.std.specs.Prelude.{◌≡◌, ℕ, ◌⊎◌, List, [], ◌∷◌, Result, Ok, Err, Bool, true, false, Option, Some, None, ⊤}
+use Rattle.std.specs.Prelude.{◌≡◌, ℕ, ◌⊎◌, List, [], ◌∷◌, ◌++◌, Result, Ok, Err, Bool, true, false, Option, Some, None, ⊤}
 use Rattle.std.specs.List.{AllByRecursion}
 use Rattle.tm_io.specs.declared.names.FileName.{FileName}
 use Rattle.tm_types.specs.declared.policy.Policy.{Policy}
@@ -8,6 +8,7 @@ use Rattle.tm_text.specs.DomainText.{domain_text}
 use Rattle.tm_text.specs.ExceptionText.{exception_text}
 use Rattle.tm_text.specs.ManagerText.{manager_text}
 use Rattle.tm_text.specs.ProfileText.{profile_text}
+use Rattle.tm_rerun.specs.Rerun.{no_rerun_text}
 use Rattle.tm_io.specs.Causes.{Rose}
 use Rattle.tm_io.specs.Bytes.{then_bytes}
 use Rattle.tm_io.specs.Files.{FileState, Files, SameFiles}
@@ -18,6 +19,8 @@ use Rattle.tomoyo.specs.declared.carry.Outcome.{Outcome}
 use Rattle.tm_word.specs.Words.{Text}
 use Rattle.tomoyo.specs.declared.play.Printed.{Printed}
 use Rattle.tomoyo.specs.declared.play.Played.{Played}
+use Rattle.tomoyo.specs.declared.rerun.RerunTexts.{RerunTexts}
+use Rattle.tomoyo.specs.declared.rerun.Learned.{Learned}
 use Rattle.tomoyo.specs.declared.words.Command.{Command}
 use Rattle.tomoyo.specs.Fetches.{Texts, AllGiven, FetchStops, TellsAll, told_texts, or_else, first_unread}
 use Rattle.tomoyo.specs.Stores.{is_named}
@@ -26,6 +29,7 @@ use Rattle.tomoyo.specs.Calls.{Names, wanted, FetchesOf, StoresOf}
 use Rattle.tomoyo.specs.Ends.{Outside, Untouched, Ends}
 use Rattle.tomoyo.specs.Reading.{step_refusal, RefusedBy}
 use Rattle.tomoyo.specs.Play.{Plays}
+use Rattle.tomoyo.specs.Rerun.{Learns}
 use Rattle.tomoyo.specs.Print.{policy_of, print_refusal, counts_text, printed_policy}
 
 abbrev pub want : FileName → Bool → Want
@@ -38,15 +42,20 @@ wants_of Command.Step =
     ∷ want FileName.Trace true ∷ want FileName.Edits false ∷ want FileName.Answers false ∷ want FileName.Schedule false ∷ []
 wants_of Command.Print =
     want FileName.Profile true ∷ want FileName.ExceptionPolicy false ∷ want FileName.DomainPolicy true ∷ want FileName.Manager false ∷ []
+wants_of Command.Learn =
+    want FileName.Profile true ∷ want FileName.ExceptionPolicy false ∷ want FileName.DomainPolicy true ∷ want FileName.Manager false
+    ∷ want FileName.Trace true ∷ want FileName.Edits false ∷ want FileName.Answers false ∷ want FileName.Schedule false ∷ []
 
 -- the files that a command reads, in order
 abbrev pub read_by : Command → List FileName
 read_by command = wanted (wants_of command)
 
--- the files that a command stores, in order
+-- the files that a command stores, in order; `learn` leaves the last two out where it leaves out the rerun
 abbrev pub stored_by : Command → List FileName
 stored_by Command.Step = FileName.Run ∷ FileName.Audit ∷ FileName.ProfileNew ∷ FileName.ExceptionPolicyNew ∷ FileName.DomainPolicyNew ∷ FileName.ManagerNew ∷ []
 stored_by Command.Print = FileName.ProfileNew ∷ FileName.ExceptionPolicyNew ∷ FileName.DomainPolicyNew ∷ FileName.ManagerNew ∷ []
+stored_by Command.Learn =
+    FileName.Run ∷ FileName.Audit ∷ FileName.ProfileNew ∷ FileName.ExceptionPolicyNew ∷ FileName.DomainPolicyNew ∷ FileName.ManagerNew ∷ FileName.Run2 ∷ FileName.Audit2 ∷ []
 
 -- a printed policy as files, in order
 abbrev pub policy_stores : Printed → Texts
@@ -65,6 +74,28 @@ step_stores played = stores_of played.run played.audit played.policy
 abbrev pub step_outcome : Played → Outcome
 step_outcome played = record { stores = step_stores played; line = played.summary }
 
+-- the files of a rerun, in order
+abbrev pub rerun_stores : Option RerunTexts → Texts
+rerun_stores None = []
+rerun_stores (Some rerun) = (FileName.Run2, rerun.run) ∷ (FileName.Audit2, rerun.audit) ∷ []
+
+-- what a rerun adds to the summary
+abbrev pub rerun_line : Option RerunTexts → Text
+rerun_line None = no_rerun_text
+rerun_line (Some rerun) = rerun.line
+
+-- what `learn` stores, in order
+abbrev pub learn_stores : Learned → Texts
+learn_stores learned = step_stores learned.played ++ rerun_stores learned.rerun
+
+-- what `learn` puts: the summary, and the rerun's line
+abbrev pub learn_line : Learned → Text
+learn_line learned = learned.played.summary ++ rerun_line learned.rerun
+
+-- what `learn` stores and puts of what was learned
+abbrev pub learn_outcome : Learned → Outcome
+learn_outcome learned = record { stores = learn_stores learned; line = learn_line learned }
+
 -- what `print` stores and puts of the policy that the files load to
 abbrev pub print_outcome : Policy → Outcome
 print_outcome policy = record { stores = policy_stores (printed_policy policy); line = counts_text policy }
@@ -73,11 +104,13 @@ print_outcome policy = record { stores = policy_stores (printed_policy policy); 
 abbrev pub Makes : Command → Texts → Outcome → Type 0
 Makes Command.Step texts outcome = (played : Played) × Plays texts played × (outcome ≡ step_outcome played)
 Makes Command.Print texts outcome = (policy : Policy) × (policy_of texts ≡ Ok policy) × (outcome ≡ print_outcome policy)
+Makes Command.Learn texts outcome = (learned : Learned) × Learns texts learned × (outcome ≡ learn_outcome learned)
 
 -- the refusal of what a command reads
 abbrev pub refusal_of : Command → Texts → Option Status
 refusal_of Command.Step texts = step_refusal texts
 refusal_of Command.Print texts = print_refusal texts
+refusal_of Command.Learn texts = step_refusal texts
 
 -- a refusal of what was read; want of memory is free
 abbrev pub Refuses : Command → Texts → Status → Type 0
@@ -96,10 +129,11 @@ CallEnds (Ok command) old new status = Ends (wants_of command) (Refuses command)
 abbrev pub IsLoadFault : Command → Files → LoadFault → Type 0
 IsLoadFault command files fault = (texts : Texts) × AllGiven files (wants_of command) texts × (policy_of texts ≡ Err fault)
 
--- a refusal of what `step` reads beside the policy
+-- a refusal of what `step` and `learn` read beside the policy
 abbrev pub IsStepFault : Command → Files → Status → Type 0
 IsStepFault Command.Step files status = (texts : Texts) × AllGiven files (wants_of Command.Step) texts × (step_refusal texts ≡ Some status)
 IsStepFault Command.Print files status = ⊥
+IsStepFault Command.Learn files status = (texts : Texts) × AllGiven files (wants_of Command.Learn) texts × (step_refusal texts ≡ Some status)
 
 -- a fetch that ends the call: nothing is stored, and nothing is put
 abbrev pub IsUnfetched : Command → Outside → Outside → Status → Type 0
@@ -163,10 +197,16 @@ abbrev pub FetchesInOrder : Result Command ℕ → Status → Names → Names �
 FetchesInOrder (Err place) status old new = Noted [] old new
 FetchesInOrder (Ok command) status old new = FetchesOf (read_by command) status old new
 
+-- the stores of a command; those of `learn` are those of `step` where it leaves out the rerun
+abbrev pub StoresBy : Command → Status → Names → Names → Type 0
+StoresBy Command.Step status old new = StoresOf (stored_by Command.Step) status old new
+StoresBy Command.Print status old new = StoresOf (stored_by Command.Print) status old new
+StoresBy Command.Learn status old new = StoresOf (stored_by Command.Learn) status old new ⊎ StoresOf (stored_by Command.Step) status old new
+
 -- the files are stored in their order, each once, and nothing after the store that fails; at faulty words nothing is stored
 abbrev pub StoresInOrder : Result Command ℕ → Status → Names → Names → Type 0
 StoresInOrder (Err place) status old new = Noted [] old new
-StoresInOrder (Ok command) status old new = StoresOf (stored_by command) status old new
+StoresInOrder (Ok command) status old new = StoresBy command status old new
 
 -- nothing is stored before all is fetched
 abbrev pub StoresLast : Result Command ℕ → Names → Names → Names → Names → Type 0
@@ -180,6 +220,15 @@ pub record IsPlayed (old new : Outside) : Type 0 where
   pub stored : AllByRecursion (λ (store : FileName × List ℕ). new.files store.0 ≡ FileState.Holds store.1) (step_stores played)
   pub summary : new.written ≡ then_bytes played.summary old.written
 
+-- what a `learn` that is done has stored and put: what a `step` has, with the text of the rerun and its audit texts, and its line after the
+-- summary; where the rerun is left out, its files are as they were
+pub record IsLearned (old new : Outside) : Type 0 where
+  pub learned : Learned
+  pub learns : Learns (told_texts (wants_of Command.Learn) old.files) learned
+  pub stored : AllByRecursion (λ (store : FileName × List ℕ). new.files store.0 ≡ FileState.Holds store.1) (learn_stores learned)
+  pub kept : learned.rerun ≡ None → (new.files FileName.Run2 ≡ old.files FileName.Run2) × (new.files FileName.Audit2 ≡ old.files FileName.Audit2)
+  pub summary : new.written ≡ then_bytes (learn_line learned) old.written
+
 -- what a `print` that is done has stored and put: the printed texts of the policy that the told files load to, and the line of its counts
 pub record IsShown (old new : Outside) : Type 0 where
   pub policy : Policy
@@ -190,8 +239,9 @@ pub record IsShown (old new : Outside) : Type 0 where
   pub manager : new.files FileName.ManagerNew ≡ FileState.Holds (manager_text policy)
   pub counts : new.written ≡ then_bytes (counts_text policy) old.written
 
--- the headline: on told files, a call that is done has played or printed them
+-- the headline: on told files, a call that is done has printed or played them, or learned from them and played them again
 abbrev pub HasDone : Result Command ℕ → Outside → Outside → Status → Type 0
 HasDone (Err place) old new status = ¬ (status ≡ Status.Done)
 HasDone (Ok Command.Step) old new status = TellsAll old.files → status ≡ Status.Done → IsPlayed old new
 HasDone (Ok Command.Print) old new status = TellsAll old.files → status ≡ Status.Done → IsShown old new
+HasDone (Ok Command.Learn) old new status = TellsAll old.files → status ≡ Status.Done → IsLearned old new

@@ -7,4 +7,5 @@ pub mod Ends
 pub mod Print
 pub mod Reading
 pub mod Play
+pub mod Rerun
 pub mod Call

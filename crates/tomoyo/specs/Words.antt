@@ -5,7 +5,11 @@ use Rattle.tomoyo.specs.declared.words.Command.{Command}
 
 -- the command that begins with this word
 abbrev pub command_of : List ℕ → Result Command ℕ
-command_of word = if bytes_eq word (codes "print") then Ok Command.Print else if bytes_eq word (codes "step") then Ok Command.Step else Err 0
+command_of word =
+    if bytes_eq word (codes "print") then Ok Command.Print
+    else if bytes_eq word (codes "step") then Ok Command.Step
+    else if bytes_eq word (codes "learn") then Ok Command.Learn
+    else Err 0
 
 -- no word may follow a command's last one
 abbrev pub alone : Result Command ℕ → Result Command ℕ

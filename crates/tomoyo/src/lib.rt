@@ -8,6 +8,7 @@ mod fetches;
 mod play;
 mod print;
 mod reading;
+mod rerun;
 mod status;
 mod top;
 mod words;

@@ -48,7 +48,7 @@ pub struct Played {
 }
 
 // The run that is played of what was read, and the machine at its last version.
-fn run_of(alloc: Global, loaded: Loaded) -> Result<(Run, Machine<Indexed>), NoMemory>
+pub(crate) fn run_of(alloc: Global, loaded: Loaded) -> Result<(Run, Machine<Indexed>), NoMemory>
     requires few { IsFew loaded.policy }
     requires can { CanPlay (scene_of loaded) }
     ensures plays { IfOk result (λ ended. IsPlayOf loaded ended.0 ended.1.state.policy) }
@@ -65,8 +65,7 @@ fn run_of(alloc: Global, loaded: Loaded) -> Result<(Run, Machine<Indexed>), NoMe
         return Err(AllocError);
     };
     let stands = has_supervisor(&book);
-    let rep = Indexed::new(alloc, policy)?;
-    let machine = Machine::start(alloc, rep, editors.into_vec(), trees, stands)?;
+    let machine = Machine::start(alloc, policy, editors.into_vec(), trees, stands)?;
     let player = start_play(alloc, machine, trace)?;
     let desk = Desk::new(&book, |query: &Query| book_code(&book, query));
     let played = play_out(alloc, player, &desk, schedule.as_slice())?;
@@ -84,7 +83,7 @@ fn push_audit(take: &Take, out: &mut Vec<u8>) -> Result<(), NoMemory>
 }
 
 // The audit texts of these takes, joined.
-fn audits_of(alloc: Global, takes: &[Take]) -> Result<Text, NoMemory>
+pub(crate) fn audits_of(alloc: Global, takes: &[Take]) -> Result<Text, NoMemory>
     ensures { IfOk result (λ text. text ≡ audits_of takes.now) }
 {
     let mut text = Vec::new(alloc);
@@ -115,7 +114,12 @@ pub fn print_policy(alloc: Global, policy: &Policy) -> Result<Printed, NoMemory>
 }
 
 // The texts of a run from an opening to a last policy.
-fn texts_of(alloc: Global, run: &Run, opening: &Policy, last: &Policy) -> Result<Played, NoMemory>
+pub(crate) fn texts_of(
+    alloc: Global,
+    run: &Run,
+    opening: &Policy,
+    last: &Policy,
+) -> Result<Played, NoMemory>
     ensures { IfOk result (IsPrinted run.now opening.now last.now) }
 {
     let mut text = Vec::new(alloc);

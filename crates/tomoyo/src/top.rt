@@ -4,23 +4,25 @@ ghost use Rattle.tm_io.specs.Causes.{Rose};
 ghost use Rattle.tm_io.specs.Files.{SameFiles};
 ghost use Rattle.tm_io.specs.Notes.{Noted};
 ghost use Rattle.tomoyo.specs.Fetches.{AllGiven, FetchStops};
-ghost use Rattle.tomoyo.specs.Calls.{FetchesOf, StoresOf};
+ghost use Rattle.tomoyo.specs.Calls.{FetchesOf};
 ghost use Rattle.tomoyo.specs.Ends.{outside, Ends};
 ghost use Rattle.tomoyo.specs.Words.{read_words};
-ghost use Rattle.tomoyo.specs.Call.{wants_of, read_by, stored_by, stores_of, policy_stores, step_outcome, print_outcome};
+ghost use Rattle.tomoyo.specs.Call.{wants_of, read_by, stores_of, policy_stores, step_stores, step_outcome, rerun_stores, rerun_line, learn_outcome, print_outcome};
 ghost use Rattle.tomoyo.specs.Call.{Refuses, Allows, CallEnds, HasCause, IsExact, IsComplete, KeepsOthers, HasDone};
-ghost use Rattle.tomoyo.specs.Call.{FetchesInOrder, StoresInOrder, StoresLast};
+ghost use Rattle.tomoyo.specs.Call.{FetchesInOrder, StoresBy, StoresInOrder, StoresLast};
 ghost use Rattle.tomoyo.specs.declared.words.Command.{Command};
 
 use crate::carry::{Outcome, carry_out};
 use crate::fetches::{Want, fetch_all};
 use crate::play::{Played, Printed, play_of, print_policy};
 use crate::print::{counts_line, load_files};
+use crate::rerun::{Learned, RerunTexts, learn_of};
 use crate::status::Status;
 use crate::words::{Command, read_command};
 use std::alloc::Global;
 use tm_io::{FileList, FileName, Shelf, Sink};
 use tm_list::NoMemory;
+use tm_rerun::no_rerun_line;
 use tm_types::policy::Policy;
 use tm_word::Text;
 
@@ -36,7 +38,7 @@ fn fetch_for<S: Shelf>(alloc: Global, command: Command, shelf: &mut S) -> Result
     ensures no_store { Noted [] (S.stored shelf.old) (S.stored shelf.new) }
 {
     match command {
-        Command::Step => {
+        Command::Step | Command::Learn => {
             let wants = [
                 Want::needed(FileName::Profile),
                 Want::optional(FileName::ExceptionPolicy),
@@ -106,6 +108,51 @@ fn step_outcome(alloc: Global, played: Played) -> Result<Outcome, NoMemory>
     })
 }
 
+// Appends the files of a rerun, and its line to the summary; of a rerun that is left out, its line alone.
+fn push_rerun(
+    alloc: Global,
+    rerun: Option<RerunTexts>,
+    stores: &mut FileList,
+    line: &mut Vec<u8>,
+) -> Result<(), NoMemory>
+    ensures stores { OnOk result (stores.new ≡ stores.old ++ rerun_stores rerun) }
+    ensures line { OnOk result (line.new.items ≡ line.old.items ++ rerun_line rerun) }
+{
+    match rerun {
+        None => line.extend_from_slice(&no_rerun_line(alloc)?),
+        Some(rerun) => {
+            let RerunTexts {
+                run,
+                audit,
+                line: text,
+            } = rerun;
+            stores.push((FileName::Run2, run))?;
+            stores.push((FileName::Audit2, audit))?;
+            line.extend_from_slice(text.bytes())
+        }
+    }
+}
+
+// What `learn` stores and puts of what was learned.
+fn learn_outcome(alloc: Global, learned: Learned) -> Result<Outcome, NoMemory>
+    ensures { IfOk result (λ outcome. outcome ≡ learn_outcome learned) }
+{
+    let Learned { played, rerun } = learned;
+    let Played {
+        run,
+        audit,
+        policy,
+        summary,
+    } = played;
+    let mut stores = stores_of(alloc, run, audit, policy)?;
+    let mut line = summary.into_vec();
+    push_rerun(alloc, rerun, &mut stores, &mut line)?;
+    Ok(Outcome {
+        stores,
+        line: Text::from_vec(line),
+    })
+}
+
 // What `print` stores and puts of the policy that the files load to.
 fn print_outcome(alloc: Global, policy: &Policy) -> Result<Outcome, NoMemory>
     requires { IsFew policy.now }
@@ -126,6 +173,20 @@ fn make_step(alloc: Global, texts: &FileList) -> Result<Outcome, Status>
     match play_of(alloc, texts) {
         Err(status) => Err(status),
         Ok(played) => match step_outcome(alloc, played) {
+            Ok(outcome) => Ok(outcome),
+            Err(_) => Err(Status::OutOfMemory),
+        },
+    }
+}
+
+// Plays what was read and then its trace again, or refuses it.
+fn make_learn(alloc: Global, texts: &FileList) -> Result<Outcome, Status>
+    ensures made { IfOk result (Allows Command.Learn texts.now) }
+    ensures refused { IfErr result (Refuses Command.Learn texts.now) }
+{
+    match learn_of(alloc, texts) {
+        Err(status) => Err(status),
+        Ok(learned) => match learn_outcome(alloc, learned) {
             Ok(outcome) => Ok(outcome),
             Err(_) => Err(Status::OutOfMemory),
         },
@@ -154,6 +215,7 @@ fn make(alloc: Global, command: Command, texts: &FileList) -> Result<Outcome, St
     match command {
         Command::Print => make_print(alloc, texts),
         Command::Step => make_step(alloc, texts),
+        Command::Learn => make_learn(alloc, texts),
     }
 }
 
@@ -163,7 +225,7 @@ fn perform<S: Shelf, K: Sink>(alloc: Global, command: Command, shelf: &mut S, ou
         (outside (S.file shelf.old) (S.faults shelf.old) (K.written out.old) (K.faults out.old))
         (outside (S.file shelf.new) (S.faults shelf.new) (K.written out.new) (K.faults out.new)) result }
     ensures fetches { FetchesOf (read_by command) result (S.fetched shelf.old) (S.fetched shelf.new) }
-    ensures stores { StoresOf (stored_by command) result (S.stored shelf.old) (S.stored shelf.new) }
+    ensures stores { StoresBy command result (S.stored shelf.old) (S.stored shelf.new) }
     ensures stores_last { Noted [] (S.stored shelf.old) (S.stored shelf.new)
         ⊎ Noted (read_by command) (S.fetched shelf.old) (S.fetched shelf.new) }
 {
@@ -178,15 +240,17 @@ fn perform<S: Shelf, K: Sink>(alloc: Global, command: Command, shelf: &mut S, ou
 
 /// Does the command that the words name, over any shelf and sink, and answers how it ended. `print` loads the policy and stores its
 /// printed texts as `profile.new`, `exception_policy.new`, `domain_policy.new` and `manager.new`. `step` plays the trace by the schedule
-/// under the policy and stores `run`, `audit`, and the final policy in the same four files. Nothing is stored before all is read and
-/// loaded or played.
+/// under the policy and stores `run`, `audit`, and the final policy in the same four files. `learn` does what `step` does, plays the trace
+/// again under the final policy with its profiles enforcing, without edits and without a supervisor, and stores `run2` and `audit2`; where
+/// some tree's domain isn't live in the final policy it leaves this rerun out, and leaves these two files as they were. Nothing is stored
+/// before all is read and loaded or played.
 ///
 /// The first fetch that gives neither a text nor a file that may be missing decides, and no later one is made: `Absent` where
-/// `profile`, `domain_policy` or, for `step`, `trace` isn't there, `TooLong` where a file has more than 16,777,216 bytes, `ReadFault`
+/// `profile`, `domain_policy` or, but for `print`, `trace` isn't there, `TooLong` where a file has more than 16,777,216 bytes, `ReadFault`
 /// where reading failed. Of the policy files, the first line that isn't done is `BadPolicy`, and without one the first live domain
-/// whose profile isn't defined is `UndefinedProfile`. Of what `step` reads beside them, the first faulty line of `trace`, or else of
-/// `edits`, `answers` and `schedule`, is `BadTrace` or `BadScript`; then a limit that is passed is `TooMany`; and then the first tree
-/// whose domain isn't live is `BadTrace` at the tree's line.
+/// whose profile isn't defined is `UndefinedProfile`. Of what `step` and `learn` read beside them, the first faulty line of `trace`, or
+/// else of `edits`, `answers` and `schedule`, is `BadTrace` or `BadScript`; then a limit that is passed is `TooMany`; and then the first
+/// tree whose domain isn't live is `BadTrace` at the tree's line.
 pub fn run_alone<S: Shelf, K: Sink>(
     alloc: Global,
     words: &[String],

@@ -6,6 +6,7 @@ ghost use Rattle.tomoyo.specs.Words.{read_words, command_of};
 pub enum Command {
     Print,
     Step,
+    Learn,
 }
 
 // The command of a first word.
@@ -17,6 +18,9 @@ fn named_by(word: &str) -> Result<Command, u64>
     }
     if word == "step" {
         return Ok(Command::Step);
+    }
+    if word == "learn" {
+        return Ok(Command::Learn);
     }
     Err(0)
 }

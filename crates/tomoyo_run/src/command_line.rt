@@ -12,6 +12,7 @@ pub const VERSION: &str = "tomoyo_run 0.1.0\n";
 pub const HELP: &str = "\
 usage: tomoyo_run [-C DIR] print
        tomoyo_run [-C DIR] step
+       tomoyo_run [-C DIR] learn
        tomoyo_run help | -h | --help
        tomoyo_run -V | --version
 
@@ -22,12 +23,16 @@ Works on the files of the folder DIR, or of the current folder.
   step   plays the trace under the policy by the schedule, learns where a profile
          says so, and stores the run and the policy as it stands afterwards; one
          line that sums the run up goes to standard output
+  learn  does what step does, and plays the trace again, without edits and without
+         a supervisor, under the policy as it stands then, with each mode learning
+         made enforcing; a second line sums this rerun up, `rerun none` where a
+         process has no domain to start in
 
-Files that are read: profile and domain_policy, and trace by step, which have to
-be there; exception_policy and manager, and edits, answers and schedule by step,
-which count as empty where they are missing. Files that are stored, in this
-order: run and audit by step; profile.new, exception_policy.new,
-domain_policy.new, manager.new.
+Files that are read: profile and domain_policy, and trace but by print, which
+have to be there; exception_policy and manager, and edits, answers and schedule
+but by print, which count as empty where they are missing. Files that are stored,
+in this order: run and audit by step and learn; profile.new,
+exception_policy.new, domain_policy.new, manager.new; run2 and audit2 by learn.
 
 Exit statuses:
    0  done

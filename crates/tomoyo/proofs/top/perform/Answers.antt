@@ -1,15 +1,14 @@
-use Rattle.std.proofs.Common.{refl, subst, arith, ◌≤◌, List, inr}
-use Rattle.tm_io.specs.declared.names.FileName.{FileName}
-use Rattle.tomoyo.specs.Calls.{StoresOf}
+use Rattle.std.proofs.Common.{refl, arith, ◌≤◌, inr}
+use Rattle.tomoyo.specs.Stores.{names_of}
 use Rattle.tomoyo.specs.Ends.{outside, Ends}
-use Rattle.tomoyo.specs.Call.{read_by, stored_by}
+use Rattle.tomoyo.specs.Call.{read_by}
 use Rattle.tomoyo.proofs.Carried.{carried-after}
-use Rattle.tomoyo.proofs.Refusals.{names-allowed}
+use Rattle.tomoyo.proofs.Named.{names-allowed, stores-by, stores-whichever}
 use Rattle.tomoyo.proofs.Calls.{none-after, stores-unfetched, fetches-refused, stores-refused, fetches-carried, stores-after}
 use Rattle.tomoyo.proofs.top.perform.Goals as goal
 
 pub returns-in-Err-clause-stores : goal.returns-in-Err-clause-stores
-returns-in-Err-clause-stores g c = stores-unfetched _ _ _ _ _ _ _ c.in-Err.ensures.stops c.in-Err.ensures.no_store
+returns-in-Err-clause-stores g c = stores-whichever c.args.command c.in-Err.status (g.S.Shelf.stored c.args.shelf.now) (g.S.Shelf.stored c.fetch_for.new.shelf) (λ files. stores-unfetched files _ _ _ _ _ _ c.in-Err.ensures.stops c.in-Err.ensures.no_store)
 
 pub returns-in-Err-make-clause-ends : goal.returns-in-Err-make-clause-ends
 returns-in-Err-make-clause-ends g c =
@@ -19,7 +18,7 @@ pub returns-in-Err-make-clause-fetches : goal.returns-in-Err-make-clause-fetches
 returns-in-Err-make-clause-fetches g c = fetches-refused c.args.command (read_by c.args.command) c.in-Ok.texts _ _ _ c.in-Err-make.ensures.refused c.in-Ok.ensures.all
 
 pub returns-in-Err-make-clause-stores : goal.returns-in-Err-make-clause-stores
-returns-in-Err-make-clause-stores g c = stores-refused c.args.command (stored_by c.args.command) c.in-Ok.texts _ _ _ c.in-Err-make.ensures.refused c.in-Ok.ensures.no_store
+returns-in-Err-make-clause-stores g c = stores-whichever c.args.command c.in-Err-make.status (g.S.Shelf.stored c.args.shelf.now) (g.S.Shelf.stored c.fetch_for.new.shelf) (λ files. stores-refused c.args.command files c.in-Ok.texts _ _ _ c.in-Err-make.ensures.refused c.in-Ok.ensures.no_store)
 
 pub returns-clause-ends : goal.returns-clause-ends
 returns-clause-ends g c =
@@ -39,9 +38,9 @@ returns-clause-fetches g c =
 
 pub returns-clause-stores : goal.returns-clause-stores
 returns-clause-stores g c =
-    stores-after (stored_by c.args.command) c.carry_out.result _ _ _ c.in-Ok.ensures.no_store
-    (subst (λ (files : List FileName). StoresOf files c.carry_out.result (g.S.Shelf.stored c.fetch_for.new.shelf) (g.S.Shelf.stored c.carry_out.new.shelf))
-    (names-allowed c.args.command c.in-Ok.texts c.in-Ok-make.outcome c.in-Ok-make.ensures.made) c.carry_out.ensures.stores)
+    let names = names_of c.in-Ok-make.outcome.stores in
+    stores-by c.args.command names c.carry_out.result (g.S.Shelf.stored c.args.shelf.now) (g.S.Shelf.stored c.carry_out.new.shelf) (names-allowed c.args.command c.in-Ok.texts c.in-Ok-make.outcome c.in-Ok-make.ensures.made)
+    (stores-after names c.carry_out.result _ _ _ c.in-Ok.ensures.no_store c.carry_out.ensures.stores)
 
 pub returns-clause-stores_last : goal.returns-clause-stores_last
 returns-clause-stores_last g c = inr (none-after _ _ _ (read_by c.args.command) c.in-Ok.ensures.all c.carry_out.ensures.no_fetch)

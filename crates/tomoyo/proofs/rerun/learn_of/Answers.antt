@@ -1,0 +1,15 @@
+use Rattle.std.proofs.Common.{ap}
+use Rattle.tomoyo.specs.Reading.{refused, step_refusal}
+use Rattle.tomoyo.proofs.Readings.{can-play}
+use Rattle.tomoyo.proofs.Playing.{refuses}
+use Rattle.tomoyo.proofs.rerun.learn_of.Goals as goal
+
+pub returns-in-Err-clause-refused : goal.returns-in-Err-clause-refused
+returns-in-Err-clause-refused c = refuses c.args.texts.now c.in-Err.status c.in-Err.ensures.exact
+
+pub learn_loaded-requires-clause-can : goal.learn_loaded-requires-clause-can
+learn_loaded-requires-clause-can c = can-play c.args.texts.now c.in-Ok.loaded c.in-Ok.ensures.exact
+
+pub returns-in-Ok-learn_loaded-clause-learned : goal.returns-in-Ok-learn_loaded-clause-learned
+unfolding step_refusal
+returns-in-Ok-learn_loaded-clause-learned c = (ap refused c.in-Ok.ensures.exact, record { loaded = c.in-Ok.loaded; read = c.in-Ok.ensures.exact; learns = c.in-Ok-learn_loaded.ensures })

@@ -1,0 +1,8 @@
+use Rattle.tomoyo.proofs.Rerunning.{alone-so, can-alone}
+use Rattle.tomoyo.proofs.rerun.rerun.Goals as goal
+
+pub run_of-requires-clause-can : goal.run_of-requires-clause-can
+run_of-requires-clause-can c = can-alone c.args.policy c.args.trace c.nobody_else-loaded.result c.nobody_else-loaded.ensures c.requires.can
+
+pub returns : goal.returns
+returns c = alone-so c.args.policy c.args.trace c.nobody_else-loaded.result c.run_of.result c.nobody_else-loaded.ensures c.run_of.ensures.plays

@@ -1,0 +1,84 @@
+-- The rerun of a run: the same trace under the run's final policy with its profiles enforcing, and nobody else.
+use Rattle.std.specs.Prelude.{◌≡◌, ◌↔◌, Bool, true, List, [], Option, Some, None, IsSome, IsTrue, Ok}
+use Rattle.std.specs.List.{AllByRecursion, list_all}
+use Rattle.tm_word.specs.Words.{Text}
+use Rattle.tm_rules.specs.Words.{Trace}
+use Rattle.tm_rules.specs.Requests.{item_is_request}
+use Rattle.tm_rules.specs.Clean.{is_plain, is_clean}
+use Rattle.tm_types.specs.declared.policy.Policy.{Policy}
+use Rattle.tm_types.specs.declared.request.Tree.{Tree}
+use Rattle.tm_types.specs.declared.step.Run.{Run}
+use Rattle.tm_grammar.specs.Tomoyo.{tomoyo_grammar}
+use Rattle.tm_legal.specs.Clean.{switched, SameDomains}
+use Rattle.tm_legal.specs.Legal.{Scene, Legal, final_policy}
+use Rattle.tm_legal.specs.Play.{IsOpened, IsNamed}
+use Rattle.tm_legal.specs.Play as core
+use Rattle.tm_legal.specs.Replay.{alone, Repeats}
+use Rattle.tm_run.specs.RunText.{run_text}
+use Rattle.tm_rerun.specs.Rerun.{rerun_text}
+use Rattle.tomoyo.specs.declared.rerun.RerunTexts.{RerunTexts}
+use Rattle.tomoyo.specs.declared.rerun.Learned.{Learned}
+use Rattle.tomoyo.specs.declared.reading.Loaded.{Loaded}
+use Rattle.tomoyo.specs.Fetches.{Texts}
+use Rattle.tomoyo.specs.Reading.{homeless, step_reading, scene_of}
+use Rattle.tomoyo.specs.Play.{audits_of, IsPrinted}
+
+-- the trace under a policy with its profiles enforcing: no editors, and no supervisor
+abbrev pub again : Policy → Trace → Scene
+again last trace = alone tomoyo_grammar (switched last) trace
+
+-- a policy and a trace with nobody else: no editors, a book without a line, and no schedule
+abbrev pub nobody_else : Policy → Trace → Loaded
+nobody_else policy trace = record { policy = policy; trace = trace; editors = []; book = record { rules = []; stop = None }; schedule = [] }
+
+-- what a policy and a trace need to be played again, but for the homes of the trees
+pub record CanRerun (last : Policy) (trace : Trace) : Type 0 where
+  pub opened : IsOpened last
+  pub named : IsNamed tomoyo_grammar.is_path last
+  pub requests : AllByRecursion (λ (tree : Tree). IsTrue (list_all (item_is_request tomoyo_grammar.is_path) tree.records)) trace
+
+-- the run that a trace plays alone in the default order, it is legal, and it ends with this policy
+pub record IsPlayAlone (scene : Scene) (run : Run) (last : Policy) : Type 0 where
+  pub plays : core.Plays scene [] run
+  pub is_legal : Legal scene run
+  pub ends : final_policy scene run ≡ last
+
+-- the texts of a rerun; its line says whether its processes are in the domains that they were in
+pub record IsRerunPrinted (last1 : Policy) (run1 : Run) (last2 : Policy) (run2 : Run) (rerun : RerunTexts) : Type 0 where
+  pub run_is : rerun.run ≡ run_text run2
+  pub audit_is : rerun.audit ≡ audits_of run2.takes
+  pub same : Bool
+  pub is_same : IsTrue same ↔ SameDomains last1 run1 last2 run2
+  pub line_is : rerun.line ≡ rerun_text run2 same
+
+-- a rerun of a run with this final policy: what is stored and put of it are the texts of the run that the trace plays again
+pub record IsRerun (last : Policy) (trace : Trace) (run : Run) (rerun : RerunTexts) : Type 0 where
+  pub run2 : Run
+  pub plays : core.Plays (again last trace) [] run2
+  pub is_legal : Legal (again last trace) run2
+  pub printed : IsRerunPrinted last run (final_policy (again last trace) run2) run2 rerun
+
+-- a rerun is left out exactly where some tree's domain isn't live in the final policy
+abbrev pub Reruns : Policy → Trace → Run → Option RerunTexts → Type 0
+Reruns last trace run None = IsSome (homeless last trace)
+Reruns last trace run (Some rerun) = (homeless last trace ≡ None) × IsRerun last trace run rerun
+
+-- the rerun isn't left out; it makes no step and grants every take, in domains of the same names, and its line says that they are the same
+abbrev pub IsRepeated : Scene → Run → Option RerunTexts → Type 0
+IsRepeated scene run None = ⊥
+IsRepeated scene run (Some rerun) = (run2 : Run) × (rerun.run ≡ run_text run2) × (rerun.line ≡ rerun_text run2 true) × Repeats scene run run2
+
+-- what was learned are the texts of the run that what was read plays, and of its rerun; a clean run from a plain opening is repeated
+pub record LearnsLoaded (loaded : Loaded) (learned : Learned) : Type 0 where
+  pub run : Run
+  pub plays : core.Plays (scene_of loaded) loaded.schedule run
+  pub is_legal : Legal (scene_of loaded) run
+  pub printed : IsPrinted run loaded.policy (final_policy (scene_of loaded) run) learned.played
+  pub rerun : Reruns (final_policy (scene_of loaded) run) loaded.trace run learned.rerun
+  pub repeated : IsTrue (is_plain loaded.policy) → IsTrue (is_clean run) → IsRepeated (scene_of loaded) run learned.rerun
+
+-- the files are read, and what was learned are the texts of the run that what was read plays, and of its rerun
+pub record Learns (texts : Texts) (learned : Learned) : Type 0 where
+  pub loaded : Loaded
+  pub read : step_reading texts ≡ Ok loaded
+  pub learns : LearnsLoaded loaded learned

@@ -1,0 +1,150 @@
+//! The rerun of a run: the same trace under the run's final policy with its profiles enforcing.
+ghost use Rattle.std.specs.Prelude.{◌≡◌, IfOk, IfErr, None};
+ghost use Rattle.tm_rules.specs.Few.{IsFew};
+ghost use Rattle.tm_grammar.specs.Tomoyo.{tomoyo_grammar};
+ghost use Rattle.tm_legal.specs.Play.{CanPlay};
+ghost use Rattle.tm_legal.specs.Replay.{alone};
+ghost use Rattle.tomoyo.specs.Reading.{scene_of, step_refusal, RefusedBy};
+ghost use Rattle.tomoyo.specs.Rerun.{nobody_else, CanRerun, IsPlayAlone, IsRerunPrinted, Reruns, LearnsLoaded, Learns};
+
+use crate::play::{Played, audits_of, run_of, texts_of};
+use crate::reading::{Loaded, homeless, read_step};
+use crate::status::Status;
+use std::alloc::Global;
+use tm_index::Indexed;
+use tm_io::FileList;
+use tm_list::{Copied, NoMemory, Seq};
+use tm_machine::Machine;
+use tm_policy::Rep;
+use tm_repeat::{clean_runs_grow, learned_runs_repeat, switched_domains, switched_stays_opened};
+use tm_rerun::{has_same_domains, rerun_line, switched};
+use tm_run::print_run;
+use tm_types::policy::Policy;
+use tm_types::request::Trace;
+use tm_types::step::{Book, Run};
+use tm_word::Text;
+
+/// What a rerun gives: the text of its run, the audit texts of its takes, and the line that it adds to the summary.
+#[derive(Drop)]
+pub struct RerunTexts {
+    pub run: Text,
+    pub audit: Text,
+    pub line: Text,
+}
+
+/// What `learn` gives: what the play of the files gives, and the rerun of its run where that isn't left out.
+#[derive(Drop)]
+pub struct Learned {
+    pub played: Played,
+    pub rerun: Option<RerunTexts>,
+}
+
+// A policy and a trace with nobody else: no editors, a book without a line, and no schedule.
+fn nobody_else(alloc: Global, policy: Indexed, trace: Trace) -> Loaded
+    ensures { result ≡ nobody_else policy trace }
+{
+    Loaded {
+        policy,
+        trace,
+        editors: Seq::new(alloc),
+        book: Book {
+            rules: Seq::new(alloc),
+            stop: None,
+        },
+        schedule: Seq::new(alloc),
+    }
+}
+
+/// Plays a trace under a policy with nobody else: without editors, without a supervisor, and in the default order from the first turn on.
+/// Gives the run, and the machine at its last version.
+///
+/// Errors: want of memory.
+pub fn rerun(
+    alloc: Global,
+    policy: Policy,
+    trace: Trace,
+) -> Result<(Run, Machine<Indexed>), NoMemory>
+    requires few { IsFew policy }
+    requires can { CanPlay (alone tomoyo_grammar policy trace) }
+    ensures { IfOk result (λ ended. IsPlayAlone (alone tomoyo_grammar policy trace) ended.0 ended.1.state.policy) }
+{
+    let policy = Indexed::new(alloc, policy)?;
+    let loaded = nobody_else(alloc, policy, trace);
+    run_of(alloc, loaded)
+}
+
+// The texts of a rerun, and whether it is in the domains of the first run.
+fn print_rerun(
+    alloc: Global,
+    first_last: &Policy,
+    first: &Run,
+    last: &Policy,
+    run: &Run,
+) -> Result<RerunTexts, NoMemory>
+    ensures { IfOk result (IsRerunPrinted first_last.now first.now last.now run.now) }
+{
+    let mut text = Vec::new(alloc);
+    print_run(alloc, run, &mut text)?;
+    let audit = audits_of(alloc, run.takes.as_slice())?;
+    let same = has_same_domains(first_last, first, last, run);
+    let line = rerun_line(alloc, run, same)?;
+    Ok(RerunTexts {
+        run: Text::from_vec(text),
+        audit,
+        line: Text::from_vec(line),
+    })
+}
+
+// The rerun of a run that has led a machine to its last version; None where some tree has no live domain to start in.
+fn rerun_of(
+    alloc: Global,
+    run: &Run,
+    machine: &Machine<Indexed>,
+    trace: Trace,
+) -> Result<Option<RerunTexts>, NoMemory>
+    requires { CanRerun machine.now.state.policy trace }
+    ensures { IfOk result (Reruns machine.now.state.policy trace run.now) }
+{
+    switched_domains();
+    switched_stays_opened();
+    let rep = machine.rep();
+    if homeless(rep, trace.as_slice()).is_some() {
+        return Ok(None);
+    }
+    let last = rep.policy();
+    let policy = switched(alloc, last)?;
+    let (again, ended) = rerun(alloc, policy, trace)?;
+    let texts = print_rerun(alloc, last, run, ended.policy(), &again)?;
+    Ok(Some(texts))
+}
+
+// Plays what was read, and then its trace again.
+fn learn_loaded(alloc: Global, loaded: Loaded) -> Result<Learned, NoMemory>
+    requires few { IsFew loaded.policy }
+    requires can { CanPlay (scene_of loaded) }
+    ensures { IfOk result (LearnsLoaded loaded) }
+{
+    clean_runs_grow();
+    learned_runs_repeat();
+    // A play takes its trace apart, tree by tree, so that the second play has a copy: its text isn't read again.
+    let trace = loaded.trace.copy(alloc)?;
+    let (run, machine) = run_of(alloc, loaded)?;
+    let played = texts_of(alloc, &run, &machine.opening().policy, machine.policy())?;
+    let rerun = rerun_of(alloc, &run, &machine, trace)?;
+    Ok(Learned { played, rerun })
+}
+
+/// Plays what the files hold, and then its trace again under the final policy with its profiles enforcing, or refuses it.
+pub fn learn_of(alloc: Global, texts: &FileList) -> Result<Learned, Status>
+    ensures learned { IfOk result (λ learned. (step_refusal texts.now ≡ None) × Learns texts.now learned) }
+    ensures refused { IfErr result (RefusedBy (step_refusal texts.now)) }
+{
+    let loaded = match read_step(alloc, texts) {
+        Ok(loaded) => loaded,
+        Err(status) => return Err(status),
+    };
+    match learn_loaded(alloc, loaded) {
+        Ok(learned) => Ok(learned),
+        Err(_) => Err(Status::OutOfMemory),
+    }
+}
