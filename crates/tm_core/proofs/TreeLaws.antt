@@ -1,7 +1,7 @@
 -- What the parts of a tree's event are, put together.
 use Rattle.std.proofs.Common.{◌≡◌, ℕ, zero, suc, ◌-◌, ◌<◌, ◌≤◌, Bool, true, false, List, [], ◌∷◌, ◌++◌, length, map, refl, sym, ap, ◌∙◌, subst, inl, inr, arith}
-use Rattle.std.specs.Prelude.{Option, Some, None, Result, Ok, Err, IfOk, OnOk, IsSome, option_map, slice_get, slice_set}
-use Rattle.std.specs.Option.{option_and_then}
+use Rattle.std.specs.Prelude.{Option, Some, None, Result, Ok, Err, IfOk, OnOk, IsSome, is_none, option_map, slice_get, slice_set}
+use Rattle.std.specs.Option.{option_and_then, option_map_or}
 use Rattle.std.proofs.lemmas.List.{map-append}
 use Rattle.tm_word.specs.Words.{Text}
 use Rattle.tm_types.specs.declared.step.FileKind.{FileKind}
@@ -20,15 +20,16 @@ use Rattle.tm_legal.specs.Run.{Situation, Situations}
 use Rattle.tm_legal.specs.Play.{Stage, InProgress, Way, Settled, settle, going_on, look_at, end_tree, after_step, after_answer, stage_event, tree_event}
 use Rattle.tm_legal.specs.Needs.{Needs, TreeFits, StageFits, IsJudged, NextIsJudged}
 use Rattle.tm_rules.specs.Requests.{is_request}
+use Rattle.tm_rules.specs.Queries.{answer_of}
 use Rattle.std.proofs.lemmas.Bool.{lt-ltb, le-leb}
 use Rattle.tm_machine.specs.Machine.{Course, history_of}
 use Rattle.tm_take.specs.Ways.{IsPassed, PassesTo}
 use Rattle.tm_core.specs.declared.judging.Judged.{Judged}
 use Rattle.tm_rules.specs.Audit.{audit_text}
-use Rattle.tm_take.specs.Taking.{begun_with, rest_of}
+use Rattle.tm_take.specs.Taking.{begun_with, rest_of, serial_of}
 use Rattle.tm_take.proofs.TreeEvents.{begins_with, ends_when_passed, makes_own, hears, waits_on, goes_on_alike}
 use Rattle.tm_core.specs.Judging.{judged, looked}
-use Rattle.tm_core.specs.Moves.{at_course, Makes, MakesOwn, Hears, Ends, TreeMoves}
+use Rattle.tm_core.specs.Moves.{at_course, Makes, MakesOwn, Hears, Ends, TreeMoves, is_waiting}
 
 -- The history
 
@@ -94,6 +95,24 @@ still desk t course old none =
       start = refl;
       makers = inl refl;
     }
+
+-- a tree that waits for the answer of a query that has none
+none-of : {A : Type 0} (o : Option A) → is_none o ≡ true → o ≡ None
+none-of None none = refl
+none-of (Some x) none = absurd cc
+
+pub waiting-moves : (course : Course) (desk : Bool) (t : ℕ) (old : Way) → is_waiting course.state old ≡ true → TreeMoves desk t false course old course old
+waiting-moves course desk t old waits = by_begun old.begun refl waits
+  where
+    by_stage : (b : InProgress) (stage : Stage) → old.begun ≡ Some b → b.stage ≡ stage → option_map_or (λ serial. is_none (answer_of course.state.queries serial)) (serial_of stage) false ≡ true → TreeMoves desk t false course old course old
+    by_stage b (Stage.Owing steps) begun is waits = absurd cc
+    by_stage b (Stage.Waiting serial) begun is waits =
+        still desk t course old (λ ways scripts at. waits_on (at_course course ways scripts) desk t old b serial at begun is (none-of (answer_of course.state.queries serial) waits))
+    by_stage b Stage.Looking begun is waits = absurd cc
+
+    by_begun : (o : Option InProgress) → old.begun ≡ o → option_map_or (λ serial. is_none (answer_of course.state.queries serial)) (option_and_then (λ b. serial_of b.stage) o) false ≡ true → TreeMoves desk t false course old course old
+    by_begun None is waits = absurd cc
+    by_begun (Some b) is waits = by_stage b b.stage is refl waits
 
 -- A take that has begun
 

@@ -1,6 +1,6 @@
 -- What the event of a tree does to a machine and to the tree, and who has made its step.
-use Rattle.std.specs.Prelude.{◌≡◌, ◌⊎◌, ℕ, suc, true, false, Bool, not, ◌||◌, ◌==◌, List, [], ◌∷◌, ◌++◌, length, Some, None, slice_get, slice_set}
-use Rattle.std.specs.Option.{IsSomeAnd}
+use Rattle.std.specs.Prelude.{◌≡◌, ◌⊎◌, ℕ, suc, true, false, Bool, not, ◌||◌, ◌==◌, List, [], ◌∷◌, ◌++◌, length, Some, None, is_none, slice_get, slice_set}
+use Rattle.std.specs.Option.{IsSomeAnd, option_map_or}
 use Rattle.std.specs.List.{list_any}
 use Rattle.tm_word.specs.Words.{Text}
 use Rattle.tm_types.specs.declared.step.FileKind.{FileKind}
@@ -12,10 +12,11 @@ use Rattle.tm_types.specs.declared.step.Answered.{Answered}
 use Rattle.tm_types.specs.declared.step.Turn.{Turn}
 use Rattle.tm_rules.specs.Queries.{answer_of}
 use Rattle.tm_grammar.specs.Tomoyo.{tomoyo_grammar}
-use Rattle.tm_legal.specs.Steps.{apply}
+use Rattle.tm_legal.specs.Steps.{State, apply}
 use Rattle.tm_legal.specs.Play.{InProgress, Way, Player, going_on, after_step, after_answer, tree_event}
 use Rattle.tm_machine.specs.Machine.{Course, history_of}
 use Rattle.tm_take.specs.Taking.{TakesOut, rest_of}
+use Rattle.tm_take.specs.Ways.{awaited}
 use Rattle.tm_core.specs.Scenes.{Answers}
 
 -- the player at a machine's newest version, with these ways and scripts
@@ -42,6 +43,10 @@ abbrev pub Hears : Course → ℕ → InProgress → Way → Bool → Way → Ty
 Hears course serial b old true new =
     (answer : Answered) × (answer_of course.state.queries serial ≡ Some answer) × (new ≡ going_on tomoyo_grammar old (after_answer tomoyo_grammar b (length course.made) answer))
 Hears course serial b old false new = (answer_of course.state.queries serial ≡ None) × (new ≡ record old { begun = Some b })
+
+-- a tree waits for the answer of a query that has none
+abbrev pub is_waiting : State → Way → Bool
+is_waiting s way = option_map_or (λ serial. is_none (answer_of s.queries serial)) (awaited way) false
 
 -- where a supervisor stands, a tree that has not ended yet ends; else nothing changes
 abbrev pub Ends : Bool → ℕ → Bool → Course → Course → Type 0

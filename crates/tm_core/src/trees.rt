@@ -6,7 +6,7 @@ ghost use Rattle.tm_rules.specs.Requests.{is_request};
 ghost use Rattle.tm_legal.specs.Play.{Stage, IsNamed};
 ghost use Rattle.tm_legal.specs.Needs.{Needs, StageFits};
 ghost use Rattle.tm_take.specs.Ways.{way_of};
-ghost use Rattle.tm_core.specs.Moves.{MakesOwn, Hears, Ends, TreeMoves};
+ghost use Rattle.tm_core.specs.Moves.{MakesOwn, Hears, Ends, TreeMoves, is_waiting};
 
 use crate::looks::{first_look, look_again};
 use std::alloc::Global;
@@ -70,6 +70,16 @@ fn hear<R: Rep>(
             tree.put_back(attempt);
             Ok(false)
         }
+    }
+}
+
+// Whether a tree waits for the answer of a query that has none.
+fn is_waiting<R: Rep>(machine: &Machine<R>, tree: &TreeOnWay) -> bool
+    ensures { result ≡ is_waiting machine.now.state (way_of tree.now) }
+{
+    match tree.awaits() {
+        Some(serial) => machine.answer_of(serial).is_none(),
+        None => false,
     }
 }
 
@@ -160,6 +170,9 @@ pub(crate) fn tree_event<R: Rep>(
     requires needs { Needs tomoyo_grammar machine.old.state (way_of tree.old) }
     ensures { IfOk result (λ moved. TreeMoves desk (number - 1) moved machine.old (way_of tree.old) machine.new (way_of tree.new)) }
 {
+    if is_waiting(machine, tree) {
+        return Ok(false);
+    }
     match tree.take_begun() {
         Some(attempt) => take_event(alloc, machine, tree, attempt),
         None => next_request(alloc, machine, tree, number, desk),

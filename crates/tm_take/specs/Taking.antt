@@ -1,5 +1,5 @@
 -- What a request in progress stands for.
-use Rattle.std.specs.Prelude.{◌≡◌, ℕ, suc, List, [], ◌∷◌, ◌++◌, Option, None, if◌then◌else◌}
+use Rattle.std.specs.Prelude.{◌≡◌, ℕ, suc, List, [], ◌∷◌, ◌++◌, Option, Some, None, if◌then◌else◌}
 use Rattle.std.specs.Option.{option_to_list}
 use Rattle.tm_word.specs.Words.{Text}
 use Rattle.tm_take.specs.declared.owing.Owed.{Owed}
@@ -32,6 +32,12 @@ abbrev pub rest_of : Stage → List Step
 rest_of (Stage.Owing steps) = steps
 rest_of (Stage.Waiting serial) = []
 rest_of Stage.Looking = []
+
+-- the serial of the query whose answer a take waits for; none where it waits for something else
+abbrev pub serial_of : Stage → Option ℕ
+serial_of (Stage.Owing steps) = None
+serial_of (Stage.Waiting serial) = Some serial
+serial_of Stage.Looking = None
 
 -- the steps that a verdict asks for at once
 abbrev pub asked_of : Grammar → ℕ → ℕ → Verdict → List Step

@@ -1,7 +1,9 @@
 -- What a tree on its way stands for.
 use Rattle.std.specs.Prelude.{◌≡◌, ℕ, [], ◌∷◌, Option, Some, None}
+use Rattle.std.specs.Option.{option_and_then}
 use Rattle.tm_take.specs.declared.ways.TreeOnWay.{TreeOnWay}
 use Rattle.tm_take.specs.Situations.{situations}
+use Rattle.tm_take.specs.Taking.{serial_of}
 use Rattle.tm_types.specs.declared.request.Request.{Request}
 use Rattle.tm_types.specs.declared.request.Item.{Item}
 use Rattle.tm_legal.specs.Run.{do_pids}
@@ -11,6 +13,10 @@ use Rattle.tm_grammar.specs.Tomoyo.{tomoyo_grammar}
 -- a tree on its way
 unfoldable pub way_of : TreeOnWay → Way
 way_of tree = record { at = situations tree.known; items = tree.lines; begun = tree.begun; takes = tree.takes }
+
+-- the serial of the query whose answer a tree waits for
+abbrev pub awaited : Way → Option ℕ
+awaited way = option_and_then (λ b. serial_of b.stage) way.begun
 
 -- no request is left, and the tree is as before
 pub record IsPassed (old new : Way) : Type 0 where

@@ -4,7 +4,7 @@ ghost use Rattle.tm_legal.specs.Legal.{is_yes, look_grants, steps_of_move};
 ghost use Rattle.tm_legal.specs.Play.{Stage, entered, taken, with_own, with_heard, after_step, after_answer};
 ghost use Rattle.tm_grammar.specs.Tomoyo.{tomoyo_grammar};
 ghost use Rattle.tm_take.specs.Situations.{situation_of};
-ghost use Rattle.tm_take.specs.Taking.{owed_steps, stage_of, rest_of, begun_with, IsNext, TakesOut, LooksAgain};
+ghost use Rattle.tm_take.specs.Taking.{owed_steps, stage_of, rest_of, serial_of, begun_with, IsNext, TakesOut, LooksAgain};
 
 use crate::owing::{Awaited, Owed, grants, lead_owed, steps_owed};
 use crate::situations::ProcessSituation;
@@ -233,6 +233,17 @@ impl RequestInProgress {
             }
             Awaited::Answer(serial) => NextEvent::Answer(*serial),
             Awaited::Look => NextEvent::Look,
+        }
+    }
+
+    // The serial of the query whose answer it waits for; None where it waits for something else.
+    pub(crate) fn awaits(&self) -> Option<u64>
+        ensures { result ≡ serial_of self.entry.now.stage }
+    {
+        match &self.awaited {
+            Awaited::Steps(_) => None,
+            Awaited::Answer(serial) => Some(*serial),
+            Awaited::Look => None,
         }
     }
 

@@ -4,7 +4,7 @@ ghost use Rattle.std.specs.Option.{option_copied};
 ghost use Rattle.tm_legal.specs.Play.{ended_way, going_on};
 ghost use Rattle.tm_grammar.specs.Tomoyo.{tomoyo_grammar};
 ghost use Rattle.tm_take.specs.Situations.{first_situation, situation_of};
-ghost use Rattle.tm_take.specs.Ways.{way_of, WayPasses};
+ghost use Rattle.tm_take.specs.Ways.{way_of, awaited, WayPasses};
 
 use crate::lines::{Lines, pass};
 use crate::requests::{NextEvent, RequestInProgress};
@@ -60,6 +60,17 @@ impl TreeOnWay {
         ensures { option_copied result ≡ (way_of self.now).begun }
     {
         self.begun.as_ref()
+    }
+
+    /// The serial of the query whose answer it waits for; None where it waits for none. Takes no memory.
+    #[tactic(auto, unfolding(crate::specs::Ways::way_of))]
+    pub fn awaits(&self) -> Option<u64>
+        ensures { result ≡ awaited (way_of self.now) }
+    {
+        match &self.begun {
+            Some(attempt) => attempt.awaits(),
+            None => None,
+        }
     }
 
     /// The takes that have ended, in order. Takes no memory.
