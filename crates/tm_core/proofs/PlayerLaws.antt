@@ -1,7 +1,7 @@
 -- What the events of the code's player are.
 use Rattle.std.proofs.Common.{◌≡◌, ℕ, zero, suc, ◌-◌, ◌<◌, ◌≤◌, Bool, true, false, not, List, [], ◌∷◌, length, map, refl, sym, ap, ◌∙◌, subst, inl, inr, arith}
-use Rattle.std.specs.Prelude.{Option, Some, None, Result, Ok, Err, IfOk, OnOk, IsSome, slice_get, slice_set, slice_index_or, unwrap_or, if◌then◌else◌}
-use Rattle.std.specs.Option.{option_map_or}
+use Rattle.std.specs.Prelude.{Option, Some, None, Result, Ok, Err, IfOk, OnOk, IsSome, option_map, slice_get, slice_set, slice_index_or, unwrap_or, if◌then◌else◌}
+use Rattle.std.specs.Option.{option_and_then, option_map_or}
 use Rattle.tm_word.specs.Words.{Text}
 use Rattle.tm_rules.specs.Words.{Trace}
 use Rattle.tm_types.specs.declared.step.FileKind.{FileKind}
@@ -15,11 +15,13 @@ use Rattle.tm_grammar.specs.Tomoyo.{tomoyo_grammar}
 use Rattle.tm_rules.specs.Words.{Cursor}
 use Rattle.tm_rules.specs.Changes.{is_manager}
 use Rattle.tm_rules.specs.Search.{when}
+use Rattle.tm_rules.specs.Queries.{numbered}
 use Rattle.tm_legal.specs.Steps.{State, Applied, unfit, edit_step, opening, apply}
 use Rattle.tm_legal.specs.Play.{Way, Player, tree_event, line_event, editor_event, supervisor_step, start_of}
 use Rattle.tm_legal.specs.Needs.{Needs, CanGoOn}
 use Rattle.tm_legal.proofs.NeedsLaws.{can-go-on}
 use Rattle.tm_machine.specs.Machine.{Course}
+use Rattle.tm_take.specs.Ways.{awaited}
 use Rattle.tm_core.specs.Scenes.{scene_of, IsReached, Answers}
 use Rattle.tm_core.specs.Moves.{at_course, Makes, IsMadeByTree, AddsAtMost, IsMadeBy, TreeMoves}
 use Rattle.tm_core.specs.Players.{way_at_start, supervisor_event}
@@ -119,6 +121,22 @@ tree-makers way_of course later trees scripts desk number tree new (Ok moved) so
     by_made (inl none) = inl none
     by_made (inr (made, reply, noted, by)) = inr (made, reply, noted, rw (map-get way_of trees (number - 1) tree at) by)
 tree-makers way_of course later trees scripts desk number tree new (Err e) some at h = tt
+
+get-map : {A B : Type 0} (f : A → B) (xs : List A) (k : ℕ) → slice_get (map f xs) k ≡ option_map f (slice_get xs k)
+get-map f [] k = refl
+get-map f (x ∷ xs) zero = refl
+get-map f (x ∷ xs) (suc k) = get-map f xs k
+
+-- the query whose answer a tree waits for
+pub awaited-at : {T : Type 0} (way_of : T → Way) (trees : List T) (number : ℕ) (o : Option T) → (number ≡ 0 → ⊥) → slice_get trees (number - 1) ≡ o → option_and_then awaited (numbered (map way_of trees) number) ≡ option_and_then (λ tree. awaited (way_of tree)) o
+awaited-at {T} way_of trees zero o some at = absurd (some refl)
+awaited-at {T} way_of trees (suc n) o some at =
+    let is : suc n - 1 ≡ n = omega arith in
+    ap (option_and_then awaited) (get-map way_of trees n ∙ ap (option_map way_of) (ap (slice_get trees) (sym is) ∙ at)) ∙ in-two o
+  where
+    in-two : (o : Option T) → option_and_then awaited (option_map way_of o) ≡ option_and_then (λ tree. awaited (way_of tree)) o
+    in-two None = refl
+    in-two (Some tree) = refl
 
 -- Editors
 

@@ -47,6 +47,15 @@ desk-moves start trace book player who desk is = rw (desk, is) refl
 answers-as : (moved : Bool) (e f : Option Player) (new old : Player) → f ≡ e → Answers moved e new old → Answers moved f new old
 answers-as moved e f new old same is = rw same is
 
+-- the desk's turn has an event, or none, and so has the desk
+pub desk-has : (start : Start) (trace : Trace) (book : Book) (player next : Player) (who : Turn) (moved : Bool) → start.desk ≡ true → desk_turn tomoyo_grammar player book ≡ Some who → Answers moved (player_event tomoyo_grammar player start.desk who) next player
+    → Answers moved (event (scene_of start trace book) player Turn.Desk) next player
+desk-has start trace book player next who moved desk is had =
+    answers-as moved (player_event tomoyo_grammar player start.desk who) (event (scene_of start trace book) player Turn.Desk) next player (desk-moves start trace book player who desk is ∙ ap (λ d. player_event tomoyo_grammar player d who) (sym desk)) had
+
+pub tree-has : (start : Start) (trace : Trace) (book : Book) (player next : Player) (number : ℕ) (moved : Bool) → Answers moved (player_event tomoyo_grammar player start.desk (Turn.Tree number)) next player → Answers moved (event (scene_of start trace book) player (Turn.Tree number)) next player
+tree-has start trace book player next number moved had = answers-as moved (player_event tomoyo_grammar player start.desk (Turn.Tree number)) (event (scene_of start trace book) player (Turn.Tree number)) next player (tree-turn start trace book player number) had
+
 pub event-as : {E : Type 0} (result : Result Bool E) (e : Option Player) (f : Trace → Option Player) (new old : Player) → ((trace : Trace) → f trace ≡ e) → IfOk result (λ moved. Answers moved e new old)
     → IfOk result (λ moved. (trace : Trace) → Answers moved (f trace) new old)
 event-as (Ok moved) e f new old same is = λ trace. answers-as moved e (f trace) new old (same trace) is

@@ -11,7 +11,7 @@ ghost use Rattle.tm_core.specs.Rounds.{IsOver};
 ghost use Rattle.tm_core.specs.Players.{course_of, player_of};
 
 use crate::player::Player;
-use crate::rounds::{one_round, play_rounds, play_turns};
+use crate::rounds::{editor_turns, play_rounds, play_turns};
 use std::alloc::{AllocError, Global};
 use tm_desk::Desk;
 use tm_list::{NoMemory, Seq};
@@ -49,9 +49,9 @@ pub fn play_out<R: Rep, F: Fn(&Query) -> u64>(
         drop(player);
         return Err(AllocError);
     };
-    let everybody = one_round(alloc, editors, player.machine().opening().trees)?;
+    let editors = editor_turns(alloc, editors)?;
     play_turns(alloc, &mut player, desk, schedule)?;
-    play_rounds(alloc, &mut player, desk, everybody.as_slice())?;
+    play_rounds(alloc, &mut player, desk, editors.as_slice())?;
     Ok(player)
 }
 

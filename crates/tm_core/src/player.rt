@@ -13,6 +13,7 @@ ghost use Rattle.tm_legal.specs.Play as play;
 ghost use Rattle.tm_take.specs.Ways.{way_of};
 ghost use Rattle.tm_types.specs.declared.step.Editor.{Editor};
 ghost use Rattle.tm_core.specs.Scenes.{scene_of, IsReached, Answers};
+ghost use Rattle.tm_core.specs.Resting.{awaited_by};
 ghost use Rattle.tm_core.specs.Moves.{at_course, AddsAtMost, IsMadeBy};
 ghost use Rattle.tm_core.specs.Players.{course_of, player_of, way_at_start, first_is, supervisor_event};
 
@@ -99,6 +100,20 @@ impl<R: Rep> Player<R> {
         ensures { result.now ≡ course_of self.now }
     {
         &self.machine
+    }
+}
+
+/// The serial of the query whose answer the tree of this number, from 1, waits for; None where it waits for none.
+#[tactic(auto, unfolding(crate::specs::Players::player_of))]
+pub(crate) fn awaited_by<R: Rep>(player: &Player<R>, number: u32) -> Option<u64>
+    ensures { result ≡ awaited_by (player_of player.now) number }
+{
+    if number == 0 {
+        return None;
+    }
+    match player.trees.get(number as usize - 1) {
+        Some(tree) => tree.awaits(),
+        None => None,
     }
 }
 

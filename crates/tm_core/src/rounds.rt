@@ -1,38 +1,48 @@
 //! Turns one after another, and rounds of all activities until nobody can move.
-ghost use Rattle.std.specs.Prelude.{◌≡◌, ◌++◌, ℕ, length, IfOk, OnOk, map};
+ghost use Rattle.std.specs.Prelude.{◌≡◌, ◌<◌, ◌≤◌, ◌++◌, ℕ, Some, is_some, length, IfOk, OnOk, IfSome, map};
+ghost use Rattle.tm_types.specs.declared.step.Book.{Book};
 ghost use Rattle.tm_rules.specs.Words.{Trace};
+ghost use Rattle.tm_grammar.specs.Tomoyo.{tomoyo_grammar};
 ghost use Rattle.tm_desk.specs.Desks.{desk_book, IsDesk};
-ghost use Rattle.tm_legal.specs.Play.{event, numbers_to};
+ghost use Rattle.tm_legal.specs.Play.{event, player_event, numbers_to};
 ghost use Rattle.tm_core.specs.Scenes.{scene_of, IsReached, Answers};
 ghost use Rattle.tm_core.specs.Rounds.{HasPlayed, IsOver, one_round};
 ghost use Rattle.tm_core.specs.Players.{course_of, player_of};
+ghost use Rattle.tm_core.specs.Resting.{OthersRest};
 
+use crate::awake::Awake;
 use crate::desk::desk_turn;
-use crate::player::{Player, step_alone};
+use crate::player::{Player, awaited_by, step_alone};
 use std::alloc::Global;
 use tm_desk::Desk;
 use tm_list::NoMemory;
 use tm_policy::Rep;
 use tm_types::step::{Query, Turn};
 
-// The supervisor's next turn, where one stands: true, or false with nothing changed where it can't move.
+// The supervisor's next turn, where one stands: the turn that it has had; None, and nothing changed, where it can't move.
 fn play_desk<R: Rep, F: Fn(&Query) -> u64>(
     alloc: Global,
     player: &mut Player<R>,
     desk: &Desk<'_, F>,
-) -> Result<bool, NoMemory>
+) -> Result<Option<Turn>, NoMemory>
     requires desk { IsDesk F.Fn desk.now }
     requires reached { (trace : Trace) × IsReached trace (desk_book desk.now) (course_of player.old) (player_of player.old) }
-    ensures event { IfOk result (λ moved. (trace : Trace) →
-        Answers moved (event (scene_of (course_of player.old).start trace (desk_book desk.now)) (player_of player.old) Turn.Desk) (player_of player.new) (player_of player.old)) }
+    ensures event { IfOk result (λ had. (trace : Trace) →
+        Answers (is_some had) (event (scene_of (course_of player.old).start trace (desk_book desk.now)) (player_of player.old) Turn.Desk) (player_of player.new) (player_of player.old)) }
+    ensures turn { IfOk result (λ had. IfSome had (λ turn.
+        player_event tomoyo_grammar (player_of player.old) (course_of player.old).start.desk turn ≡ Some (player_of player.new))) }
     ensures start { OnOk result ((course_of player.new).start ≡ (course_of player.old).start) }
 {
     if !player.machine().opening().desk {
-        return Ok(false);
+        return Ok(None);
     }
-    match desk_turn(player, desk) {
-        Some(turn) => step_alone(alloc, player, turn),
-        None => Ok(false),
+    let Some(turn) = desk_turn(player, desk) else {
+        return Ok(None);
+    };
+    if step_alone(alloc, player, turn)? {
+        Ok(Some(turn))
+    } else {
+        Ok(None)
     }
 }
 
@@ -52,7 +62,7 @@ fn play_turn<R: Rep, F: Fn(&Query) -> u64>(
     match turn {
         Turn::Tree(_) => step_alone(alloc, player, turn),
         Turn::Editor(_) => step_alone(alloc, player, turn),
-        Turn::Desk => play_desk(alloc, player, desk),
+        Turn::Desk => Ok(play_desk(alloc, player, desk)?.is_some()),
         Turn::Attach => Ok(false),
         Turn::Answer(_, _) => Ok(false),
         Turn::Detach => Ok(false),
@@ -83,54 +93,114 @@ pub(crate) fn play_turns<R: Rep, F: Fn(&Query) -> u64>(
     Ok(moved)
 }
 
-/// Rounds, until nobody can move.
+// One turn of the tree of this number. Where it can't move, it lies down.
+fn play_tree<R: Rep>(
+    alloc: Global,
+    player: &mut Player<R>,
+    awake: &mut Awake,
+    number: u32,
+) -> Result<bool, NoMemory>
+    requires reached { (trace : Trace) × (book : Book) × IsReached trace book (course_of player.old) (player_of player.old) }
+    requires some { 0 < number }
+    requires there { number ≤ (course_of player.old).start.trees }
+    requires rest { OthersRest (course_of player.old).start (player_of player.old) awake.old }
+    ensures event { IfOk result (λ moved. (trace : Trace) (book : Book) →
+        Answers moved (event (scene_of (course_of player.old).start trace book) (player_of player.old) (Turn.Tree number)) (player_of player.new) (player_of player.old)) }
+    ensures start { OnOk result ((course_of player.new).start ≡ (course_of player.old).start) }
+    ensures rest { OnOk result (OthersRest (course_of player.new).start (player_of player.new) awake.new) }
+{
+    if step_alone(alloc, player, Turn::Tree(number))? {
+        return Ok(true);
+    }
+    awake.lay_down(number, awaited_by(player, number))?;
+    Ok(false)
+}
+
+// The turns of all trees, by number: those that rest are passed over. Tells whether one of them had an event.
+fn play_trees<R: Rep>(
+    alloc: Global,
+    player: &mut Player<R>,
+    awake: &mut Awake,
+) -> Result<bool, NoMemory>
+    requires reached { (trace : Trace) × (book : Book) × IsReached trace book (course_of player.old) (player_of player.old) }
+    requires rest { OthersRest (course_of player.old).start (player_of player.old) awake.old }
+    ensures reached { OnOk result ((trace : Trace) (book : Book) → IsReached trace book (course_of player.old) (player_of player.old) →
+        IsReached trace book (course_of player.new) (player_of player.new)) }
+    ensures played { IfOk result (λ moved. (trace : Trace) (book : Book) → IsReached trace book (course_of player.old) (player_of player.old) →
+        HasPlayed (scene_of (course_of player.old).start trace book) (player_of player.old) (player_of player.new) (map Turn.Tree (numbers_to (course_of player.old).start.trees)) moved) }
+    ensures start { OnOk result ((course_of player.new).start ≡ (course_of player.old).start) }
+    ensures rest { OnOk result (OthersRest (course_of player.new).start (player_of player.new) awake.new) }
+{
+    let numbers = awake.numbers(alloc)?;
+    let mut moved = false;
+    for number in numbers.as_slice() {
+        if play_tree(alloc, player, awake, *number)? {
+            moved = true;
+        }
+    }
+    Ok(moved)
+}
+
+// One round of the default order: editors by number, trees by number, desk. Tells whether somebody had an event.
+fn play_round<R: Rep, F: Fn(&Query) -> u64>(
+    alloc: Global,
+    player: &mut Player<R>,
+    desk: &Desk<'_, F>,
+    editors: &[Turn],
+    awake: &mut Awake,
+) -> Result<bool, NoMemory>
+    requires desk { IsDesk F.Fn desk.now }
+    requires reached { (trace : Trace) × IsReached trace (desk_book desk.now) (course_of player.old) (player_of player.old) }
+    requires editors { editors.now ≡ map Turn.Editor (numbers_to (length (course_of player.old).start.editors)) }
+    requires rest { OthersRest (course_of player.old).start (player_of player.old) awake.old }
+    ensures reached { OnOk result ((trace : Trace) → IsReached trace (desk_book desk.now) (course_of player.old) (player_of player.old) →
+        IsReached trace (desk_book desk.now) (course_of player.new) (player_of player.new)) }
+    ensures played { IfOk result (λ moved. (trace : Trace) → IsReached trace (desk_book desk.now) (course_of player.old) (player_of player.old) →
+        HasPlayed (scene_of (course_of player.old).start trace (desk_book desk.now)) (player_of player.old) (player_of player.new)
+        (one_round (length (course_of player.old).start.editors) (course_of player.old).start.trees) moved) }
+    ensures start { OnOk result ((course_of player.new).start ≡ (course_of player.old).start) }
+    ensures rest { OnOk result (OthersRest (course_of player.new).start (player_of player.new) awake.new) }
+{
+    let edited = play_turns(alloc, player, desk, editors)?;
+    let went = play_trees(alloc, player, awake)?;
+    match play_desk(alloc, player, desk)? {
+        Some(turn) => {
+            awake.wake_after(turn, player.machine().opening().trees)?;
+            Ok(true)
+        }
+        None => Ok(edited || went),
+    }
+}
+
+/// Rounds of the default order, until nobody can move. A tree that can't move gets no turn until the supervisor wakes it.
 pub(crate) fn play_rounds<R: Rep, F: Fn(&Query) -> u64>(
     alloc: Global,
     player: &mut Player<R>,
     desk: &Desk<'_, F>,
-    everybody: &[Turn],
+    editors: &[Turn],
 ) -> Result<(), NoMemory>
     requires desk { IsDesk F.Fn desk.now }
     requires reached { (trace : Trace) × IsReached trace (desk_book desk.now) (course_of player.old) (player_of player.old) }
-    requires everybody { everybody.now ≡ one_round (length (course_of player.old).start.editors) (course_of player.old).start.trees }
+    requires editors { editors.now ≡ map Turn.Editor (numbers_to (length (course_of player.old).start.editors)) }
     ensures over { OnOk result ((trace : Trace) → IsReached trace (desk_book desk.now) (course_of player.old) (player_of player.old) →
         IsOver (scene_of (course_of player.old).start trace (desk_book desk.now)) (player_of player.old) (player_of player.new)) }
     ensures start { OnOk result ((course_of player.new).start ≡ (course_of player.old).start) }
 {
+    let mut awake = Awake::all(alloc, player.machine().opening().trees)?;
     loop {
-        if !play_turns(alloc, player, desk, everybody)? {
+        if !play_round(alloc, player, desk, editors, &mut awake)? {
             return Ok(());
         }
     }
 }
 
-// Puts the turns of so many editors last, by number.
-fn push_editors(turns: &mut Vec<Turn>, editors: u32) -> Result<(), NoMemory>
-    ensures { OnOk result (turns.new.items ≡ turns.old.items ++ map Turn.Editor (numbers_to editors)) }
+/// The turns of so many editors, by number.
+pub(crate) fn editor_turns(alloc: Global, editors: u32) -> Result<Vec<Turn>, NoMemory>
+    ensures { IfOk result (λ turns. turns.items ≡ map Turn.Editor (numbers_to editors)) }
 {
+    let mut turns = Vec::new(alloc);
     for place in 0..editors {
         turns.push(Turn::Editor(place + 1))?;
     }
-    Ok(())
-}
-
-// Puts the turns of so many trees last, by number.
-fn push_trees(turns: &mut Vec<Turn>, trees: u32) -> Result<(), NoMemory>
-    ensures { OnOk result (turns.new.items ≡ turns.old.items ++ map Turn.Tree (numbers_to trees)) }
-{
-    for place in 0..trees {
-        turns.push(Turn::Tree(place + 1))?;
-    }
-    Ok(())
-}
-
-/// The default order: editors by number, trees by number, desk.
-pub(crate) fn one_round(alloc: Global, editors: u32, trees: u32) -> Result<Vec<Turn>, NoMemory>
-    ensures { IfOk result (λ turns. turns.items ≡ one_round editors trees) }
-{
-    let mut turns = Vec::new(alloc);
-    push_editors(&mut turns, editors)?;
-    push_trees(&mut turns, trees)?;
-    turns.push(Turn::Desk)?;
     Ok(turns)
 }
