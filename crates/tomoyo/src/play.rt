@@ -65,8 +65,7 @@ fn run_of(alloc: Global, loaded: Loaded) -> Result<(Run, Machine<Indexed>), NoMe
         return Err(AllocError);
     };
     let stands = has_supervisor(&book);
-    let rep = Indexed::new(alloc, policy)?;
-    let machine = Machine::start(alloc, rep, editors.into_vec(), trees, stands)?;
+    let machine = Machine::start(alloc, policy, editors.into_vec(), trees, stands)?;
     let player = start_play(alloc, machine, trace)?;
     let desk = Desk::new(&book, |query: &Query| book_code(&book, query));
     let played = play_out(alloc, player, &desk, schedule.as_slice())?;

@@ -7,9 +7,10 @@ ghost use Rattle.tomoyo.specs.Print.{policy_files, policy_of, print_refusal, cou
 use crate::fetches::text_at;
 use crate::status::Status;
 use std::alloc::Global;
+use tm_index::Indexed;
 use tm_io::{FileList, FileName};
 use tm_list::NoMemory;
-use tm_load::{count_live, load};
+use tm_load::{count_live, load_indexed};
 use tm_number::{Base, Number, write_number};
 use tm_types::policy::Policy;
 use tm_types::step::{LoadFault, PolicyFiles};
@@ -27,11 +28,11 @@ fn policy_files(alloc: Global, texts: &FileList) -> Result<PolicyFiles, NoMemory
     })
 }
 
-/// Loads the policy from the four policy files, or names their first line that isn't done, or else the first live domain whose
-/// profile isn't defined.
+/// Loads the policy from the four policy files with an index, or names their first line that isn't done, or else the first live domain
+/// whose profile isn't defined.
 #[tactic(auto, unfolding(crate::specs::Print::policy_of))]
-pub fn load_files(alloc: Global, texts: &FileList) -> Result<Policy, Status>
-    ensures loaded { IfOk result (λ policy. policy_of texts.now ≡ Ok policy) }
+pub fn load_indexed_files(alloc: Global, texts: &FileList) -> Result<Indexed, Status>
+    ensures loaded { IfOk result (λ rep. policy_of texts.now ≡ Ok rep) }
     ensures few { IfOk result IsFew }
     ensures refused { IfErr result (RefusedBy (print_refusal texts.now)) }
 {
@@ -39,12 +40,22 @@ pub fn load_files(alloc: Global, texts: &FileList) -> Result<Policy, Status>
         Ok(files) => files,
         Err(_) => return Err(Status::OutOfMemory),
     };
-    match load(alloc, &files) {
-        Ok(policy) => Ok(policy),
+    match load_indexed(alloc, &files) {
+        Ok(rep) => Ok(rep),
         Err(LoadFault::Line(file, line, reply)) => Err(Status::BadPolicy(file, line, reply)),
         Err(LoadFault::UndefinedProfile(domain)) => Err(Status::UndefinedProfile(domain)),
         Err(LoadFault::NoMemory) => Err(Status::OutOfMemory),
     }
+}
+
+/// Loads the policy from the four policy files, as `load_indexed_files` does.
+pub fn load_files(alloc: Global, texts: &FileList) -> Result<Policy, Status>
+    ensures loaded { IfOk result (λ policy. policy_of texts.now ≡ Ok policy) }
+    ensures few { IfOk result IsFew }
+    ensures refused { IfErr result (RefusedBy (print_refusal texts.now)) }
+{
+    let rep = load_indexed_files(alloc, texts)?;
+    Ok(rep.into_policy())
 }
 
 // Appends a count.

@@ -13,22 +13,22 @@ ghost use Rattle.tomoyo.specs.Print.{policy_of};
 ghost use Rattle.tomoyo.specs.Reading.{status_cause, of_policy, of_trace, of_script, record_count, excess, homeless, admitted, step_reading};
 
 use crate::fetches::text_at;
-use crate::print::load_files;
+use crate::print::load_indexed_files;
 use crate::status::{Status, What};
 use std::alloc::Global;
+use tm_index::Indexed;
 use tm_io::{FileList, FileName};
 use tm_list::Seq;
-use tm_policy::live_domain;
+use tm_policy::Rep;
 use tm_script::{read_answers, read_edits, read_schedule};
 use tm_trace::{read_trace, tree_line_at};
-use tm_types::policy::Policy;
 use tm_types::request::{ScriptFault, Trace, TraceFault, TraceKind, Tree};
 use tm_types::step::{Book, Editor, Turn};
 
 /// What `step` reads: the opening, the trace, the editors with their edits, the supervisor's book, and the schedule.
 #[derive(Drop)]
 pub struct Loaded {
-    pub policy: Policy,
+    pub policy: Indexed,
     pub trace: Trace,
     pub editors: Seq<Editor>,
     pub book: Book,
@@ -145,12 +145,12 @@ fn excess(loaded: &Loaded) -> Option<What>
 }
 
 // The place of the first tree whose domain isn't live.
-fn homeless(policy: &Policy, trees: &[Tree]) -> Option<usize>
+fn homeless(policy: &Indexed, trees: &[Tree]) -> Option<usize>
     requires { IsFew policy.now }
     ensures { result ≡ homeless policy.now trees.now }
 {
     for (place, tree) in trees.iter().enumerate() {
-        if live_domain(policy, &tree.start).is_none() {
+        if policy.live_domain(&tree.start).is_none() {
             return Some(place);
         }
     }
@@ -182,7 +182,7 @@ pub fn read_step(alloc: Global, texts: &FileList) -> Result<Loaded, Status>
     ensures exact { Gives status_cause (λ loaded. loaded) result (step_reading texts.now) }
     ensures few { IfOk result (λ loaded. IsFew loaded.policy) }
 {
-    let policy = load_files(alloc, texts)?;
+    let policy = load_indexed_files(alloc, texts)?;
     let trace = trace_in(alloc, texts)?;
     let editors = editors_in(alloc, texts)?;
     let book = book_in(alloc, texts)?;
