@@ -68,8 +68,8 @@ pub fn rerun(
     requires can { CanPlay (alone tomoyo_grammar policy trace) }
     ensures { IfOk result (λ ended. IsPlayAlone (alone tomoyo_grammar policy trace) ended.0 ended.1.state.policy) }
 {
-    let policy = Indexed::new(alloc, policy)?;
-    let loaded = nobody_else(alloc, policy, trace);
+    let rep = Indexed::new(alloc, policy)?;
+    let loaded = nobody_else(alloc, rep, trace);
     run_of(alloc, loaded)
 }
 
