@@ -9,5 +9,6 @@ pub mod Calls
 pub mod Exact
 pub mod Headline
 pub mod Readings
+pub mod ReadBack
 pub mod Playing
 pub mod Rerunning

@@ -1,5 +1,5 @@
 -- What a play of the files gives.
-use Rattle.std.specs.Prelude.{◌≡◌, List, [], Ok, unwrap_or}
+use Rattle.std.specs.Prelude.{◌≡◌, true, List, [], Ok, unwrap_or}
 use Rattle.std.specs.List.{flat_map}
 use Rattle.tm_word.specs.Words.{Text}
 use Rattle.tm_types.specs.declared.policy.Policy.{Policy}
@@ -7,7 +7,9 @@ use Rattle.tm_types.specs.declared.step.Take.{Take}
 use Rattle.tm_types.specs.declared.step.Run.{Run}
 use Rattle.tm_legal.specs.Legal.{Legal, final_policy}
 use Rattle.tm_legal.specs.Play as core
+use Rattle.tm_run.specs.Reading.{run_of}
 use Rattle.tm_run.specs.RunText.{run_text}
+use Rattle.tm_run.specs.Typed.{is_typed}
 use Rattle.tm_rerun.specs.Summary.{summary_text}
 use Rattle.tm_text.specs.DomainText.{domain_text}
 use Rattle.tm_text.specs.ExceptionText.{exception_text}
@@ -34,9 +36,10 @@ pub record IsPolicyPrinted (policy : Policy) (printed : Printed) : Type 0 where
   pub domain : printed.domain ≡ domain_text policy
   pub manager : printed.manager ≡ manager_text policy
 
--- the texts of a run from an opening to a last policy
+-- the texts of a run from an opening to a last policy; its numbers are those that the types have
 pub record IsPrinted (run : Run) (opening last : Policy) (played : Played) : Type 0 where
   pub run_is : played.run ≡ run_text run
+  pub is_in_range : is_typed run ≡ true
   pub audit_is : played.audit ≡ audits_of run.takes
   pub policy_is : IsPolicyPrinted last played.policy
   pub summary_is : played.summary ≡ summary_text run opening last
@@ -54,8 +57,9 @@ pub record PlaysLoaded (loaded : Loaded) (played : Played) : Type 0 where
   pub is_legal : Legal (scene_of loaded) run
   pub printed : IsPrinted run loaded.policy (final_policy (scene_of loaded) run) played
 
--- the files are read, and what was played are the texts of the run that what was read plays
+-- the files are read, and what was played are the texts of the run that what was read plays; the text of the run is read back as that run
 pub record Plays (texts : Texts) (played : Played) : Type 0 where
   pub loaded : Loaded
   pub read : step_reading texts ≡ Ok loaded
   pub plays : PlaysLoaded loaded played
+  pub read_back : run_of played.run ≡ Ok plays.run

@@ -14,6 +14,7 @@ use Rattle.tm_legal.specs.Legal.{Scene, Legal, final_policy}
 use Rattle.tm_legal.specs.Play.{IsOpened, IsNamed}
 use Rattle.tm_legal.specs.Play as core
 use Rattle.tm_legal.specs.Replay.{alone, Repeats}
+use Rattle.tm_run.specs.Reading.{run_of}
 use Rattle.tm_run.specs.RunText.{run_text}
 use Rattle.tm_rerun.specs.Rerun.{rerun_text}
 use Rattle.tomoyo.specs.declared.rerun.RerunTexts.{RerunTexts}
@@ -77,8 +78,10 @@ pub record LearnsLoaded (loaded : Loaded) (learned : Learned) : Type 0 where
   pub rerun : Reruns (final_policy (scene_of loaded) run) loaded.trace run learned.rerun
   pub repeated : IsTrue (is_plain loaded.policy) → IsTrue (is_clean run) → IsRepeated (scene_of loaded) run learned.rerun
 
--- the files are read, and what was learned are the texts of the run that what was read plays, and of its rerun
+-- the files are read, and what was learned are the texts of the run that what was read plays, and of its rerun; the text of the run is read
+-- back as that run
 pub record Learns (texts : Texts) (learned : Learned) : Type 0 where
   pub loaded : Loaded
   pub read : step_reading texts ≡ Ok loaded
   pub learns : LearnsLoaded loaded learned
+  pub read_back : run_of learned.played.run ≡ Ok learns.run

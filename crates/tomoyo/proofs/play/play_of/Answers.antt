@@ -1,6 +1,7 @@
 use Rattle.std.proofs.Common.{ap}
 use Rattle.tomoyo.specs.Reading.{refused, step_refusal}
 use Rattle.tomoyo.proofs.Readings.{can-play}
+use Rattle.tomoyo.proofs.ReadBack.{read-back}
 use Rattle.tomoyo.proofs.Playing.{refuses}
 use Rattle.tomoyo.proofs.play.play_of.Goals as goal
 
@@ -12,4 +13,13 @@ play_loaded-requires-clause-can c = can-play c.args.texts.now c.in-Ok.loaded c.i
 
 pub returns-in-Ok-play_loaded-clause-played : goal.returns-in-Ok-play_loaded-clause-played
 unfolding step_refusal
-returns-in-Ok-play_loaded-clause-played c = (ap refused c.in-Ok.ensures.exact, record { loaded = c.in-Ok.loaded; read = c.in-Ok.ensures.exact; plays = c.in-Ok-play_loaded.ensures })
+returns-in-Ok-play_loaded-clause-played c =
+    let h = c.in-Ok-play_loaded.ensures in (
+      ap refused c.in-Ok.ensures.exact,
+      record {
+        loaded = c.in-Ok.loaded;
+        read = c.in-Ok.ensures.exact;
+        plays = h;
+        read_back = read-back c.args.texts.now c.in-Ok.loaded h.run c.in-Ok-play_loaded.played.run c.in-Ok.ensures.exact h.plays h.printed.is_in_range h.printed.run_is;
+      },
+    )

@@ -1,6 +1,7 @@
 use Rattle.std.proofs.Common.{ap}
 use Rattle.tomoyo.specs.Reading.{refused, step_refusal}
 use Rattle.tomoyo.proofs.Readings.{can-play}
+use Rattle.tomoyo.proofs.ReadBack.{read-back}
 use Rattle.tomoyo.proofs.Playing.{refuses}
 use Rattle.tomoyo.proofs.rerun.learn_of.Goals as goal
 
@@ -12,4 +13,13 @@ learn_loaded-requires-clause-can c = can-play c.args.texts.now c.in-Ok.loaded c.
 
 pub returns-in-Ok-learn_loaded-clause-learned : goal.returns-in-Ok-learn_loaded-clause-learned
 unfolding step_refusal
-returns-in-Ok-learn_loaded-clause-learned c = (ap refused c.in-Ok.ensures.exact, record { loaded = c.in-Ok.loaded; read = c.in-Ok.ensures.exact; learns = c.in-Ok-learn_loaded.ensures })
+returns-in-Ok-learn_loaded-clause-learned c =
+    let h = c.in-Ok-learn_loaded.ensures in (
+      ap refused c.in-Ok.ensures.exact,
+      record {
+        loaded = c.in-Ok.loaded;
+        read = c.in-Ok.ensures.exact;
+        learns = h;
+        read_back = read-back c.args.texts.now c.in-Ok.loaded h.run c.in-Ok-learn_loaded.learned.played.run c.in-Ok.ensures.exact h.plays h.printed.is_in_range h.printed.run_is;
+      },
+    )
