@@ -21,7 +21,7 @@ use Rattle.tomoyo.specs.Ends.{Outside, Ends, CarriedOut}
 use Rattle.tomoyo.specs.Play.{Plays}
 use Rattle.tomoyo.specs.Rerun.{Learns}
 use Rattle.tomoyo.specs.Print.{policy_of, printed_policy}
-use Rattle.tomoyo.specs.Call.{wants_of, stored_by, step_stores, rerun_stores, learn_stores, policy_stores, Refuses, Allows, IsPlayed, IsLearned, IsShown, HasDone}
+use Rattle.tomoyo.specs.Call.{wants_of, stored_by, step_stores, rerun_stores, learn_stores, generated_files, with_stores, policy_stores, Refuses, Allows, IsPlayed, IsLearned, IsGenerated, IsShown, HasDone}
 use Rattle.tomoyo.proofs.Refusals.{refusal-kind}
 use Rattle.tomoyo.proofs.Named.{names-allowed, unnamed-by}
 use Rattle.tomoyo.proofs.Others.{changed-other, not-first, not-later, stored-other, leaves-other, cut-other, first-other, self-same}
@@ -123,6 +123,20 @@ learn-done old new (Ends.Made texts outcome given allowed carried) tells =
       summary = carried.1 ∙ ap (λ (o : Outcome). then_bytes o.line old.written) allowed.1.2;
     }
 
+-- a gen that is done
+gen-done : (seed size : ℕ) (old new : Outside) → Ends (wants_of (Command.Gen seed size)) (Refuses (Command.Gen seed size)) (Allows (Command.Gen seed size)) old new Status.Done → TellsAll old.files → IsGenerated seed size old new
+gen-done seed size old new (Ends.Not_fetched stops untouched) tells = absurd stops.cause
+gen-done seed size old new (Ends.Refused texts given refused untouched) tells = absurd (refusal-kind (Command.Gen seed size) texts Status.Done refused)
+gen-done seed size old new (Ends.Made texts outcome given allowed carried) tells =
+    let played : Played = allowed.1.0 in
+    let leaves : Leaves (with_stores (generated_files seed size) played) old.files new.files = subst (λ (o : Outcome). Leaves o.stores old.files new.files) allowed.1.2 carried.0 in
+    record {
+      played = played;
+      plays = allowed.1.1;
+      stored = all-hold [] (with_stores (generated_files seed size) played) old.files new.files tells leaves refl;
+      summary = carried.1 ∙ ap (λ (o : Outcome). then_bytes o.line old.written) allowed.1.2;
+    }
+
 -- a print that is done
 print-done : (old new : Outside) → Ends (wants_of Command.Print) (Refuses Command.Print) (Allows Command.Print) old new Status.Done → TellsAll old.files → IsShown old new
 print-done old new (Ends.Not_fetched stops untouched) tells = absurd stops.cause
@@ -147,5 +161,7 @@ headline-of Command.Step old new status ends = λ tells is.
     step-done old new (subst (λ (s : Status). Ends (wants_of Command.Step) (Refuses Command.Step) (Allows Command.Step) old new s) is ends) tells
 headline-of Command.Learn old new status ends = λ tells is.
     learn-done old new (subst (λ (s : Status). Ends (wants_of Command.Learn) (Refuses Command.Learn) (Allows Command.Learn) old new s) is ends) tells
+headline-of (Command.Gen seed size) old new status ends = λ tells is.
+    gen-done seed size old new (subst (λ (s : Status). Ends (wants_of (Command.Gen seed size)) (Refuses (Command.Gen seed size)) (Allows (Command.Gen seed size)) old new s) is ends) tells
 headline-of Command.Print old new status ends = λ tells is.
     print-done old new (subst (λ (s : Status). Ends (wants_of Command.Print) (Refuses Command.Print) (Allows Command.Print) old new s) is ends) tells

@@ -17,6 +17,7 @@ use Rattle.tomoyo.specs.Call.{stored_by, step_stores, rerun_stores, learn_stores
 abbrev pub AreStored : Command → List FileName → Type 0
 AreStored Command.Step names = names ≡ stored_by Command.Step
 AreStored Command.Print names = names ≡ stored_by Command.Print
+AreStored (Command.Gen seed size) names = names ≡ stored_by (Command.Gen seed size)
 AreStored Command.Learn names = (names ≡ stored_by Command.Learn) ⊎ (names ≡ stored_by Command.Step)
 
 learned-names : (learned : Learned) (rerun : Option RerunTexts) → learned.rerun ≡ rerun → AreStored Command.Learn (names_of (learn_stores learned))
@@ -27,6 +28,7 @@ learned-names learned (Some rerun) e = inl (ap (λ (r : Option RerunTexts). name
 pub names-allowed : (command : Command) (texts : Texts) (outcome : Outcome) → Allows command texts outcome → AreStored command (names_of outcome.stores)
 names-allowed Command.Step texts outcome allowed = ap (λ (o : Outcome). names_of o.stores) allowed.1.2
 names-allowed Command.Print texts outcome allowed = ap (λ (o : Outcome). names_of o.stores) allowed.1.2
+names-allowed (Command.Gen seed size) texts outcome allowed = ap (λ (o : Outcome). names_of o.stores) allowed.1.2
 names-allowed Command.Learn texts outcome allowed = subst (λ (o : Outcome). AreStored Command.Learn (names_of o.stores)) (sym allowed.1.2) (learned-names allowed.1.0 allowed.1.0.rerun refl)
 
 -- Names of the first files among all
@@ -51,6 +53,7 @@ front-unnamed (other ∷ names) more name e = by-none (same_name other name) (is
 pub named-by : (command : Command) (names : List FileName) (name : FileName) → AreStored command names → is_named names name ≡ true → is_named (stored_by command) name ≡ true
 named-by Command.Step names name is e = ap (λ (ns : List FileName). is_named ns name) (sym is) ∙ e
 named-by Command.Print names name is e = ap (λ (ns : List FileName). is_named ns name) (sym is) ∙ e
+named-by (Command.Gen seed size) names name is e = ap (λ (ns : List FileName). is_named ns name) (sym is) ∙ e
 named-by Command.Learn names name (inl is) e = ap (λ (ns : List FileName). is_named ns name) (sym is) ∙ e
 named-by Command.Learn names name (inr is) e = front-named (stored_by Command.Step) (FileName.Run2 ∷ FileName.Audit2 ∷ []) name (ap (λ (ns : List FileName). is_named ns name) (sym is) ∙ e)
 
@@ -58,6 +61,7 @@ named-by Command.Learn names name (inr is) e = front-named (stored_by Command.St
 pub unnamed-by : (command : Command) (names : List FileName) (name : FileName) → AreStored command names → is_named (stored_by command) name ≡ false → is_named names name ≡ false
 unnamed-by Command.Step names name is e = ap (λ (ns : List FileName). is_named ns name) is ∙ e
 unnamed-by Command.Print names name is e = ap (λ (ns : List FileName). is_named ns name) is ∙ e
+unnamed-by (Command.Gen seed size) names name is e = ap (λ (ns : List FileName). is_named ns name) is ∙ e
 unnamed-by Command.Learn names name (inl is) e = ap (λ (ns : List FileName). is_named ns name) is ∙ e
 unnamed-by Command.Learn names name (inr is) e = ap (λ (ns : List FileName). is_named ns name) is ∙ front-unnamed (stored_by Command.Step) (FileName.Run2 ∷ FileName.Audit2 ∷ []) name e
 
@@ -67,6 +71,7 @@ unnamed-by Command.Learn names name (inr is) e = ap (λ (ns : List FileName). is
 pub stores-by : (command : Command) (names : List FileName) (status : Status) (a b : Names) → AreStored command names → StoresOf names status a b → StoresBy command status a b
 stores-by Command.Step names status a b is h = subst (λ (ns : List FileName). StoresOf ns status a b) is h
 stores-by Command.Print names status a b is h = subst (λ (ns : List FileName). StoresOf ns status a b) is h
+stores-by (Command.Gen seed size) names status a b is h = subst (λ (ns : List FileName). StoresOf ns status a b) is h
 stores-by Command.Learn names status a b (inl is) h = inl (subst (λ (ns : List FileName). StoresOf ns status a b) is h)
 stores-by Command.Learn names status a b (inr is) h = inr (subst (λ (ns : List FileName). StoresOf ns status a b) is h)
 
@@ -74,4 +79,5 @@ stores-by Command.Learn names status a b (inr is) h = inr (subst (λ (ns : List 
 pub stores-whichever : (command : Command) (status : Status) (a b : Names) → ((files : List FileName) → StoresOf files status a b) → StoresBy command status a b
 stores-whichever Command.Step status a b h = h (stored_by Command.Step)
 stores-whichever Command.Print status a b h = h (stored_by Command.Print)
+stores-whichever (Command.Gen seed size) status a b h = h (stored_by (Command.Gen seed size))
 stores-whichever Command.Learn status a b h = inl (h (stored_by Command.Learn))

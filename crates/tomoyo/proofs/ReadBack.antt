@@ -1,11 +1,8 @@
 -- What is stored of a run is read back as that run.
-use Rattle.std.proofs.Common.{◌≡◌, ◌∙◌, List, [], refl, ap}
+use Rattle.std.proofs.Common.{◌≡◌, ◌∙◌, refl, ap}
 use Rattle.std.specs.Prelude.{true, Ok}
 use Rattle.tm_word.specs.Words.{Text}
-use Rattle.tm_rules.specs.Words.{Trace}
-use Rattle.tm_types.specs.declared.policy.Policy.{Policy}
 use Rattle.tm_types.specs.declared.step.Run.{Run}
-use Rattle.tm_types.specs.declared.step.Turn.{Turn}
 use Rattle.tm_io.specs.declared.names.FileName.{FileName}
 use Rattle.tm_trace.proofs.TraceRead.{trace_read}
 use Rattle.tm_script.proofs.ReadLaws.{editors_right}

@@ -22,7 +22,7 @@ use Rattle.tm_script.specs.Schedule.{schedule_of}
 use Rattle.tomoyo.specs.Fetches.{Texts, AllGiven, content}
 use Rattle.tomoyo.specs.Print.{policy_of, fault_status, load_refusal}
 use Rattle.tomoyo.specs.Reading.{of_policy, of_trace, of_script, excess, homeless, within_limits, with_homes, refused, step_reading, step_refusal}
-use Rattle.tomoyo.specs.Call.{wants_of, refusal_of, IsLoadFault, IsStepFault}
+use Rattle.tomoyo.specs.Call.{wants_of, generated_files, played_by, refusal_of, IsLoadFault, IsStepFault}
 
 -- What `step` refuses
 
@@ -127,6 +127,7 @@ load-refused (Err fault) status e = let same : fault_status fault ≡ status = c
 pub refusal-kind : (command : Command) (texts : Texts) (status : Status) → refusal_of command texts ≡ Some status → IsRefusal status
 refusal-kind Command.Step texts status e = step-kind texts status (step-refused texts status e)
 refusal-kind Command.Learn texts status e = step-kind texts status (step-refused texts status e)
+refusal-kind (Command.Gen seed size) texts status e = step-kind (generated_files seed size) status (step-refused (generated_files seed size) status e)
 refusal-kind Command.Print texts status e = step-kind texts status (inl (load-refused (policy_of texts) status e))
 
 -- The causes of the statuses of refusals
@@ -138,9 +139,10 @@ early : (texts : Texts) (status : Status) → ¬ IsLater status → FailsSo text
 early texts status not_later (inl h) = h
 early texts status not_later (inr later) = absurd (not_later later)
 
-loaded-so : (command : Command) (texts : Texts) (status : Status) → ¬ IsLater status → refusal_of command texts ≡ Some status → HasFault texts status
+loaded-so : (command : Command) (texts : Texts) (status : Status) → ¬ IsLater status → refusal_of command texts ≡ Some status → HasFault (played_by command texts) status
 loaded-so Command.Step texts status not_later e = early texts status not_later (step-refused texts status e)
 loaded-so Command.Learn texts status not_later e = early texts status not_later (step-refused texts status e)
+loaded-so (Command.Gen seed size) texts status not_later e = early (generated_files seed size) status not_later (step-refused (generated_files seed size) status e)
 loaded-so Command.Print texts status not_later e = load-refused (policy_of texts) status e
 
 fault-line : (fault : LoadFault) (file : FileKind) (line : ℕ) (reply : EditReply) → fault_status fault ≡ Status.BadPolicy file line reply → fault ≡ LoadFault.Line file line reply
@@ -157,12 +159,12 @@ pub bad-policy : (command : Command) (files : Files) (texts : Texts) (file : Fil
     → IsLoadFault command files (LoadFault.Line file line reply)
 bad-policy command files texts file line reply given e =
     let (fault, is, same) = loaded-so command texts (Status.BadPolicy file line reply) (λ h. h) e in
-    (texts, given, subst (λ (f : LoadFault). policy_of texts ≡ Err f) (fault-line fault file line reply same) is)
+    (texts, given, subst (λ (f : LoadFault). policy_of (played_by command texts) ≡ Err f) (fault-line fault file line reply same) is)
 
 pub undefined-profile : (command : Command) (files : Files) (texts : Texts) (domain : ℕ) → AllGiven files (wants_of command) texts → refusal_of command texts ≡ Some (Status.UndefinedProfile domain) → IsLoadFault command files (LoadFault.UndefinedProfile domain)
 undefined-profile command files texts domain given e =
     let (fault, is, same) = loaded-so command texts (Status.UndefinedProfile domain) (λ h. h) e in
-    (texts, given, subst (λ (f : LoadFault). policy_of texts ≡ Err f) (fault-undefined fault domain same) is)
+    (texts, given, subst (λ (f : LoadFault). policy_of (played_by command texts) ≡ Err f) (fault-undefined fault domain same) is)
 
 -- `print` has no fault beside the policy
 fault-early : (fault : LoadFault) (status : Status) → fault_status fault ≡ status → ¬ IsLater status
@@ -173,6 +175,7 @@ fault-early LoadFault.NoMemory status e = subst (λ (s : Status). ¬ IsLater s) 
 step-fault : (command : Command) (files : Files) (texts : Texts) (status : Status) → IsLater status → AllGiven files (wants_of command) texts → refusal_of command texts ≡ Some status → IsStepFault command files status
 step-fault Command.Step files texts status later given e = (texts, given, e)
 step-fault Command.Learn files texts status later given e = (texts, given, e)
+step-fault (Command.Gen seed size) files texts status later given e = e
 step-fault Command.Print files texts status later given e = let (fault, is, same) = load-refused (policy_of texts) status e in absurd (fault-early fault status same later)
 
 pub bad-trace : (command : Command) (files : Files) (texts : Texts) (line : ℕ) (kind : TraceKind) → AllGiven files (wants_of command) texts → refusal_of command texts ≡ Some (Status.BadTrace line kind) → IsStepFault command files (Status.BadTrace line kind)

@@ -1,8 +1,7 @@
 -- A run is played again: what its rerun needs, what it gives, and why a clean run from a plain opening is repeated.
-use Rattle.std.proofs.Common.{◌≡◌, ◌∙◌, ◌≤◌, ℕ, ◌+◌, Bool, true, false, not, ◌&&◌, List, [], ◌∷◌, length, refl, sym, ap, subst, arith}
-use Rattle.std.specs.Prelude.{map, Option, Some, None, Result, Ok, Err, IfOk, IsSome, IsTrue, is_some, if◌then◌else◌}
-use Rattle.std.specs.List.{AllByRecursion, position_from, list_all}
-use Rattle.std.proofs.lemmas.Bool.{and_parts}
+use Rattle.std.proofs.Common.{◌≡◌, ◌∙◌, ◌≤◌, ℕ, ◌+◌, true, not, ◌&&◌, List, [], ◌∷◌, length, refl, sym, ap, subst, arith}
+use Rattle.std.specs.Prelude.{map, Option, Some, None, Result, Ok, Err, IfOk, IsSome, IsTrue, is_some}
+use Rattle.std.specs.List.{AllByRecursion, position_from}
 use Rattle.tm_word.specs.Texts.{texts_equal}
 use Rattle.tm_rules.specs.Words.{DomainName, Trace}
 use Rattle.tm_rules.specs.Clean.{is_plain, is_clean}
@@ -21,7 +20,7 @@ use Rattle.tm_legal.specs.Steps.{after}
 use Rattle.tm_legal.specs.Legal.{Scene, Legal, state_at, final_policy}
 use Rattle.tm_legal.specs.Play.{IsOpened, IsNamed, CanPlay}
 use Rattle.tm_legal.specs.Replay.{Grows, CleanRunGrows, LearnedRunRepeats, alone}
-use Rattle.tm_legal.proofs.Kept.{some_of, same_texts, position_holds}
+use Rattle.tm_legal.proofs.Kept.{some_of, position_holds}
 use Rattle.tm_legal.proofs.Opened.{position-none, final_is_opened}
 use Rattle.tm_legal.proofs.Named.{final_is_named}
 use Rattle.tm_legal.proofs.Histories.{state_at-newest}
@@ -30,10 +29,9 @@ use Rattle.tm_rerun.specs.Rerun.{rerun_text}
 use Rattle.tomoyo.specs.declared.play.Played.{Played}
 use Rattle.tomoyo.specs.declared.reading.Loaded.{Loaded}
 use Rattle.tomoyo.specs.declared.rerun.RerunTexts.{RerunTexts}
-use Rattle.tomoyo.specs.declared.rerun.Learned.{Learned}
 use Rattle.tomoyo.specs.Reading.{homeless, scene_of}
 use Rattle.tomoyo.specs.Play.{IsPlayOf, IsPrinted}
-use Rattle.tomoyo.specs.Rerun.{again, nobody_else, CanRerun, IsPlayAlone, IsRerunPrinted, IsRerun, Reruns, IsRepeated, LearnsLoaded}
+use Rattle.tomoyo.specs.Rerun.{again, nobody_else, CanRerun, IsPlayAlone, IsRerunPrinted, Reruns, IsRepeated, LearnsLoaded}
 use Rattle.tomoyo.proofs.Readings.{homes-there}
 
 -- What a rerun needs

@@ -9,6 +9,7 @@ use Rattle.tm_text.specs.ExceptionText.{exception_text}
 use Rattle.tm_text.specs.ManagerText.{manager_text}
 use Rattle.tm_text.specs.ProfileText.{profile_text}
 use Rattle.tm_rerun.specs.Rerun.{no_rerun_text}
+use Rattle.tm_gen.specs.Files.{generated}
 use Rattle.tm_io.specs.Causes.{Rose}
 use Rattle.tm_io.specs.Bytes.{then_bytes}
 use Rattle.tm_io.specs.Files.{FileState, Files, SameFiles}
@@ -45,6 +46,20 @@ wants_of Command.Print =
 wants_of Command.Learn =
     want FileName.Profile true ∷ want FileName.ExceptionPolicy false ∷ want FileName.DomainPolicy true ∷ want FileName.Manager false
     ∷ want FileName.Trace true ∷ want FileName.Edits false ∷ want FileName.Answers false ∷ want FileName.Schedule false ∷ []
+wants_of (Command.Gen seed size) = []
+
+-- the files that `gen` generates, in order
+abbrev pub generated_files : ℕ → ℕ → Texts
+generated_files seed size =
+    (FileName.Profile, (generated seed size).profile) ∷ (FileName.ExceptionPolicy, (generated seed size).exception) ∷ (FileName.DomainPolicy, (generated seed size).domain)
+    ∷ (FileName.Manager, (generated seed size).manager) ∷ (FileName.Trace, (generated seed size).trace) ∷ []
+
+-- what is loaded and played: what was read, or what `gen` generates
+abbrev pub played_by : Command → Texts → Texts
+played_by Command.Step texts = texts
+played_by Command.Print texts = texts
+played_by Command.Learn texts = texts
+played_by (Command.Gen seed size) texts = generated_files seed size
 
 -- the files that a command reads, in order
 abbrev pub read_by : Command → List FileName
@@ -56,6 +71,9 @@ stored_by Command.Step = FileName.Run ∷ FileName.Audit ∷ FileName.ProfileNew
 stored_by Command.Print = FileName.ProfileNew ∷ FileName.ExceptionPolicyNew ∷ FileName.DomainPolicyNew ∷ FileName.ManagerNew ∷ []
 stored_by Command.Learn =
     FileName.Run ∷ FileName.Audit ∷ FileName.ProfileNew ∷ FileName.ExceptionPolicyNew ∷ FileName.DomainPolicyNew ∷ FileName.ManagerNew ∷ FileName.Run2 ∷ FileName.Audit2 ∷ []
+stored_by (Command.Gen seed size) =
+    FileName.Profile ∷ FileName.ExceptionPolicy ∷ FileName.DomainPolicy ∷ FileName.Manager ∷ FileName.Trace
+    ∷ FileName.Run ∷ FileName.Audit ∷ FileName.ProfileNew ∷ FileName.ExceptionPolicyNew ∷ FileName.DomainPolicyNew ∷ FileName.ManagerNew ∷ []
 
 -- a printed policy as files, in order
 abbrev pub policy_stores : Printed → Texts
@@ -96,6 +114,18 @@ learn_line learned = learned.played.summary ++ rerun_line learned.rerun
 abbrev pub learn_outcome : Learned → Outcome
 learn_outcome learned = record { stores = learn_stores learned; line = learn_line learned }
 
+-- what is stored, in order, of files that are stored first and of what was played of them
+abbrev pub with_stores : Texts → Played → Texts
+with_stores files played = files ++ step_stores played
+
+-- what is stored and put of them
+abbrev pub with_files : Texts → Played → Outcome
+with_files files played = record { stores = with_stores files played; line = played.summary }
+
+-- files that are played and stored first
+abbrev pub PlaysFiles : Texts → Outcome → Type 0
+PlaysFiles files outcome = (step_refusal files ≡ None) × ((played : Played) × Plays files played × (outcome ≡ with_files files played))
+
 -- what `print` stores and puts of the policy that the files load to
 abbrev pub print_outcome : Policy → Outcome
 print_outcome policy = record { stores = policy_stores (printed_policy policy); line = counts_text policy }
@@ -105,12 +135,14 @@ abbrev pub Makes : Command → Texts → Outcome → Type 0
 Makes Command.Step texts outcome = (played : Played) × Plays texts played × (outcome ≡ step_outcome played)
 Makes Command.Print texts outcome = (policy : Policy) × (policy_of texts ≡ Ok policy) × (outcome ≡ print_outcome policy)
 Makes Command.Learn texts outcome = (learned : Learned) × Learns texts learned × (outcome ≡ learn_outcome learned)
+Makes (Command.Gen seed size) texts outcome = (played : Played) × Plays (generated_files seed size) played × (outcome ≡ with_files (generated_files seed size) played)
 
--- the refusal of what a command reads
+-- the refusal of what a command reads or generates
 abbrev pub refusal_of : Command → Texts → Option Status
 refusal_of Command.Step texts = step_refusal texts
 refusal_of Command.Print texts = print_refusal texts
 refusal_of Command.Learn texts = step_refusal texts
+refusal_of (Command.Gen seed size) texts = step_refusal (generated_files seed size)
 
 -- a refusal of what was read; want of memory is free
 abbrev pub Refuses : Command → Texts → Status → Type 0
@@ -125,15 +157,16 @@ abbrev pub CallEnds : Result Command ℕ → Outside → Outside → Status → 
 CallEnds (Err place) old new status = (status ≡ Status.BadWords place) × Untouched old new
 CallEnds (Ok command) old new status = Ends (wants_of command) (Refuses command) (Allows command) old new status
 
--- a fault of loading what was read
+-- a fault of loading what was read or generated
 abbrev pub IsLoadFault : Command → Files → LoadFault → Type 0
-IsLoadFault command files fault = (texts : Texts) × AllGiven files (wants_of command) texts × (policy_of texts ≡ Err fault)
+IsLoadFault command files fault = (texts : Texts) × AllGiven files (wants_of command) texts × (policy_of (played_by command texts) ≡ Err fault)
 
--- a refusal of what `step` and `learn` read beside the policy
+-- a refusal of what `step` and `learn` read, or `gen` generates, beside the policy
 abbrev pub IsStepFault : Command → Files → Status → Type 0
 IsStepFault Command.Step files status = (texts : Texts) × AllGiven files (wants_of Command.Step) texts × (step_refusal texts ≡ Some status)
 IsStepFault Command.Print files status = ⊥
 IsStepFault Command.Learn files status = (texts : Texts) × AllGiven files (wants_of Command.Learn) texts × (step_refusal texts ≡ Some status)
+IsStepFault (Command.Gen seed size) files status = step_refusal (generated_files seed size) ≡ Some status
 
 -- a fetch that ends the call: nothing is stored, and nothing is put
 abbrev pub IsUnfetched : Command → Outside → Outside → Status → Type 0
@@ -202,6 +235,7 @@ abbrev pub StoresBy : Command → Status → Names → Names → Type 0
 StoresBy Command.Step status old new = StoresOf (stored_by Command.Step) status old new
 StoresBy Command.Print status old new = StoresOf (stored_by Command.Print) status old new
 StoresBy Command.Learn status old new = StoresOf (stored_by Command.Learn) status old new ⊎ StoresOf (stored_by Command.Step) status old new
+StoresBy (Command.Gen seed size) status old new = StoresOf (stored_by (Command.Gen seed size)) status old new
 
 -- the files are stored in their order, each once, and nothing after the store that fails; at faulty words nothing is stored
 abbrev pub StoresInOrder : Result Command ℕ → Status → Names → Names → Type 0
@@ -229,6 +263,13 @@ pub record IsLearned (old new : Outside) : Type 0 where
   pub kept : learned.rerun ≡ None → (new.files FileName.Run2 ≡ old.files FileName.Run2) × (new.files FileName.Audit2 ≡ old.files FileName.Audit2)
   pub summary : new.written ≡ then_bytes (learn_line learned) old.written
 
+-- what a `gen` that is done has stored and put: the generated files, and what a `step` on them has
+pub record IsGenerated (seed size : ℕ) (old new : Outside) : Type 0 where
+  pub played : Played
+  pub plays : Plays (generated_files seed size) played
+  pub stored : AllByRecursion (λ (store : FileName × List ℕ). new.files store.0 ≡ FileState.Holds store.1) (with_stores (generated_files seed size) played)
+  pub summary : new.written ≡ then_bytes played.summary old.written
+
 -- what a `print` that is done has stored and put: the printed texts of the policy that the told files load to, and the line of its counts
 pub record IsShown (old new : Outside) : Type 0 where
   pub policy : Policy
@@ -239,9 +280,11 @@ pub record IsShown (old new : Outside) : Type 0 where
   pub manager : new.files FileName.ManagerNew ≡ FileState.Holds (manager_text policy)
   pub counts : new.written ≡ then_bytes (counts_text policy) old.written
 
--- the headline: on told files, a call that is done has printed or played them, or learned from them and played them again
+-- the headline: on told files, a call that is done has printed or played them, or learned from them and played them again, or has played files
+-- that it generated
 abbrev pub HasDone : Result Command ℕ → Outside → Outside → Status → Type 0
 HasDone (Err place) old new status = ¬ (status ≡ Status.Done)
 HasDone (Ok Command.Step) old new status = TellsAll old.files → status ≡ Status.Done → IsPlayed old new
 HasDone (Ok Command.Print) old new status = TellsAll old.files → status ≡ Status.Done → IsShown old new
 HasDone (Ok Command.Learn) old new status = TellsAll old.files → status ≡ Status.Done → IsLearned old new
+HasDone (Ok (Command.Gen seed size)) old new status = TellsAll old.files → status ≡ Status.Done → IsGenerated seed size old new

@@ -1,7 +1,6 @@
 -- The rerun of a run: the same trace under the run's final policy with its profiles enforcing, and nobody else.
-use Rattle.std.specs.Prelude.{◌≡◌, ◌↔◌, Bool, true, List, [], Option, Some, None, IsSome, IsTrue, Ok}
+use Rattle.std.specs.Prelude.{◌≡◌, ◌↔◌, Bool, true, [], Option, Some, None, IsSome, IsTrue, Ok}
 use Rattle.std.specs.List.{AllByRecursion, list_all}
-use Rattle.tm_word.specs.Words.{Text}
 use Rattle.tm_rules.specs.Words.{Trace}
 use Rattle.tm_rules.specs.Requests.{item_is_request}
 use Rattle.tm_rules.specs.Clean.{is_plain, is_clean}

@@ -6,8 +6,9 @@ ghost use Rattle.tm_io.specs.Notes.{Noted};
 ghost use Rattle.tomoyo.specs.Fetches.{AllGiven, FetchStops};
 ghost use Rattle.tomoyo.specs.Calls.{FetchesOf};
 ghost use Rattle.tomoyo.specs.Ends.{outside, Ends};
+ghost use Rattle.tomoyo.specs.Reading.{step_refusal, RefusedBy};
 ghost use Rattle.tomoyo.specs.Words.{read_words};
-ghost use Rattle.tomoyo.specs.Call.{wants_of, read_by, stores_of, policy_stores, step_stores, step_outcome, rerun_stores, rerun_line, learn_outcome, print_outcome};
+ghost use Rattle.tomoyo.specs.Call.{wants_of, read_by, stores_of, policy_stores, step_stores, step_outcome, rerun_stores, rerun_line, learn_outcome, generated_files, with_files, PlaysFiles, print_outcome};
 ghost use Rattle.tomoyo.specs.Call.{Refuses, Allows, CallEnds, HasCause, IsExact, IsComplete, KeepsOthers, HasDone};
 ghost use Rattle.tomoyo.specs.Call.{FetchesInOrder, StoresBy, StoresInOrder, StoresLast};
 ghost use Rattle.tomoyo.specs.declared.words.Command.{Command};
@@ -20,6 +21,7 @@ use crate::rerun::{Learned, RerunTexts, learn_of};
 use crate::status::Status;
 use crate::words::{Command, read_command};
 use std::alloc::Global;
+use tm_gen::{Generated, generate};
 use tm_io::{FileList, FileName, Shelf, Sink};
 use tm_list::NoMemory;
 use tm_rerun::no_rerun_line;
@@ -60,6 +62,10 @@ fn fetch_for<S: Shelf>(alloc: Global, command: Command, shelf: &mut S) -> Result
             ];
             fetch_all(alloc, shelf, &wants)
         }
+        Command::Gen(_, _) => {
+            let wants: [Want; 0] = [];
+            fetch_all(alloc, shelf, &wants)
+        }
     }
 }
 
@@ -85,9 +91,7 @@ fn stores_of(alloc: Global, run: Text, audit: Text, policy: Printed) -> Result<F
     ensures { IfOk result (λ stores. stores ≡ stores_of run audit policy) }
 {
     let mut stores = FileList::new(alloc);
-    stores.push((FileName::Run, run))?;
-    stores.push((FileName::Audit, audit))?;
-    push_policy(policy, &mut stores)?;
+    push_played(run, audit, policy, &mut stores)?;
     Ok(stores)
 }
 
@@ -153,6 +157,58 @@ fn learn_outcome(alloc: Global, learned: Learned) -> Result<Outcome, NoMemory>
     })
 }
 
+// The files that are generated from a seed and a size, in order.
+fn generated_files(alloc: Global, seed: u64, size: u32) -> Result<FileList, NoMemory>
+    ensures { IfOk result (λ files. files ≡ generated_files seed size) }
+{
+    let Generated {
+        profile,
+        exception,
+        domain,
+        manager,
+        trace,
+    } = generate(alloc, seed, size)?;
+    let mut files = FileList::new(alloc);
+    files.push((FileName::Profile, profile))?;
+    files.push((FileName::ExceptionPolicy, exception))?;
+    files.push((FileName::DomainPolicy, domain))?;
+    files.push((FileName::Manager, manager))?;
+    files.push((FileName::Trace, trace))?;
+    Ok(files)
+}
+
+// Appends the text of a run, its audit texts and a printed policy to files, in order.
+fn push_played(
+    run: Text,
+    audit: Text,
+    policy: Printed,
+    stores: &mut FileList,
+) -> Result<(), NoMemory>
+    ensures { OnOk result (stores.new ≡ stores.old ++ stores_of run audit policy) }
+{
+    stores.push((FileName::Run, run))?;
+    stores.push((FileName::Audit, audit))?;
+    push_policy(policy, stores)
+}
+
+// What is stored and put of these files, which are stored first, and of what was played of them.
+fn with_files(files: FileList, played: Played) -> Result<Outcome, NoMemory>
+    ensures { IfOk result (λ outcome. outcome ≡ with_files files played) }
+{
+    let Played {
+        run,
+        audit,
+        policy,
+        summary,
+    } = played;
+    let mut stores = files;
+    push_played(run, audit, policy, &mut stores)?;
+    Ok(Outcome {
+        stores,
+        line: summary,
+    })
+}
+
 // What `print` stores and puts of the policy that the files load to.
 fn print_outcome(alloc: Global, policy: &Policy) -> Result<Outcome, NoMemory>
     requires { IsFew policy.now }
@@ -193,6 +249,31 @@ fn make_learn(alloc: Global, texts: &FileList) -> Result<Outcome, Status>
     }
 }
 
+// Plays files that are stored first, or refuses them.
+fn play_files(alloc: Global, files: FileList) -> Result<Outcome, Status>
+    ensures made { IfOk result (PlaysFiles files) }
+    ensures refused { IfErr result (RefusedBy (step_refusal files)) }
+{
+    match play_of(alloc, &files) {
+        Err(status) => Err(status),
+        Ok(played) => match with_files(files, played) {
+            Ok(outcome) => Ok(outcome),
+            Err(_) => Err(Status::OutOfMemory),
+        },
+    }
+}
+
+// Plays what is generated from a seed and a size, or refuses it.
+fn make_gen(alloc: Global, seed: u64, size: u32) -> Result<Outcome, Status>
+    ensures made { IfOk result (Allows (Command.Gen seed size) []) }
+    ensures refused { IfErr result (Refuses (Command.Gen seed size) []) }
+{
+    match generated_files(alloc, seed, size) {
+        Ok(files) => play_files(alloc, files),
+        Err(_) => Err(Status::OutOfMemory),
+    }
+}
+
 // Prints the policy that was read, or refuses it.
 fn make_print(alloc: Global, texts: &FileList) -> Result<Outcome, Status>
     ensures made { IfOk result (Allows Command.Print texts.now) }
@@ -216,6 +297,7 @@ fn make(alloc: Global, command: Command, texts: &FileList) -> Result<Outcome, St
         Command::Print => make_print(alloc, texts),
         Command::Step => make_step(alloc, texts),
         Command::Learn => make_learn(alloc, texts),
+        Command::Gen(seed, size) => make_gen(alloc, seed, size),
     }
 }
 
@@ -242,8 +324,9 @@ fn perform<S: Shelf, K: Sink>(alloc: Global, command: Command, shelf: &mut S, ou
 /// printed texts as `profile.new`, `exception_policy.new`, `domain_policy.new` and `manager.new`. `step` plays the trace by the schedule
 /// under the policy and stores `run`, `audit`, and the final policy in the same four files. `learn` does what `step` does, plays the trace
 /// again under the final policy with its profiles enforcing, without edits and without a supervisor, and stores `run2` and `audit2`; where
-/// some tree's domain isn't live in the final policy it leaves this rerun out, and leaves these two files as they were. Nothing is stored
-/// before all is read and loaded or played.
+/// some tree's domain isn't live in the final policy it leaves this rerun out, and leaves these two files as they were. `gen` with a seed and
+/// a size reads nothing: it generates `profile`, `exception_policy`, `domain_policy`, `manager` and `trace`, stores them, and does `step` on
+/// them without edits, answers and schedule. Nothing is stored before all is read and loaded or played.
 ///
 /// The first fetch that gives neither a text nor a file that may be missing decides, and no later one is made: `Absent` where
 /// `profile`, `domain_policy` or, but for `print`, `trace` isn't there, `TooLong` where a file has more than 16,777,216 bytes, `ReadFault`

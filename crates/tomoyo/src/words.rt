@@ -1,15 +1,18 @@
 ghost use Rattle.std.specs.Prelude.{◌≡◌, map, string_bytes};
-ghost use Rattle.tomoyo.specs.Words.{read_words, command_of};
+ghost use Rattle.tomoyo.specs.Words.{read_words, command_of, alone, seed_of, size_of, sized, gen_of};
 
-/// What the words can ask for.
+use tm_number::plain_number;
+
+/// What the words can ask for; of `gen` with its seed and its size.
 #[derive(Clone, Copy)]
 pub enum Command {
     Print,
     Step,
     Learn,
+    Gen(u64, u32),
 }
 
-// The command of a first word.
+// The command of a first word that has no others after it.
 fn named_by(word: &str) -> Result<Command, u64>
     ensures { result ≡ command_of word.now }
 {
@@ -25,15 +28,78 @@ fn named_by(word: &str) -> Result<Command, u64>
     Err(0)
 }
 
+// A command after which no word may come.
+fn alone(named: Result<Command, u64>, others: &[String]) -> Result<Command, u64>
+    ensures { result ≡ alone named (map string_bytes others.now) }
+{
+    match named {
+        Err(place) => Err(place),
+        Ok(command) => match others {
+            [] => Ok(command),
+            [_, ..] => Err(1),
+        },
+    }
+}
+
+// The seed that a word writes.
+fn seed_of(word: &str) -> Option<u64>
+    ensures { result ≡ seed_of word.now }
+{
+    plain_number(18_446_744_073_709_551_616, word.as_bytes())
+}
+
+// The size that a word writes.
+fn size_of(word: &str) -> Option<u32>
+    ensures { result ≡ size_of word.now }
+{
+    match plain_number(4_097, word.as_bytes()) {
+        None => None,
+        Some(size) => { if size == 0 { None } else { Some(size as u32) } }
+    }
+}
+
+// The words after `gen` and its seed.
+fn sized(seed: u64, others: &[String]) -> Result<Command, u64>
+    ensures { result ≡ sized seed (map string_bytes others.now) }
+{
+    match others {
+        [] => Err(2),
+        [size] => match size_of(size) {
+            Some(size) => Ok(Command::Gen(seed, size)),
+            None => Err(2),
+        },
+        [size, _, ..] => match size_of(size) {
+            Some(_) => Err(3),
+            None => Err(2),
+        },
+    }
+}
+
+// The words after `gen`.
+fn gen_of(others: &[String]) -> Result<Command, u64>
+    ensures { result ≡ gen_of (map string_bytes others.now) }
+{
+    match others {
+        [] => Err(1),
+        [seed, others @ ..] => match seed_of(seed) {
+            Some(seed) => sized(seed, others),
+            None => Err(1),
+        },
+    }
+}
+
 /// The command, or the first place at which no form of a command goes on.
 pub fn read_command(words: &[String]) -> Result<Command, u64>
     ensures { result ≡ read_words (map string_bytes words.now) }
 {
-    match words.first() {
-        None => Err(0),
-        Some(word) => match named_by(word) {
-            Ok(named) => { if words.len() > 1 { Err(1) } else { Ok(named) } }
-            Err(place) => Err(place),
-        },
+    match words {
+        [] => Err(0),
+        [word, others @ ..] => {
+            if word.as_str() == "gen" {
+                gen_of(others)
+            } else {
+                alone(named_by(word), others)
+            }
+        }
     }
 }

@@ -13,6 +13,7 @@ pub const HELP: &str = "\
 usage: tomoyo_run [-C DIR] print
        tomoyo_run [-C DIR] step
        tomoyo_run [-C DIR] learn
+       tomoyo_run [-C DIR] gen SEED SIZE
        tomoyo_run help | -h | --help
        tomoyo_run -V | --version
 
@@ -27,12 +28,16 @@ Works on the files of the folder DIR, or of the current folder.
          a supervisor, under the policy as it stands then, with each mode learning
          made enforcing; a second line sums this rerun up, `rerun none` where a
          process has no domain to start in
+  gen    generates the four policy files and a trace of SIZE processes from SEED,
+         stores them, and does what step does on them, without edits, answers and
+         schedule; SEED is a number below 2^64, SIZE is 1 to 4096
 
 Files that are read: profile and domain_policy, and trace but by print, which
 have to be there; exception_policy and manager, and edits, answers and schedule
 but by print, which count as empty where they are missing. Files that are stored,
-in this order: run and audit by step and learn; profile.new,
-exception_policy.new, domain_policy.new, manager.new; run2 and audit2 by learn.
+in this order: the generated files by gen, which reads none; run and audit but
+by print; profile.new, exception_policy.new, domain_policy.new, manager.new;
+run2 and audit2 by learn.
 
 Exit statuses:
    0  done
