@@ -10,6 +10,8 @@ mod calls;
 #[cfg(test)]
 mod desk;
 #[cfg(test)]
+mod index;
+#[cfg(test)]
 mod policy;
 #[cfg(test)]
 mod policy_line;
