@@ -1,6 +1,6 @@
 //! What the words of the command line ask for.
 ghost use Rattle.std.specs.Prelude.{◌≡◌, map, string_bytes};
-ghost use Rattle.tomoyo_run.specs.Words.{is_one_of, what_is_asked};
+ghost use Rattle.tomoyo_run.specs.Words.{asked_by, asked_by_two, help_of, is_one_of, what_is_asked};
 
 use std::alloc::{AllocError, Global};
 use std::env::{Env, FillError};
@@ -14,30 +14,19 @@ usage: tomoyo_run [-C DIR] print
        tomoyo_run [-C DIR] step
        tomoyo_run [-C DIR] learn
        tomoyo_run [-C DIR] gen SEED SIZE
-       tomoyo_run help | -h | --help
+       tomoyo_run help [COMMAND] | COMMAND --help | -h | --help
        tomoyo_run -V | --version
 
 Works on the files of the folder DIR, or of the current folder.
 
-  print  loads the policy and stores it in its normal form; one line that counts
-         its domains and their entries goes to standard output
-  step   plays the trace under the policy by the schedule, learns where a profile
-         says so, and stores the run and the policy as it stands afterwards; one
-         line that sums the run up goes to standard output
-  learn  does what step does, and plays the trace again, without edits and without
-         a supervisor, under the policy as it stands then, with each mode learning
-         made enforcing; a second line sums this rerun up, `rerun none` where a
-         process has no domain to start in
-  gen    generates the four policy files and a trace of SIZE processes from SEED,
-         stores them, and does what step does on them, without edits, answers and
-         schedule; SEED is a number below 2^64, SIZE is 1 to 4096
+  print  loads the policy and stores it in its normal form
+  step   plays the trace under the policy, learns where a profile says so, and
+         stores the run and the policy as it stands afterwards
+  learn  does what step does, and plays the trace again with what was learned,
+         enforcing
+  gen    generates the policy files and a trace of SIZE trees, and plays it
 
-Files that are read: profile and domain_policy, and trace but by print, which
-have to be there; exception_policy and manager, and edits, answers and schedule
-but by print, which count as empty where they are missing. Files that are stored,
-in this order: the generated files by gen, which reads none; run and audit but
-by print; profile.new, exception_policy.new, domain_policy.new, manager.new;
-run2 and audit2 by learn.
+`tomoyo_run COMMAND --help` tells what a command reads, stores and prints.
 
 Exit statuses:
    0  done
@@ -54,17 +43,119 @@ Exit statuses:
   11  out of memory
 ";
 
+/// What `print --help` prints.
+pub const PRINT_HELP: &str = "\
+usage: tomoyo_run [-C DIR] print
+
+Loads the policy and stores it in its normal form.
+
+Reads    profile and domain_policy, which have to be there; exception_policy
+         and manager, which count as empty where they are missing
+Stores   profile.new, exception_policy.new, domain_policy.new, manager.new
+Prints   domains N entries K: the domains of the policy and their entries
+
+Exit statuses: 0 done; 2 a file can't be read, 3 is missing, 4 is too long;
+5 a line is refused, `FILE line N: REPLY` says why; 6 a domain has no profile;
+10 a file or standard output can't be written; 11 out of memory.
+";
+
+/// What `step --help` prints.
+pub const STEP_HELP: &str = "\
+usage: tomoyo_run [-C DIR] step
+
+Plays the trace under the policy by the schedule, and learns where a profile
+says so.
+
+Reads    profile, domain_policy and trace, which have to be there;
+         exception_policy, manager, edits, answers and schedule, which count
+         as empty where they are missing
+Stores   run, audit, profile.new, exception_policy.new, domain_policy.new,
+         manager.new: every decision, the audit texts, and the policy as it
+         stands afterwards
+Prints   requests R granted G denied D learned L steps S domains N clean YESNO
+         plain YESNO
+
+Exit statuses: 0 done, also where requests are denied; 2 a file can't be read,
+3 is missing, 4 is too long; 5 a line of the policy is refused; 6 a domain has
+no profile; 7 a line of the trace is refused; 8 a line of edits, answers or
+schedule is refused; 9 too many records, trees, edits, editors or turns;
+10 a file or standard output can't be written; 11 out of memory.
+";
+
+/// What `learn --help` prints.
+pub const LEARN_HELP: &str = "\
+usage: tomoyo_run [-C DIR] learn
+
+Does what step does, and plays the trace again, without edits and without a
+supervisor, under the policy as it stands then, with each mode learning of its
+profiles made enforcing.
+
+Reads    the files that step reads
+Stores   the files that step stores, and then run2 and audit2 of the second
+         play
+Prints   the line of step for the first play, and
+         rerun requests R granted G denied D steps S same YESNO
+         for the second, or `rerun none` where a process has no domain to start
+         in: then run2 and audit2 are left as they were
+
+Where the first line ends with `clean yes plain yes`, the second play grants
+every request, learns nothing, and has every process in the same domain.
+
+Exit statuses: those of step.
+";
+
+/// What `gen --help` prints.
+pub const GEN_HELP: &str = "\
+usage: tomoyo_run [-C DIR] gen SEED SIZE
+
+Generates the policy files and a trace of SIZE trees of processes, stores them,
+and does what step does on them, without edits, answers and schedule. The same
+words always make the same files. SEED is a number below 2^64, SIZE is 1 to
+4096, both decimal without leading zeros.
+
+Reads    nothing
+Stores   profile, exception_policy, domain_policy, manager and trace, over
+         those that are there, and then what step stores
+Prints   the line of step
+
+Exit statuses: 0 done; 1 bad words; 10 a file or standard output can't be
+written; 11 out of memory.
+";
+
 // The longest word that is looked at; no form of a command has a longer one.
 const LONGEST: usize = 256;
 
 // The longest name of a folder.
 const LONGEST_FOLDER: usize = 4096;
 
+/// What a help text is about.
+#[derive(Clone, Copy)]
+pub enum Topic {
+    /// All of the program.
+    All,
+    /// One command.
+    Print,
+    Step,
+    Learn,
+    Gen,
+}
+
+/// The help text about a topic.
+pub fn help_text(topic: Topic) -> &'static str {
+    match topic {
+        Topic::All => HELP,
+        Topic::Print => PRINT_HELP,
+        Topic::Step => STEP_HELP,
+        Topic::Learn => LEARN_HELP,
+        Topic::Gen => GEN_HELP,
+    }
+}
+
 /// What the words of a command line ask for.
 #[derive(Clone, Copy)]
 pub enum Asked {
-    /// The help, by `help`, `-h` or `--help`.
-    Help,
+    /// A help text: by `help`, `-h` or `--help` all of it, by `help COMMAND`, `COMMAND -h` or `COMMAND --help` one command's.
+    Help(Topic),
     /// The version, by `-V` or `--version`.
     Version,
     /// Nothing: there is no word.
@@ -146,22 +237,58 @@ fn is_one_of(word: &String, others: &[&str]) -> bool
     false
 }
 
+// What one word alone asks for.
+fn asked_by(word: &String) -> Asked
+    ensures { result ≡ asked_by (string_bytes word.now) }
+{
+    if is_one_of(word, &["help", "-h", "--help"]) {
+        Asked::Help(Topic::All)
+    } else if is_one_of(word, &["-V", "--version"]) {
+        Asked::Version
+    } else {
+        Asked::Command
+    }
+}
+
+// The help of the command that a word names.
+fn help_of(word: &String) -> Asked
+    ensures { result ≡ help_of (string_bytes word.now) }
+{
+    if is_one_of(word, &["print"]) {
+        Asked::Help(Topic::Print)
+    } else if is_one_of(word, &["step"]) {
+        Asked::Help(Topic::Step)
+    } else if is_one_of(word, &["learn"]) {
+        Asked::Help(Topic::Learn)
+    } else if is_one_of(word, &["gen"]) {
+        Asked::Help(Topic::Gen)
+    } else {
+        Asked::Command
+    }
+}
+
+// What two words ask for.
+fn asked_by_two(word: &String, next: &String) -> Asked
+    ensures { result ≡ asked_by_two (string_bytes word.now) (string_bytes next.now) }
+{
+    if is_one_of(next, &["-h", "--help"]) {
+        help_of(word)
+    } else if is_one_of(word, &["help"]) {
+        help_of(next)
+    } else {
+        Asked::Command
+    }
+}
+
 /// What the words of a command line ask for.
 pub fn what_is_asked(words: &[String]) -> Asked
     ensures { result ≡ what_is_asked (map string_bytes words.now) }
 {
     match words {
         [] => Asked::Nothing,
-        [word] => {
-            if is_one_of(word, &["help", "-h", "--help"]) {
-                Asked::Help
-            } else if is_one_of(word, &["-V", "--version"]) {
-                Asked::Version
-            } else {
-                Asked::Command
-            }
-        }
-        [_, _, ..] => Asked::Command,
+        [word] => asked_by(word),
+        [word, next] => asked_by_two(word, next),
+        [_, _, _, ..] => Asked::Command,
     }
 }
 
@@ -230,22 +357,51 @@ fn a_command_line_has_its_words_and_its_folder(rt: HostRuntime) -> Result<(), st
     assert!(rt; read.folder.as_str() == ".");
     assert_eq!(rt; read.words.len(), 1);
     assert!(rt; matches!(what_is_asked(&read.words), Asked::Command));
-    for (word, wanted) in [
-        ("-h", 'h'),
-        ("help", 'h'),
-        ("--help", 'h'),
-        ("-V", 'v'),
-        ("--version", 'v'),
-        ("-v", 'c'),
+    Ok(())
+}
+
+// The letter of what is asked.
+#[cfg(test)]
+fn letter_of(asked: Asked) -> char {
+    match asked {
+        Asked::Help(Topic::All) => 'a',
+        Asked::Help(Topic::Print) => 'p',
+        Asked::Help(Topic::Step) => 's',
+        Asked::Help(Topic::Learn) => 'l',
+        Asked::Help(Topic::Gen) => 'g',
+        Asked::Version => 'v',
+        Asked::Nothing => 'n',
+        Asked::Command => 'c',
+    }
+}
+
+#[test]
+fn one_or_two_words_ask_for_help(rt: HostRuntime) -> Result<(), std::test::Fail> {
+    let alloc = rt.alloc();
+    for (words, wanted) in [
+        (&["-h"][..], 'a'),
+        (&["help"], 'a'),
+        (&["--help"], 'a'),
+        (&["-V"], 'v'),
+        (&["--version"], 'v'),
+        (&["-v"], 'c'),
+        (&["print", "--help"], 'p'),
+        (&["step", "--help"], 's'),
+        (&["learn", "-h"], 'l'),
+        (&["gen", "--help"], 'g'),
+        (&["help", "gen"], 'g'),
+        (&["help", "step"], 's'),
+        (&["step", "help"], 'c'),
+        (&["help", "run"], 'c'),
+        (&["-h", "step"], 'c'),
+        (&["gen", "7", "--help"], 'c'),
     ] {
-        let read = line_of(alloc, &[word.as_bytes()])?;
-        let found = match what_is_asked(&read.words) {
-            Asked::Help => 'h',
-            Asked::Version => 'v',
-            Asked::Nothing => 'n',
-            Asked::Command => 'c',
-        };
-        assert!(rt; found == wanted, "at {word}");
+        let mut bytes: Vec<&[u8]> = Vec::new(alloc);
+        for word in words {
+            bytes.push(word.as_bytes())?;
+        }
+        let read = line_of(alloc, &bytes)?;
+        assert_eq!(rt; letter_of(what_is_asked(&read.words)), wanted);
     }
     Ok(())
 }

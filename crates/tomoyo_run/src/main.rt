@@ -5,7 +5,7 @@
 
 mod command_line;
 
-use crate::command_line::{Asked, HELP, VERSION, read_line, what_is_asked};
+use crate::command_line::{Asked, HELP, VERSION, help_text, read_line, what_is_asked};
 use std::alloc::Global;
 use std::io;
 use std::process::ExitCode;
@@ -36,7 +36,7 @@ fn answer<R: Runtime>(rt: &R, alloc: Global) -> Status {
         return Status::OutOfMemory;
     };
     match what_is_asked(&line.words) {
-        Asked::Help => show(rt, HELP),
+        Asked::Help(topic) => show(rt, help_text(topic)),
         Asked::Version => show(rt, VERSION),
         Asked::Nothing => show_usage(rt),
         Asked::Command => {
