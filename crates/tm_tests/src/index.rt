@@ -2,7 +2,7 @@
 ghost use Rattle.std.specs.Prelude.{IfOk};
 ghost use Rattle.tm_rules.specs.Few.{IsFew};
 
-use crate::samples::{process, read, read_line};
+use crate::samples::{entry, files, process, read};
 use std::alloc::{AllocError, Global};
 use std::test::Fail;
 use tm_index::Indexed;
@@ -14,7 +14,7 @@ use tm_types::entry::Entry;
 use tm_types::request::Request;
 use tm_types::step::{EditReply, FileKind, LearnReply, PolicyFiles};
 use tm_types::verdict::{EntryPlace, Found};
-use tm_word::{Text, Word};
+use tm_word::Word;
 
 /// The profile file of a policy that learns.
 const LEARNS: &[u8] = b"PROFILE_VERSION=20150505
@@ -34,16 +34,11 @@ fn name(alloc: Global, number: u32) -> Result<Vec<u8>, NoMemory> {
 }
 
 /// Policy files with these lines in the first domain.
-fn files(alloc: Global, lines: &[u8]) -> Result<PolicyFiles, NoMemory> {
+fn files_of(alloc: Global, lines: &[u8]) -> Result<PolicyFiles, NoMemory> {
     let mut domain = Vec::new(alloc);
     domain.extend_from_slice(b"<kernel>\nuse_profile 0\n")?;
     domain.extend_from_slice(lines)?;
-    Ok(PolicyFiles {
-        profile: Text::from_bytes(alloc, LEARNS)?,
-        exception: Text::new(alloc),
-        domain: Text::from_vec(domain),
-        manager: Text::new(alloc),
-    })
+    files(alloc, LEARNS, &domain)
 }
 
 /// So many lines, each of a name of its own.
@@ -163,22 +158,22 @@ fn tell_thrice(
 /// What is told of `/c`, which is learned.
 fn follow(alloc: Global, rep: &mut Indexed, told: &mut Vec<u32>) -> Result<(), NoMemory> {
     let name = Word::from_bytes(alloc, b"/c")?;
-    let line = read_line(alloc, b"/c", None)?;
+    let line = entry(alloc, b"file read /c")?;
     tell_thrice(alloc, rep, &name, &line, told)
 }
 
 /// A domain of three lines, with an index.
 fn three_lines(alloc: Global) -> Result<Indexed, NoMemory> {
     let lines = b"file read /a\nfile read /\\*\nnetwork inet stream connect 10.0.0.1 80\n";
-    indexed(alloc, &files(alloc, lines)?)
+    indexed(alloc, &files_of(alloc, lines)?)
 }
 
 #[test]
 fn literal_lines_are_found_as_by_a_walk(rt: HostRuntime) -> Result<(), Fail> {
-    let files = files(rt.alloc(), &lines(rt.alloc(), 5_000)?)?;
+    let files = files_of(rt.alloc(), &lines(rt.alloc(), 500)?)?;
     let walked = plain(rt.alloc(), &files)?;
     let found = indexed(rt.alloc(), &files)?;
-    assert!(rt; all_agree(rt.alloc(), &walked, &found, 5_000)?);
+    assert!(rt; all_agree(rt.alloc(), &walked, &found, 500)?);
     Ok(())
 }
 

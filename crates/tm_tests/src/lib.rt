@@ -1,45 +1,21 @@
-//! The tests of printed policies and runs, and of the top call: their calls, compared with answers that come from outside the definitions.
+//! The tests of policies with and without an index, of queries, of runs read again and of the top call where a file fails: what no row of tm_plays shows.
 //! Stands on every crate whose calls it tries, and nothing stands on it. A test of a private item stands in the crate of that item.
 //! Promises nothing; the name of each test says what it shows.
 #![tactic(auto)]
 
 #[cfg(test)]
-mod audit;
-#[cfg(test)]
 mod calls;
 #[cfg(test)]
-mod desk;
+mod copies;
 #[cfg(test)]
 mod index;
 #[cfg(test)]
 mod policy;
 #[cfg(test)]
-mod policy_line;
-#[cfg(test)]
 mod query;
-#[cfg(test)]
-mod rerun_clean;
-#[cfg(test)]
-mod rerun_summary;
-#[cfg(test)]
-mod run_printing;
 #[cfg(test)]
 mod run_reading;
 #[cfg(test)]
-mod run_steps;
-#[cfg(test)]
 mod samples;
 #[cfg(test)]
-mod script;
-#[cfg(test)]
-mod text_domains;
-#[cfg(test)]
-mod text_exceptions;
-#[cfg(test)]
-mod text_managers;
-#[cfg(test)]
-mod text_profiles;
-#[cfg(test)]
 mod top_call;
-#[cfg(test)]
-mod trace;

@@ -2,7 +2,7 @@
 ghost use Rattle.std.specs.Prelude.{IfOk};
 ghost use Rattle.tm_rules.specs.Few.{IsFew};
 
-use crate::samples::{policy, read_line};
+use crate::samples::{entry, files, policy};
 use std::alloc::{AllocError, Global};
 use std::test::Fail;
 use tm_list::{Copied, NoMemory, Seq};
@@ -10,9 +10,15 @@ use tm_policy::{
     Plain, PolicyCalls, Rep, apply_learn, apply_make, domain_at, is_few, print_entry, profile_of,
 };
 use tm_types::entry::Entry;
-use tm_types::policy::{Mode, Policy};
+use tm_types::policy::Policy;
 use tm_types::step::{LearnReply, MakeReply};
 use tm_word::bytes_equal;
+
+/// Profile 1 learns three permissions, and profile 2 enforces.
+const PROFILES: &[u8] = b"1-CONFIG={ mode=learning }
+1-PREFERENCE={ max_learning_entry=3 }
+2-CONFIG={ mode=enforcing }
+";
 
 /// The reply to a line that the first domain learns; the domain and its profile are there.
 fn learn(alloc: Global, policy: &mut Policy, line: &Entry) -> Result<LearnReply, NoMemory> {
@@ -85,40 +91,70 @@ fn a_policy_begins_with_one_domain(rt: HostRuntime) -> Result<(), Fail> {
     Ok(())
 }
 
+/// A domain that learns, with one line.
+fn learning(alloc: Global) -> Result<Policy, NoMemory> {
+    policy(
+        alloc,
+        &files(alloc, PROFILES, b"<kernel>\nuse_profile 1\nfile read /a\n")?,
+    )
+}
+
+/// A domain that enforces, with another one.
+fn enforcing(alloc: Global) -> Result<Policy, NoMemory> {
+    policy(
+        alloc,
+        &files(
+            alloc,
+            PROFILES,
+            b"<kernel>\nuse_profile 2\n<kernel> /x\nuse_profile 2\n",
+        )?,
+    )
+}
+
+/// The reply to this line, which the first domain learns.
+fn reply(alloc: Global, policy: &mut Policy, line: &str) -> Result<LearnReply, NoMemory> {
+    let line = entry(alloc, line.as_bytes())?;
+    learn(alloc, policy, &line)
+}
+
+/// The lines that are there in the end.
+const LEARNED: &[u8] = b"file read /a
+file read /b
+file read /c
+";
+
 #[test]
 fn lines_are_learned_up_to_the_quota(rt: HostRuntime) -> Result<(), Fail> {
-    let alloc = rt.alloc();
-    let mut learned = policy(alloc, Mode::Learning, None)?;
-    for (name, reply) in [
-        ("/a", LearnReply::There),
-        ("/b", LearnReply::Added),
-        ("/b", LearnReply::There),
-        ("/c", LearnReply::Added),
-        ("/d", LearnReply::Quota),
-        ("/d", LearnReply::Quota),
+    let mut learned = learning(rt.alloc())?;
+    for (line, wanted) in [
+        ("file read /a", LearnReply::There),
+        ("file read /b", LearnReply::Added),
+        ("file read /b", LearnReply::There),
+        ("file read /c", LearnReply::Added),
+        ("file read /d", LearnReply::Quota),
+        ("file read /d", LearnReply::Quota),
     ] {
-        let line = read_line(alloc, name.as_bytes(), None)?;
-        assert!(rt; learn(alloc, &mut learned, &line)? as u8 == reply as u8);
+        let found = reply(rt.alloc(), &mut learned, line)?;
+        assert!(rt; found as u8 == wanted as u8, "at {line}");
     }
-    assert_eq!(rt;
-        lines(alloc, &learned)?.as_slice(),
-        b"file read /a\nfile read /b\nfile read /c\n".as_slice()
-    );
-    let mut enforced = policy(alloc, Mode::Enforcing, None)?;
-    let line = read_line(alloc, b"/b", None)?;
-    assert!(rt; matches!(learn(alloc, &mut enforced, &line)?, LearnReply::Mode));
-    let copied = plain(learned)?.copy(alloc)?;
-    assert_eq!(rt;
-        lines(alloc, copied.policy())?.as_slice(),
-        b"file read /a\nfile read /b\nfile read /c\n".as_slice()
-    );
+    assert_eq!(rt; lines(rt.alloc(), &learned)?.as_slice(), LEARNED);
+    let copied = plain(learned)?.copy(rt.alloc())?;
+    assert_eq!(rt; lines(rt.alloc(), copied.policy())?.as_slice(), LEARNED);
+    Ok(())
+}
+
+#[test]
+fn a_domain_that_enforces_learns_nothing(rt: HostRuntime) -> Result<(), Fail> {
+    let mut enforced = enforcing(rt.alloc())?;
+    let found = reply(rt.alloc(), &mut enforced, "file read /b")?;
+    assert!(rt; matches!(found, LearnReply::Mode));
     Ok(())
 }
 
 #[test]
 fn a_domain_is_made_once(rt: HostRuntime) -> Result<(), Fail> {
     let alloc = rt.alloc();
-    let mut grown = policy(alloc, Mode::Enforcing, None)?;
+    let mut grown = enforcing(alloc)?;
     assert!(rt; matches!(make(alloc, &mut grown, b"<kernel> /y")?, MakeReply::New(2)));
     assert!(rt; matches!(make(alloc, &mut grown, b"<kernel> /y")?, MakeReply::Old(2)));
     assert!(rt; matches!(make(alloc, &mut grown, b"<kernel> /x")?, MakeReply::Old(1)));
@@ -127,7 +163,7 @@ fn a_domain_is_made_once(rt: HostRuntime) -> Result<(), Fail> {
         Some(domain) => {
             assert!(rt; bytes_equal(domain.name.bytes(), b"<kernel> /y"));
             assert!(rt; domain.live);
-            assert_eq!(rt; domain.profile, 1);
+            assert_eq!(rt; domain.profile, 2);
             assert_eq!(rt; domain.entries.len(), 0);
         }
         None => assert!(rt; false),

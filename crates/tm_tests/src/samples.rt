@@ -1,92 +1,51 @@
-//! A small policy and its requests, for the tests.
-use std::alloc::Global;
-use tm_list::{Map, NoMemory, Seq};
+//! Small policies and their lines, from texts, and requests, for the tests.
+ghost use Rattle.std.specs.Prelude.{IfOk};
+ghost use Rattle.tm_rules.specs.Few.{IsFew};
+
+use std::alloc::{AllocError, Global};
+use tm_entry::read_entry;
+use tm_list::{NoMemory, Seq};
+use tm_load::load;
 use tm_pattern::literal;
-use tm_types::entry::{Args, Cond, Entry, Perms};
-use tm_types::policy::{Config, Domain, Logs, Mode, Namespace, Policy, Profile};
+use tm_types::entry::{Args, Entry};
+use tm_types::policy::Policy;
 use tm_types::request::{Attributes, Ids, Proc, Request};
-use tm_types::unions::{Groups, NameUnion};
+use tm_types::step::PolicyFiles;
+use tm_types::unions::NameUnion;
+use tm_word::{Text, normal_words};
 
-/// The argument of a line on a file of this name.
-pub fn named(alloc: Global, name: &[u8]) -> Result<Args, NoMemory> {
-    let word = Seq::from_bytes(alloc, name)?;
-    Ok(Args::Path(NameUnion::One(literal(alloc, &word)?)))
-}
-
-/// The line `file read NAME` with this `grant_log`.
-pub fn read_line(alloc: Global, name: &[u8], grant_log: Option<bool>) -> Result<Entry, NoMemory> {
-    Ok(Entry {
-        args: named(alloc, name)?,
-        perms: Perms { bits: 2 },
-        cond: Cond {
-            clauses: Seq::new(alloc),
-            grant_log,
-        },
+/// Policy files with these profiles and these domains, and nothing else.
+pub fn files(alloc: Global, profile: &[u8], domain: &[u8]) -> Result<PolicyFiles, NoMemory> {
+    Ok(PolicyFiles {
+        profile: Text::from_bytes(alloc, profile)?,
+        exception: Text::new(alloc),
+        domain: Text::from_bytes(alloc, domain)?,
+        manager: Text::new(alloc),
     })
 }
 
-/// A profile of this mode, with both logs, which learns three permissions.
-fn profile(alloc: Global, mode: Mode) -> Profile {
-    let logs = Logs {
-        grant: true,
-        reject: true,
-    };
-    Profile {
-        comment: Seq::new(alloc),
-        max_audit_log: 1024,
-        max_learning_entry: 3,
-        config: Config { mode, logs },
-        slots: Map::new(alloc),
+/// The policy of these files.
+pub fn policy(alloc: Global, files: &PolicyFiles) -> Result<Policy, NoMemory>
+    ensures { IfOk result IsFew }
+{
+    match load(alloc, files) {
+        Ok(policy) => Ok(policy),
+        Err(_) => Err(AllocError),
     }
 }
 
-/// The namespace `<kernel>` with profile 1 of this mode, and nothing else.
-fn namespace(alloc: Global, mode: Mode) -> Result<Namespace, NoMemory> {
-    let mut profiles = Map::new(alloc);
-    profiles.put(1, profile(alloc, mode))?;
-    Ok(Namespace {
-        name: Seq::from_bytes(alloc, b"<kernel>")?,
-        profiles,
-        groups: Groups {
-            paths: Seq::new(alloc),
-            numbers: Seq::new(alloc),
-            addrs: Seq::new(alloc),
-        },
-        aggregators: Seq::new(alloc),
-        controls: Seq::new(alloc),
-        acl_groups: Map::new(alloc),
-    })
+/// The entry of a line.
+pub fn entry(alloc: Global, line: &[u8]) -> Result<Entry, NoMemory> {
+    match read_entry(alloc, &normal_words(alloc, line)?) {
+        Ok(entry) => Ok(entry),
+        Err(_) => Err(AllocError),
+    }
 }
 
-/// A domain of this name with profile 1 and one line.
-fn domain(alloc: Global, name: &[u8], line: Entry) -> Result<Domain, NoMemory> {
-    let mut entries = Seq::new(alloc);
-    entries.push(line)?;
-    Ok(Domain {
-        name: Seq::from_bytes(alloc, name)?,
-        live: true,
-        profile: 1,
-        groups: Map::new(alloc),
-        quota_exceeded: false,
-        transition_failed: false,
-        entries,
-    })
-}
-
-/// The domains `<kernel>`, with the line `file read /a` of this `grant_log`, and `<kernel> /x`, with `file read /b`; profile 1 of both has this mode.
-pub fn policy(alloc: Global, mode: Mode, grant_log: Option<bool>) -> Result<Policy, NoMemory> {
-    let mut namespaces = Seq::new(alloc);
-    namespaces.push(namespace(alloc, mode)?)?;
-    let mut domains = Seq::new(alloc);
-    domains.push(domain(alloc, b"<kernel>", read_line(alloc, b"/a", grant_log)?)?)?;
-    domains.push(domain(alloc, b"<kernel> /x", read_line(alloc, b"/b", None)?)?)?;
-    Ok(Policy {
-        namespaces,
-        domains,
-        by_non_root: false,
-        managers: Seq::new(alloc),
-        opened: true,
-    })
+/// The argument of a line on a file of this name.
+fn named(alloc: Global, name: &[u8]) -> Result<Args, NoMemory> {
+    let word = Seq::from_bytes(alloc, name)?;
+    Ok(Args::Path(NameUnion::One(literal(alloc, &word)?)))
 }
 
 /// A read of this file.
