@@ -1,12 +1,10 @@
-//! The tests of printed policies and runs, and of the top call: their calls, compared with answers that come from outside the definitions.
+//! The tests of printed policies and runs: their calls, compared with answers that come from outside the definitions.
 //! Stands on every crate whose calls it tries, and nothing stands on it. A test of a private item stands in the crate of that item.
 //! Promises nothing; the name of each test says what it shows.
 #![tactic(auto)]
 
 #[cfg(test)]
 mod audit;
-#[cfg(test)]
-mod calls;
 #[cfg(test)]
 mod desk;
 #[cfg(test)]
@@ -39,7 +37,5 @@ mod text_exceptions;
 mod text_managers;
 #[cfg(test)]
 mod text_profiles;
-#[cfg(test)]
-mod top_call;
 #[cfg(test)]
 mod trace;
