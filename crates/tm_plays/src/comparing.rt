@@ -25,6 +25,8 @@ pub enum Difference {
     Other(FileName, u64),
     /// Standard output, from this line on.
     Put(u64),
+    /// How it ends, or what it changes, where so many first bytes of a file are left.
+    Cut(FileName, u64),
 }
 
 impl fmt::Display for Difference {
@@ -38,6 +40,9 @@ impl fmt::Display for Difference {
             Difference::Stored(name) => write!(f, "{name} is stored"),
             Difference::Other(name, line) => write!(f, "{name} differs at line {line}"),
             Difference::Put(line) => write!(f, "standard output differs at line {line}"),
+            Difference::Cut(name, count) => {
+                write!(f, "{name} isn't read so when cut to {count} bytes")
+            }
         }
     }
 }

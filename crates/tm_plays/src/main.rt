@@ -1,9 +1,13 @@
 //! Plays worked rows: calls over files in memory, each with all that is expected of it, from the one table `rows`.
-//! Stands on the top call of tomoyo, and on tm_io, whose shelf and sink in memory it hands in.
+//! Stands on the top call of tomoyo, on tm_io, whose shelf and sink in memory it hands in, and on the readers, with whose answers it
+//! compares how calls on cut files end.
 //! Promises that a row counts as agreeing exactly where its status, its standard output and each of its files are as it says.
 #![tactic(auto)]
 
+mod answers;
+mod calls;
 mod comparing;
+mod cutting;
 mod faults;
 mod lines;
 mod playing;

@@ -1,26 +1,19 @@
 //! Rows played, and what is said of those that differ.
+use crate::calls::play;
 use crate::comparing::{Difference, differences};
-use crate::row::{Row, files_of};
+use crate::cutting::cuts_that_differ;
+use crate::row::Row;
 use std::alloc::Global;
-use tm_io::{MemoryShelf, MemorySink};
 use tm_list::NoMemory;
-use tomoyo::{Status, run_alone};
 
-// How a call ended, and what it left.
-#[derive(Drop)]
-struct Played {
-    status: Status,
-    shelf: MemoryShelf,
-    out: MemorySink,
-}
-
-// Makes the call of a row.
-fn play(alloc: Global, row: &Row) -> Result<Played, NoMemory> {
-    let files = files_of(alloc, &row.files)?;
-    let mut shelf = MemoryShelf::new(alloc, files, Vec::new(alloc));
-    let mut out = MemorySink::new(alloc, Vec::new(alloc));
-    let status = run_alone(alloc, &row.words, &mut shelf, &mut out);
-    Ok(Played { status, shelf, out })
+// How a row differs: its call, or its cuts where it has files to cut.
+fn row_differs(alloc: Global, row: &Row) -> Result<Vec<Difference>, NoMemory> {
+    if !row.cuts.is_empty() {
+        return cuts_that_differ(alloc, row);
+    }
+    let played = play(alloc, row)?;
+    let put = played.out.bytes();
+    differences(alloc, row, played.status, &played.shelf, put)
 }
 
 // Appends the line that is said of a row that differs.
@@ -42,9 +35,7 @@ fn push_differences(
 
 // Plays a row, says how it differs, and answers whether it agrees.
 fn judge_row(alloc: Global, row: &Row, out: &mut Vec<u8>) -> Result<bool, NoMemory> {
-    let played = play(alloc, row)?;
-    let put = played.out.bytes();
-    let found = differences(alloc, row, played.status, &played.shelf, put)?;
+    let found = row_differs(alloc, row)?;
     if found.is_empty() {
         return Ok(true);
     }

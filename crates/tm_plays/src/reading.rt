@@ -1,6 +1,7 @@
 //! The table, read. A row begins with a line `row NAME` and ends with a line `end`. Between them stand, in any order:
 //! `words WORD..` the words of the call; `in FILE HOW` bytes of a file that the call finds; `status NUMBER LINE` the exit status, and
-//! the line that is said of it where it isn't 0; `out FILE HOW` bytes of a file that the call stores; `put HOW` bytes of standard
+//! the line that is said of it where it isn't 0; `fails call NUMBER` and `fails put NUMBER`, which fetch or store and which put fails, from 0;
+//! `cuts FILE`, a file that is cut after each number of its bytes; `out FILE HOW` bytes of a file that the call stores; `put HOW` bytes of standard
 //! output. HOW is `LENGTH`, or `COPIES times LENGTH`, or `COPIES numbered LENGTH`, and after its line come so many bytes and the end
 //! of a line. The pieces of a file stand in it in their order, and so many copies of each; in a numbered one, the number of the copy,
 //! from 1, stands for each `%`. Between rows, empty lines and lines that begin with `#` say nothing.
@@ -132,6 +133,43 @@ fn status_at(alloc: Global, words: &[u8]) -> Result<(u8, Text), Wrong> {
     }
 }
 
+// Which call or which put fails.
+fn read_failing(row: &mut Row, words: &[u8]) -> Result<(), Wrong> {
+    let (kind, last) = cut_word(words);
+    if bytes_equal(kind, b"call") {
+        row.failing_calls.push(number(last)?)?;
+        return Ok(());
+    }
+    if bytes_equal(kind, b"put") {
+        row.failing_puts.push(number(last)?)?;
+        return Ok(());
+    }
+    Err(Wrong::Kind(Kind::Word))
+}
+
+// Reads a line of a row that announces no bytes, and answers whether it is one.
+fn read_short(alloc: Global, row: &mut Row, key: &[u8], words: &[u8]) -> Result<bool, Wrong> {
+    if bytes_equal(key, b"words") {
+        row.words = words_of(alloc, words)?;
+        return Ok(true);
+    }
+    if bytes_equal(key, b"status") {
+        let (status, said) = status_at(alloc, words)?;
+        row.status = status;
+        row.said = said;
+        return Ok(true);
+    }
+    if bytes_equal(key, b"fails") {
+        read_failing(row, words)?;
+        return Ok(true);
+    }
+    if bytes_equal(key, b"cuts") {
+        row.cuts.push(file_named(alloc, words)?)?;
+        return Ok(true);
+    }
+    Ok(false)
+}
+
 // Reads a line of a row, and the bytes that it announces; gives what follows.
 fn read_line<'a>(
     alloc: Global,
@@ -142,14 +180,7 @@ fn read_line<'a>(
     ensures { IfOk result (λ next. length next.now ≤ length rest.now) }
 {
     let (key, words) = cut_word(line);
-    if bytes_equal(key, b"words") {
-        row.words = words_of(alloc, words)?;
-        return Ok(rest);
-    }
-    if bytes_equal(key, b"status") {
-        let (status, said) = status_at(alloc, words)?;
-        row.status = status;
-        row.said = said;
+    if read_short(alloc, row, key, words)? {
         return Ok(rest);
     }
     if bytes_equal(key, b"in") {

@@ -37,13 +37,20 @@ pub struct Piece {
     pub bytes: Text,
 }
 
-/// A row: the words of a call and the files that it finds, and what is expected of it. A file that is neither there nor expected has
-/// no piece; a file that is expected as it was has none among the stored ones.
+/// A row: the words of a call, the files that it finds and what of it is to fail, and what is expected of it. A file that is neither
+/// there nor expected has no piece; a file that is expected as it was has none among the stored ones. Where there are files to cut, the
+/// row is their cuts, and nothing else is expected of it.
 #[derive(Drop)]
 pub struct Row {
     pub name: Text,
     pub words: Vec<String>,
     pub files: Vec<(FileName, Piece)>,
+    /// The numbers of the fetches and stores that fail, from 0.
+    pub failing_calls: Vec<u32>,
+    /// The numbers of the puts that fail, from 0.
+    pub failing_puts: Vec<u32>,
+    /// The files that are cut.
+    pub cuts: Vec<FileName>,
     pub status: u8,
     pub said: Text,
     pub stored: Vec<(FileName, Piece)>,
@@ -57,6 +64,9 @@ impl Row {
             name,
             words: Vec::new(alloc),
             files: Vec::new(alloc),
+            failing_calls: Vec::new(alloc),
+            failing_puts: Vec::new(alloc),
+            cuts: Vec::new(alloc),
             status: 0,
             said: Text::new(alloc),
             stored: Vec::new(alloc),

@@ -1,10 +1,8 @@
-//! The tests of policies with and without an index, of queries, of runs read again and of the top call where a file fails: what no row of tm_plays shows.
+//! The tests of policies with and without an index, of queries and of runs read again: what no row of tm_plays shows.
 //! Stands on every crate whose calls it tries, and nothing stands on it. A test of a private item stands in the crate of that item.
 //! Promises nothing; the name of each test says what it shows.
 #![tactic(auto)]
 
-#[cfg(test)]
-mod calls;
 #[cfg(test)]
 mod copies;
 #[cfg(test)]
@@ -17,5 +15,3 @@ mod query;
 mod run_reading;
 #[cfg(test)]
 mod samples;
-#[cfg(test)]
-mod top_call;
