@@ -3,6 +3,7 @@ pub mod BucketLaws
 pub mod PlaceLaws
 pub mod ListingLaws
 pub mod NameLaws
+pub mod StemLaws
 pub mod SearchLaws
 pub mod IndexLaws
 pub mod FoundLaws

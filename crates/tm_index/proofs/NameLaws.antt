@@ -55,7 +55,7 @@ unfolding name_in
 name-apart groups (NameUnion.One p) w name h apart = rw (pattern-apart p w name h apart) refl
 name-apart groups (NameUnion.Group group) w name h apart = absurd cc
 
-when-none : {A : Type 0} (b : Bool) (o : Option A) → o ≡ None → when b o ≡ None
+pub when-none : {A : Type 0} (b : Bool) (o : Option A) → o ≡ None → when b o ≡ None
 when-none true o e = e
 when-none false o e = refl
 

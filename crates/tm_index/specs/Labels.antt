@@ -1,4 +1,4 @@
--- By what an entry is found: the literal that its first name argument is, and the words of its line.
+-- By what an entry is found: the literal that its first name argument is, its stem, and the words of its line.
 use Rattle.std.specs.Prelude.{Bool, false, ◌&&◌, ◌++◌, Option, Some, None, if◌then◌else◌}
 use Rattle.std.specs.Option.{option_and_then, option_map_or}
 use Rattle.tm_word.specs.Words.{Text, Word, Pattern}
@@ -13,6 +13,7 @@ use Rattle.tm_types.specs.declared.entry.Perms.{Perms}
 use Rattle.tm_rules.specs.Requests.{is_literal}
 use Rattle.tm_cond.specs.Reading.{cond_words}
 use Rattle.tm_entry.specs.Entries.{acl_words}
+use Rattle.tm_index.specs.Stems.{stem_of}
 use Rattle.tm_index.specs.declared.label.Label.{Label}
 
 -- the pattern of a name argument, where it is no group
@@ -59,4 +60,4 @@ line_key entry = joined (acl_words entry.args one_permission) ++ spaced (cond_wo
 
 -- what an entry is found by
 unfoldable pub label_of : Entry → Label
-label_of entry = record { name = literal_of entry.args; key = line_key entry }
+label_of entry = record { name = literal_of entry.args; stem = stem_of entry.args; key = line_key entry }

@@ -1,4 +1,5 @@
 pub mod Buckets
+pub mod Stems
 pub mod Labels
 pub mod Listing
 pub mod Candidates

@@ -8,6 +8,7 @@ ghost use Rattle.tm_types.specs.Request.{joined_bytes};
 ghost use Rattle.tm_rules.specs.Equality.{patterns_equal};
 ghost use Rattle.tm_index.specs.Labels.{pattern_of, first_pattern, literal_name, literal_of, line_key, label_of};
 
+use crate::stems::stem_of;
 use std::alloc::Global;
 use tm_cond::print_cond;
 use tm_entry::print_acl;
@@ -17,11 +18,12 @@ use tm_types::entry::{Args, Entry, Perms};
 use tm_types::unions::NameUnion;
 use tm_word::{Component, Element, Pattern, Text, Word};
 
-/// What an entry is found by: the literal that its first name argument is, and the printed words of its arguments and its condition,
-/// which equal lines share.
+/// What an entry is found by: the literal that its first name argument is, its stem, and the printed words of its arguments and its
+/// condition, which equal lines share.
 #[derive(Drop)]
 pub(crate) struct Label {
     pub(crate) name: Option<Word>,
+    pub(crate) stem: Option<Text>,
     pub(crate) key: Text,
 }
 
@@ -158,6 +160,7 @@ pub(crate) fn label_of(alloc: Global, entry: &Entry) -> Result<Label, NoMemory>
     ensures { IfOk result (λ label. label ≡ label_of entry.now) }
 {
     let name = literal_of(alloc, &entry.args)?;
+    let stem = stem_of(alloc, &entry.args)?;
     let key = line_key(alloc, entry)?;
-    Ok(Label { name, key })
+    Ok(Label { name, stem, key })
 }
