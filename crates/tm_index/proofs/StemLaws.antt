@@ -1,7 +1,7 @@
 -- An entry with a stem that a request hasn't doesn't grant it.
-use Rattle.std.proofs.Common.{◌≡◌, ℕ, ◌≤◌, ◌==◌, Bool, true, false, ◌&&◌, ◌||◌, not, if◌then◌else◌, List, [], ◌∷◌, refl, sym, ap, subst, ◌∙◌, arith}
+use Rattle.std.proofs.Common.{◌≡◌, ◌==◌, Bool, true, false, ◌&&◌, ◌||◌, not, if◌then◌else◌, List, [], ◌∷◌, refl, sym, ap, subst, ◌∙◌, arith}
 use Rattle.std.proofs.lemmas.Bool.{and_parts, leb-true}
-use Rattle.std.specs.Prelude.{Option, Some, None, is_some, nat_le, slice_get}
+use Rattle.std.specs.Prelude.{Option, Some, None, is_some, slice_get}
 use Rattle.std.specs.Option.{option_or, option_map_or}
 use Rattle.std.specs.List.{list_any}
 use Rattle.tm_word.specs.Words.{Text, Word}
@@ -22,9 +22,9 @@ use Rattle.tm_rules.specs.Condition.{holds}
 use Rattle.tm_rules.specs.Policy.{has_permission}
 use Rattle.tm_rules.specs.Search.{when, args_grant, grants, number_value, addr_value}
 use Rattle.tm_rules.proofs.EqualityLaws.{same_addrs, same_texts}
-use Rattle.tm_index.specs.Stems.{addr_stem, union_stem, stem_of, addr_asked, addr_stems, stems_asked}
+use Rattle.tm_index.specs.Stems.{addr_stem, union_stem, stem_of, addr_asked, stems_asked}
 use Rattle.tm_index.specs.Labels.{literal_of}
-use Rattle.tm_index.specs.Listing.{has_no_name, has_stem, has_neither}
+use Rattle.tm_index.specs.Listing.{has_neither}
 use Rattle.tm_index.specs.Candidates.{is_wanted, has_some_stem}
 use Rattle.tm_index.proofs.NameLaws.{when-none, other-literal}
 

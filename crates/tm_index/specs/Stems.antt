@@ -1,5 +1,5 @@
 -- Stems: by what an entry without a literal name is found. An entry that has one grants only requests that have it too.
-use Rattle.std.specs.Prelude.{ℕ, List, [], ◌∷◌, Option, Some, None, if◌then◌else◌}
+use Rattle.std.specs.Prelude.{List, [], ◌∷◌, Option, Some, None, if◌then◌else◌}
 use Rattle.std.specs.Int.{to_be_bytes, w32, w128}
 use Rattle.tm_word.specs.Words.{Text}
 use Rattle.tm_number.specs.declared.Addr.{Addr}
