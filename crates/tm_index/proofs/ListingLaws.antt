@@ -14,7 +14,8 @@ use Rattle.tm_rules.proofs.EqualityLaws.{lines_are_same, same_texts}
 use Rattle.tm_entries.proofs.Edits.{place_within, joined_entry, left_entry, adding_last, adding_at, deleting_none, deleting_out, deleting_at}
 use Rattle.tm_index.specs.declared.label.Label.{Label}
 use Rattle.tm_index.specs.Stems.{stem_of}
-use Rattle.tm_index.specs.Labels.{literal_of, line_key, label_of}
+use Rattle.tm_index.specs.Names.{literal_of}
+use Rattle.tm_index.specs.Labels.{line_key, label_of}
 use Rattle.tm_index.specs.Buckets.{Places, placing, front}
 use Rattle.tm_index.specs.Listing.{Listed, with_name, with_other, noting_name, noting_stem, noting_line, noting, closed, places_from, listing, has_name, has_no_name, has_stem, has_neither, has_key, holds_at, has_all}
 use Rattle.tm_index.proofs.BucketLaws.{noted_taken, front_pushed}

@@ -20,7 +20,7 @@ use Rattle.tm_rules.specs.Policy.{has_permission}
 use Rattle.tm_rules.specs.Requests.{is_literal}
 use Rattle.tm_rules.specs.Search.{when, args_grant, grants, number_value}
 use Rattle.tm_rules.proofs.EqualityLaws.{same_patterns, same_texts}
-use Rattle.tm_index.specs.Labels.{pattern_of, literal_name, literal_of}
+use Rattle.tm_index.specs.Names.{pattern_of, literal_name, literal_of}
 use Rattle.tm_index.specs.Listing.{has_no_name}
 use Rattle.tm_index.specs.Candidates.{is_wanted}
 

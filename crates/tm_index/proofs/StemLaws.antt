@@ -4,29 +4,33 @@ use Rattle.std.proofs.lemmas.Bool.{and_parts, leb-true}
 use Rattle.std.specs.Prelude.{Option, Some, None, is_some, slice_get}
 use Rattle.std.specs.Option.{option_or, option_map_or}
 use Rattle.std.specs.List.{list_any}
-use Rattle.tm_word.specs.Words.{Text, Word}
+use Rattle.tm_word.specs.Words.{Text, Word, Pattern}
 use Rattle.tm_word.specs.Texts.{texts_equal}
+use Rattle.tm_word.specs.Matching.{matches}
+use Rattle.tm_word.specs.Printing.{literal_word}
 use Rattle.tm_number.specs.declared.Addr.{Addr}
 use Rattle.tm_number.specs.declared.AddrRange.{AddrRange}
 use Rattle.tm_number.specs.Addresses.{addr_le, addr_range_has}
-use Rattle.tm_types.specs.Request.{argument_words}
+use Rattle.tm_types.specs.Request.{name_value, argument_words}
 use Rattle.tm_types.specs.declared.unions.AddrUnion.{AddrUnion}
+use Rattle.tm_types.specs.declared.unions.NameUnion.{NameUnion}
 use Rattle.tm_types.specs.declared.unions.Groups.{Groups}
 use Rattle.tm_types.specs.declared.entry.Args.{Args}
 use Rattle.tm_types.specs.declared.entry.Entry.{Entry}
 use Rattle.tm_types.specs.declared.request.Proc.{Proc}
 use Rattle.tm_types.specs.declared.request.Request.{Request}
 use Rattle.tm_rules.specs.Equality.{addrs_equal, inet_place}
-use Rattle.tm_rules.specs.Group.{number_in, addr_in}
+use Rattle.tm_rules.specs.Group.{name_in, number_in, addr_in}
 use Rattle.tm_rules.specs.Condition.{holds}
 use Rattle.tm_rules.specs.Policy.{has_permission}
 use Rattle.tm_rules.specs.Search.{when, args_grant, grants, number_value, addr_value}
 use Rattle.tm_rules.proofs.EqualityLaws.{same_addrs, same_texts}
-use Rattle.tm_index.specs.Stems.{addr_stem, union_stem, stem_of, addr_asked, stems_asked}
-use Rattle.tm_index.specs.Labels.{literal_of}
+use Rattle.tm_index.specs.Stems.{addr_stem, union_stem, pattern_stem, addr_of, stem_by, stem_of, name_stems, stems_asked}
+use Rattle.tm_index.specs.Names.{pattern_of, first_pattern, literal_of}
 use Rattle.tm_index.specs.Listing.{has_neither}
 use Rattle.tm_index.specs.Candidates.{is_wanted, has_some_stem}
 use Rattle.tm_index.proofs.NameLaws.{when-none, other-literal}
+use Rattle.tm_index.proofs.FrontLaws.{pattern_stemmed}
 
 -- between an address and itself there is no other
 between : (low a : Addr) → addr_le low a ≡ true → addr_le a low ≡ true → a ≡ low
@@ -69,23 +73,46 @@ when-false : {A : Type 0} (b : Bool) (o : Option A) → b ≡ false → when b o
 when-false false o e = refl
 when-false true o e = absurd cc
 
+-- a pattern of another stem doesn't match the name
+pattern-unstemmed : (p : Pattern) (s : Text) (name : Word) → pattern_stem p ≡ Some s → list_any (λ t. texts_equal t s) (name_stems name) ≡ false → matches p name ≡ false
+pattern-unstemmed p s name h apart = go (matches p name) refl
+  where
+    go : (b : Bool) → matches p name ≡ b → matches p name ≡ false
+    go false e = e
+    go true e = let among = pattern_stemmed p s name h e in absurd cc
+
+name-unstemmed : (g : Groups) (n : NameUnion) (s : Text) (name : Word) → stem_by (pattern_of n) None ≡ Some s → list_any (λ t. texts_equal t s) (name_stems name) ≡ false → name_in g n name ≡ None
+unfolding name_in
+name-unstemmed g (NameUnion.One p) s name h apart = rw (pattern-unstemmed p s name h apart) refl
+name-unstemmed g (NameUnion.Group group) s name h apart = absurd cc
+
 -- a request that hasn't the stem of a line isn't granted by it
-args-unstemmed : (g : Groups) (a r : Args) (s : Text) → stem_of a ≡ Some s → list_any (λ t. texts_equal t s) (stems_asked r) ≡ false → args_grant g a r ≡ None
-unfolding args_grant stem_of stems_asked addr_asked
+args-unstemmed : (g : Groups) (a r : Args) (s : Text) → stem_by (first_pattern a) (addr_of a) ≡ Some s → list_any (λ t. texts_equal t s) (stems_asked r) ≡ false → args_grant g a r ≡ None
+unfolding args_grant stems_asked
+args-unstemmed g (Args.Path n) (Args.Path n') s h apart = name-unstemmed g n s (name_value n') h apart
+args-unstemmed g (Args.Execute n prefer) (Args.Path n') s h apart = name-unstemmed g n s (name_value n') h apart
+args-unstemmed g (Args.PathNumber n k) (Args.PathNumber n' k') s h apart = when-none (number_in g k (number_value k')) (name_in g n (name_value n')) (name-unstemmed g n s (name_value n') h apart)
+args-unstemmed g (Args.Device n a b c) (Args.Device n' a' b' c') s h apart =
+    when-none (number_in g a (number_value a') && number_in g b (number_value b') && number_in g c (number_value c')) (name_in g n (name_value n')) (name-unstemmed g n s (name_value n') h apart)
+args-unstemmed g (Args.Path2 n m) (Args.Path2 n' m') s h apart = when-none (is_some (name_in g m (name_value m'))) (name_in g n (name_value n')) (name-unstemmed g n s (name_value n') h apart)
+args-unstemmed g (Args.Mount d p k f) (Args.Mount d' p' k' f') s h apart =
+    when-none (is_some (name_in g p (name_value p')) && is_some (name_in g k (name_value k')) && number_in g f (number_value f')) (name_in g d (name_value d')) (name-unstemmed g d s (name_value d') h apart)
+args-unstemmed g (Args.Unix k n) (Args.Unix k' n') s h apart = when-none _ (name_in g n (name_value n')) (name-unstemmed g n s (name_value n') h apart)
+args-unstemmed g (Args.Env p) (Args.Env p') s h apart = rw (pattern-unstemmed p s (literal_word p') h apart) refl
 args-unstemmed g (Args.Inet k u p) (Args.Inet k' u' p') s h apart =
     when-false (inet_place k == inet_place k' && addr_in g u (addr_value u') && number_in g p (number_value p')) _
     (middle-false (inet_place k == inet_place k') (addr_in g u (addr_value u')) (number_in g p (number_value p'))
     (union-apart g u s (addr_value u') h (or-false (texts_equal (addr_stem (addr_value u')) s) apart)))
-args-unstemmed g (Args.Path n) r s h apart = absurd cc
-args-unstemmed g (Args.Execute n prefer) r s h apart = absurd cc
-args-unstemmed g (Args.PathNumber n k) r s h apart = absurd cc
-args-unstemmed g (Args.Device n a b c) r s h apart = absurd cc
-args-unstemmed g (Args.Path2 n m) r s h apart = absurd cc
-args-unstemmed g (Args.Mount d p k f) r s h apart = absurd cc
-args-unstemmed g (Args.Unix k n) r s h apart = absurd cc
-args-unstemmed g (Args.Env p) r s h apart = absurd cc
 args-unstemmed g (Args.Manual d) r s h apart = absurd cc
-args-unstemmed g (Args.Inet k u p) _ s h apart = refl
+args-unstemmed g _ _ s h apart = refl
+
+open-stem : (b : Bool) (o : Option Text) (s : Text) → (if b then None else o) ≡ Some s → o ≡ Some s
+open-stem false o s h = h
+open-stem true o s h = absurd cc
+
+stem-open : (args : Args) (s : Text) → stem_of args ≡ Some s → stem_by (first_pattern args) (addr_of args) ≡ Some s
+unfolding stem_of
+stem-open args s h = open-stem (is_some (literal_of args)) (stem_by (first_pattern args) (addr_of args)) s h
 
 some-stem : (entry : Entry) (s : Text) → stem_of entry.args ≡ Some s → (stems : List Text) → has_some_stem stems entry ≡ list_any (λ t. texts_equal t s) stems
 some-stem entry s e [] = refl
@@ -107,4 +134,4 @@ looked-past groups process request name entry e past = go (stem_of entry.args) r
     go None f k = other-literal groups process request name entry e past.named k
     go (Some s) f k =
         when-none (has_permission entry.perms.bits request.perm && holds entry.cond groups process request) (args_grant groups entry.args request.args)
-        (args-unstemmed groups entry.args request.args s f (sym (some-stem entry s f (stems_asked request.args)) ∙ past.stemmed))
+        (args-unstemmed groups entry.args request.args s (stem-open entry.args s f) (sym (some-stem entry s f (stems_asked request.args)) ∙ past.stemmed))

@@ -1,5 +1,5 @@
 -- What is found first at lists of places.
-use Rattle.std.specs.Prelude.{ℕ, Bool, false, List, [], ◌∷◌, Option, Some, None, if◌then◌else◌, nat_lt, option_map, slice_get}
+use Rattle.std.specs.Prelude.{ℕ, Bool, false, List, [], ◌∷◌, Option, Some, None, if◌then◌else◌, nat_lt, option_map, slice_get, get_or, take, ◌==◌}
 use Rattle.std.specs.Option.{option_and_then}
 use Rattle.std.specs.List.{list_any}
 use Rattle.tm_word.specs.Words.{Text, Word}
@@ -35,6 +35,11 @@ sooner (Some x) (Some y) = if nat_lt y.0 x.0 then Some y else Some x
 abbrev pub soonest : Groups → Proc → Request → List Entry → Option (ℕ × NamePlace) → List (List ℕ) → Option (ℕ × NamePlace)
 soonest groups process request entries found [] = found
 soonest groups process request entries found (places ∷ lists) = soonest groups process request entries (sooner found (first_at groups process request entries places)) lists
+
+-- the sooner of what was found and of what is found first at the places of the bytes before this one, where it is a slash
+abbrev pub sooner_at : Groups → Proc → Request → List Entry → Places → Word → ℕ → Option (ℕ × NamePlace) → Option (ℕ × NamePlace)
+sooner_at groups process request entries places name end found =
+    if get_or name end 0 == 47 then sooner found (first_at groups process request entries (places (take end name))) else found
 
 -- the places of a name; none without a name
 abbrev pub places_named : Places → Option Word → List ℕ

@@ -7,7 +7,8 @@ use Rattle.tm_types.specs.declared.entry.Entry.{Entry}
 use Rattle.tm_rules.specs.Policy.{same_line}
 use Rattle.tm_index.specs.Buckets.{Places, places_at, with_place, closing}
 use Rattle.tm_index.specs.Stems.{stem_of}
-use Rattle.tm_index.specs.Labels.{is_named, is_literally_named, literal_of, line_key}
+use Rattle.tm_index.specs.Names.{is_named, is_literally_named, literal_of}
+use Rattle.tm_index.specs.Labels.{line_key}
 use Rattle.tm_index.specs.declared.label.Label.{Label}
 use Rattle.tm_index.specs.declared.list.ListIndex.{ListIndex}
 

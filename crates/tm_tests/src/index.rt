@@ -196,7 +196,7 @@ fn reads_agree(alloc: Global, walked: &Plain, found: &Indexed) -> Result<bool, N
     requires walked { IsFew walked.now }
     requires found { IsFew found.now }
 {
-    let wanted: [(&[u8], bool); 12] = [
+    let wanted: [(&[u8], bool); 13] = [
         (b"/var/lib/x.1", true),
         (b"/var/lib/x.y", false),
         (b"/var/lib/x/y.1", false),
@@ -208,7 +208,8 @@ fn reads_agree(alloc: Global, walked: &Plain, found: &Indexed) -> Result<bool, N
         (b"/usr/lib/c", false),
         (b"a/c", true),
         (b"abc", true),
-        (b"", false),
+        (b"a.c", false),
+        (b"", true),
     ];
     for (name, there) in wanted.iter() {
         if !agree(walked, found, &read(alloc, name)?, *there) {
