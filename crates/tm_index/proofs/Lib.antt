@@ -3,6 +3,9 @@ pub mod BucketLaws
 pub mod PlaceLaws
 pub mod ListingLaws
 pub mod NameLaws
+pub mod FrontLaws
+pub mod WalkLaws
+pub mod StemLaws
 pub mod SearchLaws
 pub mod IndexLaws
 pub mod FoundLaws

@@ -5,34 +5,54 @@ use Rattle.std.proofs.lemmas.Bool.{and_parts}
 use Rattle.std.proofs.lemmas.List.{get_or_default}
 use Rattle.std.specs.Prelude.{Option, Some, None, is_some, IfSome, bit_and}
 use Rattle.std.specs.List.{position_from, find, list_any, remove}
-use Rattle.std.specs.Option.{option_map_or}
-use Rattle.tm_word.specs.Words.{Word}
+use Rattle.std.specs.Option.{option_or, option_map_or}
+use Rattle.tm_word.specs.Words.{Text, Word}
 use Rattle.tm_word.specs.Texts.{texts_equal}
 use Rattle.tm_types.specs.declared.entry.Entry.{Entry}
 use Rattle.tm_rules.specs.Policy.{same_line, has_line, adding, deleting, without_permissions}
 use Rattle.tm_rules.proofs.EqualityLaws.{lines_are_same, same_texts}
 use Rattle.tm_entries.proofs.Edits.{place_within, joined_entry, left_entry, adding_last, adding_at, deleting_none, deleting_out, deleting_at}
 use Rattle.tm_index.specs.declared.label.Label.{Label}
-use Rattle.tm_index.specs.Labels.{literal_of, line_key, label_of}
+use Rattle.tm_index.specs.Stems.{stem_of}
+use Rattle.tm_index.specs.Names.{literal_of}
+use Rattle.tm_index.specs.Labels.{line_key, label_of}
 use Rattle.tm_index.specs.Buckets.{Places, placing, front}
-use Rattle.tm_index.specs.Listing.{Listed, with_name, with_other, noting_name, noting, closed, places_from, listing, has_name, has_no_name, has_key, holds_at, has_all}
+use Rattle.tm_index.specs.Listing.{Listed, with_name, with_other, noting_name, noting_stem, noting_line, noting, closed, places_from, listing, has_name, has_no_name, has_stem, has_neither, has_key, holds_at, has_all}
 use Rattle.tm_index.proofs.BucketLaws.{noted_taken, front_pushed}
 use Rattle.tm_index.proofs.PlaceLaws.{place_if, places_more, places_set, places_closed, position_at_places, any_at_places}
 
-pub listed_equal : (x y : Listed) → x.named ≡ y.named → x.others ≡ y.others → x.lines ≡ y.lines → x ≡ y
-listed_equal x y a b c = λ i. record { named = a i; others = b i; lines = c i }
+pub listed_equal : (x y : Listed) → x.named ≡ y.named → x.others ≡ y.others → x.stemmed ≡ y.stemmed → x.rest ≡ y.rest → x.lines ≡ y.lines → x ≡ y
+listed_equal x y a b c d e = λ i. record { named = a i; others = b i; stemmed = c i; rest = d i; lines = e i }
 
 -- the last place of a name is taken out again
-pub name_taken : (name : Word) (place : ℕ) (named after lines : Places) (others : List ℕ) (before : Listed) → (let x : Listed = record { named = named; others = others; lines = lines } in x ≡ noting_name (Some name) place before) → after ≡ placing name (front (named name)) named
-    → (let y : Listed = record { named = after; others = others; lines = lines } in y ≡ before)
-name_taken name place named after lines others before e h =
-    listed_equal (record { named = after; others = others; lines = lines }) before (noted_taken name place before.named named after (ap (λ (x : Listed). x.named) e) h) (ap (λ (x : Listed). x.others) e) (ap (λ (x : Listed). x.lines) e)
+pub name_taken : (name : Word) (place : ℕ) (after : Places) (old before : Listed) → old ≡ noting_name (Some name) place before → after ≡ placing name (front (old.named name)) old.named → (record old { named = after }) ≡ before
+name_taken name place after old before e h =
+    listed_equal (record old { named = after }) before (noted_taken name place before.named old.named after (ap (λ (x : Listed). x.named) e) h) (ap (λ (x : Listed). x.others) e) (ap (λ (x : Listed). x.stemmed) e)
+    (ap (λ (x : Listed). x.rest) e) (ap (λ (x : Listed). x.lines) e)
 
 -- the last place without a name is
-pub other_taken : (place : ℕ) (named lines : Places) (others after : List ℕ) (before : Listed) → (let x : Listed = record { named = named; others = others; lines = lines } in x ≡ noting_name None place before) → after ≡ front others
-    → (let y : Listed = record { named = named; others = after; lines = lines } in y ≡ before)
-other_taken place named lines others after before e h =
-    listed_equal (record { named = named; others = after; lines = lines }) before (ap (λ (x : Listed). x.named) e) (h ∙ ap (λ (x : Listed). front x.others) e ∙ front_pushed before.others place) (ap (λ (x : Listed). x.lines) e)
+pub other_taken : (place : ℕ) (after : List ℕ) (old before : Listed) → old ≡ noting_name None place before → after ≡ front old.others → (record old { others = after }) ≡ before
+other_taken place after old before e h =
+    listed_equal (record old { others = after }) before (ap (λ (x : Listed). x.named) e) (h ∙ ap (λ (x : Listed). front x.others) e ∙ front_pushed before.others place) (ap (λ (x : Listed). x.stemmed) e)
+    (ap (λ (x : Listed). x.rest) e) (ap (λ (x : Listed). x.lines) e)
+
+-- the last place of a stem is
+pub stem_taken : (name : Option Word) (stem : Text) (place : ℕ) (after : Places) (old before : Listed) → old ≡ noting_stem name (Some stem) place before → after ≡ placing stem (front (old.stemmed stem)) old.stemmed → (record old { stemmed = after }) ≡ before
+stem_taken name stem place after old before e h =
+    listed_equal (record old { stemmed = after }) before (ap (λ (x : Listed). x.named) e) (ap (λ (x : Listed). x.others) e)
+    (noted_taken stem place before.stemmed old.stemmed after (ap (λ (x : Listed). x.stemmed) e) h) (ap (λ (x : Listed). x.rest) e) (ap (λ (x : Listed). x.lines) e)
+
+-- the last place with neither is
+pub rest_taken : (place : ℕ) (after : List ℕ) (old before : Listed) → old ≡ noting_stem None None place before → after ≡ front old.rest → (record old { rest = after }) ≡ before
+rest_taken place after old before e h =
+    listed_equal (record old { rest = after }) before (ap (λ (x : Listed). x.named) e) (ap (λ (x : Listed). x.others) e) (ap (λ (x : Listed). x.stemmed) e)
+    (h ∙ ap (λ (x : Listed). front x.rest) e ∙ front_pushed before.rest place) (ap (λ (x : Listed). x.lines) e)
+
+-- the last place of a line's words is
+pub line_taken : (key : Text) (place : ℕ) (after : Places) (old before : Listed) → old ≡ noting_line key place before → after ≡ placing key (front (old.lines key)) old.lines → (record old { lines = after }) ≡ before
+line_taken key place after old before e h =
+    listed_equal (record old { lines = after }) before (ap (λ (x : Listed). x.named) e) (ap (λ (x : Listed). x.others) e) (ap (λ (x : Listed). x.stemmed) e) (ap (λ (x : Listed). x.rest) e)
+    (noted_taken key place before.lines old.lines after (ap (λ (x : Listed). x.lines) e) h)
 
 -- An entry more, last
 
@@ -59,6 +79,7 @@ unfolding noting listing label_of
 listing_more entry entries =
     let zero_plus : 0 + length entries ≡ length entries = omega arith in
     let name = literal_of entry.args in
+    let stem = stem_of entry.args in
     let key = line_key entry in
     listed_equal (noting (label_of entry) (length entries) (listing entries)) (listing (entries ++ entry ∷ []))
     (fun_ext (λ word.
@@ -66,6 +87,11 @@ listing_more entry entries =
     ∙ ap (λ n. places_from (has_name word) 0 entries ++ place_if (has_name word entry) n) (sym zero_plus)
     ∙ sym (places_more (has_name word) 0 entries entry)))
     (sym (others-more name (length entries) (places_from has_no_name 0 entries)) ∙ ap (λ n. places_from has_no_name 0 entries ++ place_if (has_no_name entry) n) (sym zero_plus) ∙ sym (places_more has_no_name 0 entries entry))
+    (fun_ext (λ text.
+    sym (named-more stem (length entries) (λ w. places_from (has_stem w) 0 entries) text)
+    ∙ ap (λ n. places_from (has_stem text) 0 entries ++ place_if (has_stem text entry) n) (sym zero_plus)
+    ∙ sym (places_more (has_stem text) 0 entries entry)))
+    (sym (others-more (option_or stem name) (length entries) (places_from has_neither 0 entries)) ∙ ap (λ n. places_from has_neither 0 entries ++ place_if (has_neither entry) n) (sym zero_plus) ∙ sym (places_more has_neither 0 entries entry))
     (fun_ext (λ text.
     sym (named-more (Some key) (length entries) (λ w. places_from (has_key w) 0 entries) text)
     ∙ ap (λ n. places_from (has_key text) 0 entries ++ place_if (has_key text entry) n) (sym zero_plus)
@@ -78,15 +104,18 @@ pub listing_closed : (k : ℕ) (entries : List Entry) → k < length entries →
 unfolding closed listing
 listing_closed k entries less =
     listed_equal (closed k (listing entries)) (listing (remove entries k)) (fun_ext (λ word. places_closed (has_name word) k entries less)) (places_closed has_no_name k entries less)
+    (fun_ext (λ text. places_closed (has_stem text) k entries less)) (places_closed has_neither k entries less)
     (fun_ext (λ text. places_closed (has_key text) k entries less))
 
 -- other permissions change no place
 pub listing_set : (entries : List Entry) (k bits : ℕ) (e : Entry) → e ≡ get_or entries k e → listing (slice_set entries k (left_entry e bits)) ≡ listing entries
-unfolding listing literal_of line_key
+unfolding listing literal_of stem_of line_key
 listing_set entries k bits e is =
     listed_equal (listing (slice_set entries k (left_entry e bits))) (listing entries)
     (fun_ext (λ word. places_set (has_name word) 0 entries k (left_entry e bits) e (ap (has_name word) is)))
     (places_set has_no_name 0 entries k (left_entry e bits) e (ap has_no_name is))
+    (fun_ext (λ text. places_set (has_stem text) 0 entries k (left_entry e bits) e (ap (has_stem text) is)))
+    (places_set has_neither 0 entries k (left_entry e bits) e (ap has_neither is))
     (fun_ext (λ text. places_set (has_key text) 0 entries k (left_entry e bits) e (ap (has_key text) is)))
 
 -- Where a line stands

@@ -10,7 +10,7 @@ use Rattle.tm_types.specs.declared.entry.Entry.{Entry}
 use Rattle.tm_rules.specs.Requests.{is_literal}
 use Rattle.tm_index.specs.declared.list.ListIndex.{ListIndex}
 use Rattle.tm_index.specs.Buckets.{places_at}
-use Rattle.tm_index.specs.Labels.{first_pattern, is_named, is_literally_named, literal_name, literal_of}
+use Rattle.tm_index.specs.Names.{first_pattern, is_named, is_literally_named, literal_name, literal_of}
 use Rattle.tm_index.specs.Listing.{Listed, listed, listing, places_from, has_name, has_no_name, literal_places, other_places}
 use Rattle.tm_index.proofs.NameLaws.{literal-matches}
 

@@ -20,7 +20,7 @@ use Rattle.tm_rules.specs.Policy.{has_permission}
 use Rattle.tm_rules.specs.Requests.{is_literal}
 use Rattle.tm_rules.specs.Search.{when, args_grant, grants, number_value}
 use Rattle.tm_rules.proofs.EqualityLaws.{same_patterns, same_texts}
-use Rattle.tm_index.specs.Labels.{pattern_of, literal_name, literal_of}
+use Rattle.tm_index.specs.Names.{pattern_of, literal_name, literal_of}
 use Rattle.tm_index.specs.Listing.{has_no_name}
 use Rattle.tm_index.specs.Candidates.{is_wanted}
 
@@ -55,7 +55,7 @@ unfolding name_in
 name-apart groups (NameUnion.One p) w name h apart = rw (pattern-apart p w name h apart) refl
 name-apart groups (NameUnion.Group group) w name h apart = absurd cc
 
-when-none : {A : Type 0} (b : Bool) (o : Option A) → o ≡ None → when b o ≡ None
+pub when-none : {A : Type 0} (b : Bool) (o : Option A) → o ≡ None → when b o ≡ None
 when-none true o e = e
 when-none false o e = refl
 

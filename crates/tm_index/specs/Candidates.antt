@@ -1,7 +1,8 @@
--- What is found first at two lists of places.
-use Rattle.std.specs.Prelude.{ℕ, Bool, false, List, [], Option, Some, None, if◌then◌else◌, nat_lt, option_map, slice_get}
+-- What is found first at lists of places.
+use Rattle.std.specs.Prelude.{ℕ, Bool, false, List, [], ◌∷◌, Option, Some, None, if◌then◌else◌, nat_lt, option_map, slice_get, get_or, take, ◌==◌}
 use Rattle.std.specs.Option.{option_and_then}
-use Rattle.tm_word.specs.Words.{Word}
+use Rattle.std.specs.List.{list_any}
+use Rattle.tm_word.specs.Words.{Text, Word}
 use Rattle.tm_types.specs.declared.unions.Groups.{Groups}
 use Rattle.tm_types.specs.declared.unions.NamePlace.{NamePlace}
 use Rattle.tm_types.specs.declared.entry.Entry.{Entry}
@@ -10,7 +11,7 @@ use Rattle.tm_types.specs.declared.request.Request.{Request}
 use Rattle.tm_rules.specs.Condition.{first_of_all}
 use Rattle.tm_rules.specs.Search.{grants}
 use Rattle.tm_index.specs.Buckets.{Places}
-use Rattle.tm_index.specs.Listing.{has_name}
+use Rattle.tm_index.specs.Listing.{has_name, has_stem}
 
 -- what the element at a place has
 abbrev pub at_place : {A B : Type 0} → (ℕ → A → Option B) → List A → ℕ → Option B
@@ -30,6 +31,16 @@ sooner None y = y
 sooner (Some x) None = Some x
 sooner (Some x) (Some y) = if nat_lt y.0 x.0 then Some y else Some x
 
+-- the soonest of what was found and of what is found first at each of these lists of places
+abbrev pub soonest : Groups → Proc → Request → List Entry → Option (ℕ × NamePlace) → List (List ℕ) → Option (ℕ × NamePlace)
+soonest groups process request entries found [] = found
+soonest groups process request entries found (places ∷ lists) = soonest groups process request entries (sooner found (first_at groups process request entries places)) lists
+
+-- the sooner of what was found and of what is found first at the places of the bytes before this one, where it is a slash
+abbrev pub sooner_at : Groups → Proc → Request → List Entry → Places → Word → ℕ → Option (ℕ × NamePlace) → Option (ℕ × NamePlace)
+sooner_at groups process request entries places name end found =
+    if get_or name end 0 == 47 then sooner found (first_at groups process request entries (places (take end name))) else found
+
 -- the places of a name; none without a name
 abbrev pub places_named : Places → Option Word → List ℕ
 places_named places None = []
@@ -39,3 +50,7 @@ places_named places (Some name) = places name
 abbrev pub is_wanted : Option Word → Entry → Bool
 is_wanted None entry = false
 is_wanted (Some name) entry = has_name name entry
+
+-- an entry of one of these stems
+abbrev pub has_some_stem : List Text → Entry → Bool
+has_some_stem stems entry = list_any (λ stem. has_stem stem entry) stems

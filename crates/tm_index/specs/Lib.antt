@@ -1,4 +1,6 @@
 pub mod Buckets
+pub mod Names
+pub mod Stems
 pub mod Labels
 pub mod Listing
 pub mod Candidates

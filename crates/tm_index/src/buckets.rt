@@ -1,5 +1,5 @@
 //! Places by key: a map from keys to rising lists of places.
-ghost use Rattle.std.specs.Prelude.{◌≡◌, ℕ, List, [], drop, filter, map, not, ◌==◌, OnOk, OnErr};
+ghost use Rattle.std.specs.Prelude.{◌≡◌, ℕ, List, [], true, drop, filter, map, not, ◌==◌, OnOk, OnErr};
 ghost use Rattle.tm_index.specs.Buckets.{places_at, placing, with_place, front, lowered, closing};
 
 use indexmap::IndexMap;
@@ -30,6 +30,13 @@ impl Buckets {
         Buckets {
             lists: IndexMap::new(alloc),
         }
+    }
+
+    /// Whether there is no key.
+    pub(crate) fn is_empty(&self) -> bool
+        ensures { result ≡ true → self.now ≡ [] }
+    {
+        self.lists.is_empty()
     }
 
     /// Lends the places of a key.

@@ -6,8 +6,10 @@ ghost use Rattle.tm_word.specs.declared.Component.{Component};
 ghost use Rattle.tm_word.specs.Printing.{element_bytes, literal_word};
 ghost use Rattle.tm_types.specs.Request.{joined_bytes};
 ghost use Rattle.tm_rules.specs.Equality.{patterns_equal};
-ghost use Rattle.tm_index.specs.Labels.{pattern_of, first_pattern, literal_name, literal_of, line_key, label_of};
+ghost use Rattle.tm_index.specs.Names.{pattern_of, first_pattern, literal_name, literal_of};
+ghost use Rattle.tm_index.specs.Labels.{line_key, label_of};
 
+use crate::stems::stem_of;
 use std::alloc::Global;
 use tm_cond::print_cond;
 use tm_entry::print_acl;
@@ -17,11 +19,12 @@ use tm_types::entry::{Args, Entry, Perms};
 use tm_types::unions::NameUnion;
 use tm_word::{Component, Element, Pattern, Text, Word};
 
-/// What an entry is found by: the literal that its first name argument is, and the printed words of its arguments and its condition,
-/// which equal lines share.
+/// What an entry is found by: the literal that its first name argument is, its stem, and the printed words of its arguments and its
+/// condition, which equal lines share.
 #[derive(Drop)]
 pub(crate) struct Label {
     pub(crate) name: Option<Word>,
+    pub(crate) stem: Option<Text>,
     pub(crate) key: Text,
 }
 
@@ -35,8 +38,8 @@ fn pattern_of(name: &NameUnion) -> Option<&Pattern>
     }
 }
 
-// The pattern of the first name argument of a line.
-fn first_pattern(args: &Args) -> Option<&Pattern>
+/// The pattern of the first name argument of a line.
+pub(crate) fn first_pattern(args: &Args) -> Option<&Pattern>
     ensures { option_copied result ≡ first_pattern args.now }
 {
     match args {
@@ -103,12 +106,12 @@ fn literal_bytes(alloc: Global, pattern: &[Component]) -> Result<Vec<u8>, NoMemo
     }
 }
 
-// The name that a pattern would be, were it a literal.
+/// The name that these components would be, were they a literal. Errors: want of memory.
 #[tactic(auto, using(tm_types::proofs::Literals::literal_components))]
-fn literal_word(alloc: Global, pattern: &Pattern) -> Result<Word, NoMemory>
+pub(crate) fn literal_word(alloc: Global, pattern: &[Component]) -> Result<Word, NoMemory>
     ensures { IfOk result (λ word. word ≡ literal_word pattern.now) }
 {
-    Ok(Seq::from_vec(literal_bytes(alloc, pattern.as_slice())?))
+    Ok(Seq::from_vec(literal_bytes(alloc, pattern)?))
 }
 
 // Whether two patterns are equal.
@@ -122,7 +125,7 @@ fn patterns_equal(left: &Pattern, right: &Pattern) -> bool
 fn literal_name(alloc: Global, pattern: &Pattern) -> Result<Option<Word>, NoMemory>
     ensures { IfOk result (λ name. name ≡ literal_name pattern.now) }
 {
-    let word = literal_word(alloc, pattern)?;
+    let word = literal_word(alloc, pattern.as_slice())?;
     if patterns_equal(pattern, &literal(alloc, &word)?) {
         Ok(Some(word))
     } else {
@@ -131,7 +134,7 @@ fn literal_name(alloc: Global, pattern: &Pattern) -> Result<Option<Word>, NoMemo
 }
 
 // The name that the first name argument is, where it is a literal.
-#[tactic(auto, unfolding(crate::specs::Labels::literal_of))]
+#[tactic(auto, unfolding(crate::specs::Names::literal_of))]
 fn literal_of(alloc: Global, args: &Args) -> Result<Option<Word>, NoMemory>
     ensures { IfOk result (λ name. name ≡ literal_of args.now) }
 {
@@ -158,6 +161,7 @@ pub(crate) fn label_of(alloc: Global, entry: &Entry) -> Result<Label, NoMemory>
     ensures { IfOk result (λ label. label ≡ label_of entry.now) }
 {
     let name = literal_of(alloc, &entry.args)?;
+    let stem = stem_of(alloc, &entry.args, name.is_some())?;
     let key = line_key(alloc, entry)?;
-    Ok(Label { name, key })
+    Ok(Label { name, stem, key })
 }

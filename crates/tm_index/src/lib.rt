@@ -19,5 +19,6 @@ mod quiet;
 mod removing;
 mod search;
 mod settings;
+mod stems;
 
 pub use indexed::Indexed;

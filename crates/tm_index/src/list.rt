@@ -5,7 +5,7 @@ ghost use Rattle.tm_types.specs.declared.entry.Entry.{Entry};
 ghost use Rattle.tm_rules.specs.Few.{IsShort};
 ghost use Rattle.tm_rules.specs.Policy.{has_line, same_line};
 ghost use Rattle.std.specs.Option.{option_copied};
-ghost use Rattle.tm_index.specs.Listing.{Listed, listed, listing, noting_name, noting, closed, holds_at, has_all};
+ghost use Rattle.tm_index.specs.Listing.{Listed, listed, listing, noting_name, noting_stem, noting_rest, noting, closed, holds_at, has_all};
 ghost use Rattle.tm_index.specs.Labels.{label_of};
 
 use crate::buckets::{Buckets, close};
@@ -14,14 +14,16 @@ use std::alloc::Global;
 use tm_list::{NoMemory, Seq};
 use tm_rules::same_line;
 use tm_types::entry::Entry;
-use tm_word::Word;
+use tm_word::{Text, Word};
 
-/// Where the entries of a list stand: by the literal that the first name argument is, those without one, and by the words of their
-/// lines. Places are from 0 and rise.
+/// Where the entries of a list stand: by the literal that the first name argument is, those without one, by their stem, those with
+/// neither, and by the words of their lines. Places are from 0 and rise.
 #[derive(Drop)]
 pub(crate) struct ListIndex {
     pub(crate) named: Buckets,
     pub(crate) others: Seq<u32>,
+    pub(crate) stemmed: Buckets,
+    pub(crate) rest: Seq<u32>,
     pub(crate) lines: Buckets,
 }
 
@@ -34,6 +36,8 @@ impl ListIndex {
         ListIndex {
             named: Buckets::new(alloc),
             others: Seq::new(alloc),
+            stemmed: Buckets::new(alloc),
+            rest: Seq::new(alloc),
             lines: Buckets::new(alloc),
         }
     }
@@ -63,6 +67,68 @@ impl ListIndex {
         }
     }
 
+    // Notes a place under a stem, or among those with neither a stem nor a name.
+    fn note_stem(
+        &mut self,
+        alloc: Global,
+        name: Option<&Word>,
+        stem: Option<&Text>,
+        place: u32,
+    ) -> Result<(), NoMemory>
+        ensures done { OnOk result (listed self.new ≡
+            noting_stem (option_copied name.entry) (option_copied stem.entry) place (listed self.old)) }
+        ensures kept { OnErr result (listed self.new ≡ listed self.old) }
+    {
+        match stem {
+            Some(stem) => self.stemmed.note(alloc, stem.bytes(), place),
+            None => match name {
+                Some(_) => Ok(()),
+                None => self.rest.push(place),
+            },
+        }
+    }
+
+    // Takes the last place out that stands under a stem, or among those with neither.
+    fn take_stem(&mut self, name: Option<&Word>, stem: Option<&Text>)
+        ensures { (before : Listed) → (place : ℕ) →
+            listed self.old ≡ noting_stem (option_copied name.entry) (option_copied stem.entry) place before →
+            listed self.new ≡ before }
+    {
+        match stem {
+            Some(stem) => self.stemmed.take_last(stem.bytes()),
+            None => match name {
+                Some(_) => {}
+                None => {
+                    let _ = self.rest.pop();
+                }
+            },
+        }
+    }
+
+    // Notes a place under a stem and under the words of a line.
+    fn note_rest(&mut self, alloc: Global, place: u32, label: &Label) -> Result<(), NoMemory>
+        ensures done { OnOk result (listed self.new ≡ noting_rest label.now place (listed self.old)) }
+        ensures kept { OnErr result (listed self.new ≡ listed self.old) }
+    {
+        self.note_stem(alloc, label.name.as_ref(), label.stem.as_ref(), place)?;
+        match self.lines.note(alloc, label.key.bytes(), place) {
+            Ok(()) => Ok(()),
+            Err(fault) => {
+                self.take_stem(label.name.as_ref(), label.stem.as_ref());
+                Err(fault)
+            }
+        }
+    }
+
+    // Takes that out again.
+    fn take_rest(&mut self, label: &Label)
+        ensures { (before : Listed) → (place : ℕ) →
+            listed self.old ≡ noting_rest label.now place before → listed self.new ≡ before }
+    {
+        self.take_stem(label.name.as_ref(), label.stem.as_ref());
+        self.lines.take_last(label.key.bytes());
+    }
+
     /// Notes an entry that stands last, at this place. After want of memory the index is as before.
     #[tactic(auto, unfolding(crate::specs::Listing::noting))]
     pub(crate) fn note(&mut self, alloc: Global, place: u32, label: &Label) -> Result<(), NoMemory>
@@ -70,7 +136,7 @@ impl ListIndex {
         ensures kept { OnErr result (listed self.new ≡ listed self.old) }
     {
         self.note_name(alloc, label.name.as_ref(), place)?;
-        match self.lines.note(alloc, label.key.bytes(), place) {
+        match self.note_rest(alloc, place, label) {
             Ok(()) => Ok(()),
             Err(fault) => {
                 self.take_name(label.name.as_ref());
@@ -85,7 +151,7 @@ impl ListIndex {
             listed self.old ≡ noting label.now place before → listed self.new ≡ before }
     {
         self.take_name(label.name.as_ref());
-        self.lines.take_last(label.key.bytes());
+        self.take_rest(label);
     }
 
     /// The entry at this place is gone: those after it move up.
@@ -94,6 +160,8 @@ impl ListIndex {
     {
         self.named.close(place);
         close(&mut self.others, place);
+        self.stemmed.close(place);
+        close(&mut self.rest, place);
         self.lines.close(place);
     }
 

@@ -1,5 +1,6 @@
-//! The search for the first entry that grants a request, at the places of the request's name and at those without one.
-ghost use Rattle.std.specs.Prelude.{◌≡◌, ℕ, List, [], true, Option, Some, IsSome, option_map, slice_get, unwrap_or};
+//! The search for the first entry that grants a request: at the places of the request's name, at those of its stems, and at those with
+//! neither a name nor a stem.
+ghost use Rattle.std.specs.Prelude.{◌≡◌, ◌<◌, ℕ, List, [], length, map, take, true, None, Option, Some, IsSome, option_map, slice_get, unwrap_or};
 ghost use Rattle.std.specs.Option.{option_copied, option_map_or};
 ghost use Rattle.tm_types.specs.declared.policy.Domain.{Domain};
 ghost use Rattle.tm_types.specs.Request.{argument_words};
@@ -9,16 +10,19 @@ ghost use Rattle.tm_rules.specs.Policy.{domain_at};
 ghost use Rattle.tm_rules.specs.Search.{placed, found};
 ghost use Rattle.tm_policy.specs.Searching.{asked_as, place_in, found_in};
 ghost use Rattle.tm_index.specs.Buckets.{places_at};
+ghost use Rattle.tm_index.specs.Stems.{addr_stem, addr_of, stem_room, name_stems, stems_by, stems_asked};
 ghost use Rattle.tm_index.specs.Listing.{listed, listing};
 ghost use Rattle.tm_index.specs.Index.{told, telling, IsIndexOf};
-ghost use Rattle.tm_index.specs.Candidates.{at_place, granted, first_at, sooner, places_named};
+ghost use Rattle.tm_index.specs.Candidates.{at_place, granted, first_at, sooner, soonest, sooner_at, places_named};
 ghost use Rattle.tm_index.specs.Known.{list_in, list_of, known, found_in_list};
 
 use crate::index::Index;
 use crate::list::ListIndex;
+use crate::stems::{STEM_ROOM, addr_of, addr_value};
 use tm_domain::namespace;
 use tm_list::Map;
 use tm_namespaces::namespace_place;
+use tm_number::Addr;
 use tm_policy::{ListSearch, entry_grants, place_in, search_domain};
 use tm_types::entry::Entry;
 use tm_types::policy::{Domain, Policy};
@@ -110,7 +114,144 @@ fn places_named<'a>(list: &'a ListIndex, name: Option<&Word>) -> &'a [u32]
     }
 }
 
-// What is found first in a list, at the places of the name and at those without one.
+// The places of an address.
+fn places_of_addr(list: &ListIndex, addr: Addr) -> &[u32]
+    ensures { result.now ≡ places_at list.now.stemmed (addr_stem addr) }
+{
+    match addr {
+        Addr::V4(number) => list.stemmed.get(&number.to_be_bytes()),
+        Addr::V6(number) => list.stemmed.get(&number.to_be_bytes()),
+    }
+}
+
+// The sooner of what was found and of what is found at the places of the stem that ends at this byte, where it is a slash.
+fn sooner_at(
+    list: &ListIndex,
+    groups: &Groups,
+    process: &Proc,
+    request: &Request,
+    path: Option<&Word>,
+    entries: &[Entry],
+    name: &[u8],
+    end: usize,
+    found: Option<(u32, NamePlace)>,
+) -> Option<(u32, NamePlace)>
+    requires few { IsShort groups.now.paths }
+    requires execute { IsSome (option_copied path) → is_execute request.now ≡ true }
+    requires within { end < length name.now }
+    ensures { result ≡ sooner_at groups.now process.now (asked_as request.now (option_copied path.entry)) entries.now
+        (places_at list.now.stemmed) name.now end found }
+{
+    if name[end] == b'/' {
+        let places = list.stemmed.get(&name[..end]);
+        let next = first_at(groups, process, request, path, entries, places);
+        sooner(found, next)
+    } else {
+        found
+    }
+}
+
+// The soonest of what was found and of what is found at the places of the stems of a name.
+fn soonest_of_name(
+    list: &ListIndex,
+    groups: &Groups,
+    process: &Proc,
+    request: &Request,
+    path: Option<&Word>,
+    entries: &[Entry],
+    name: &[u8],
+    found: Option<(u32, NamePlace)>,
+) -> Option<(u32, NamePlace)>
+    requires few { IsShort groups.now.paths }
+    requires execute { IsSome (option_copied path) → is_execute request.now ≡ true }
+    ensures { result ≡ soonest groups.now process.now (asked_as request.now (option_copied path.entry)) entries.now found
+        (map (places_at list.now.stemmed) (name_stems name.now)) }
+{
+    let mut soonest = found;
+    for end in 0..name.len() {
+        soonest = sooner_at(
+            list, groups, process, request, path, entries, name, end, soonest,
+        );
+    }
+    let places = list.stemmed.get(name);
+    let last = first_at(groups, process, request, path, entries, places);
+    sooner(soonest, last)
+}
+
+// The first bytes of a name, among which all its stems end that an entry can have.
+#[tactic(auto, using(crate::proofs::WalkLaws::front_whole))]
+fn front_of(name: &[u8]) -> &[u8]
+    ensures { result.now ≡ take stem_room name.now }
+{
+    if name.len() < STEM_ROOM {
+        name
+    } else {
+        &name[..STEM_ROOM]
+    }
+}
+
+// The soonest of what was found and of what is found at the places of an address.
+fn soonest_of_addr(
+    list: &ListIndex,
+    groups: &Groups,
+    process: &Proc,
+    request: &Request,
+    path: Option<&Word>,
+    entries: &[Entry],
+    found: Option<(u32, NamePlace)>,
+) -> Option<(u32, NamePlace)>
+    requires few { IsShort groups.now.paths }
+    requires execute { IsSome (option_copied path) → is_execute request.now ≡ true }
+    ensures { result ≡ soonest groups.now process.now (asked_as request.now (option_copied path.entry)) entries.now found
+        (map (places_at list.now.stemmed) (stems_by None (addr_of request.now.args))) }
+{
+    match addr_of(request.args()) {
+        Some(addr) => {
+            let places = places_of_addr(list, addr_value(addr));
+            let next = first_at(groups, process, request, path, entries, places);
+            sooner(found, next)
+        }
+        None => found,
+    }
+}
+
+// The soonest of what was found and of what is found at the places of the request's stems.
+#[tactic(auto, unfolding(crate::specs::Stems::stems_asked))]
+fn soonest_stemmed(
+    list: &ListIndex,
+    groups: &Groups,
+    process: &Proc,
+    request: &Request,
+    path: Option<&Word>,
+    name: Option<&Word>,
+    entries: &[Entry],
+    found: Option<(u32, NamePlace)>,
+) -> Option<(u32, NamePlace)>
+    requires few { IsShort groups.now.paths }
+    requires execute { IsSome (option_copied path) → is_execute request.now ≡ true }
+    requires name { option_copied name ≡ slice_get (argument_words (asked_as request.now (option_copied path)).args) 0 }
+    ensures { result ≡ soonest groups.now process.now (asked_as request.now (option_copied path.entry)) entries.now found
+        (map (places_at list.now.stemmed) (stems_asked (asked_as request.now (option_copied path.entry)).args)) }
+{
+    if list.stemmed.is_empty() {
+        return found;
+    }
+    match name {
+        Some(name) => soonest_of_name(
+            list,
+            groups,
+            process,
+            request,
+            path,
+            entries,
+            front_of(name.bytes()),
+            found,
+        ),
+        None => soonest_of_addr(list, groups, process, request, path, entries, found),
+    }
+}
+
+// What is found first in a list: at the places of the name, at those with neither a name nor a stem, and at those of the stems.
 #[tactic(auto, using(crate::proofs::FoundLaws::search_found))]
 fn first_listed(
     list: &ListIndex,
@@ -130,10 +271,11 @@ fn first_listed(
         (placed (place_in group) 0 entries.now) }
 {
     let named = places_named(list, name);
-    let others = list.others.as_slice();
+    let rest = list.rest.as_slice();
     let first = first_at(groups, process, request, path, entries, named);
-    let second = first_at(groups, process, request, path, entries, others);
-    match sooner(first, second) {
+    let second = first_at(groups, process, request, path, entries, rest);
+    let found = sooner(first, second);
+    match soonest_stemmed(list, groups, process, request, path, name, entries, found) {
         Some((place, name)) => Some(Found {
             place: place_in(group, place),
             name,

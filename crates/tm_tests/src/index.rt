@@ -2,17 +2,18 @@
 ghost use Rattle.std.specs.Prelude.{IfOk};
 ghost use Rattle.tm_rules.specs.Few.{IsFew};
 
-use crate::samples::{entry, files, process, read};
+use crate::samples::{entry, files, process, read, request};
 use std::alloc::{AllocError, Global};
 use std::test::Fail;
 use tm_index::Indexed;
 use tm_list::NoMemory;
 use tm_load::{load, load_indexed};
-use tm_number::{Base, Number, write_number};
+use tm_number::{Addr, AddrRange, Base, Number, Range, write_number};
 use tm_policy::{Plain, Rep, domain_at, is_few, profile_of};
-use tm_types::entry::Entry;
+use tm_types::entry::{Args, Entry, InetKind};
 use tm_types::request::Request;
 use tm_types::step::{EditReply, FileKind, LearnReply, PolicyFiles};
+use tm_types::unions::{AddrUnion, NumberUnion};
 use tm_types::verdict::{EntryPlace, Found};
 use tm_word::Word;
 
@@ -50,6 +51,36 @@ fn lines(alloc: Global, count: u32) -> Result<Vec<u8>, NoMemory> {
         lines.push(b'\n')?;
     }
     Ok(lines)
+}
+
+/// Lines of which none has a literal name.
+const NAMELESS: &[u8] = b"network inet stream connect 10.0.0.2 81
+network inet stream connect 10.0.0.1 80
+network inet stream connect 10.0.0.4-10.0.0.5 80
+network inet stream connect ::1 80-81
+network inet dgram send 10.0.0.6 80
+file read /var/lib/\\*.\\$
+file read /var/\\{\\*\\}/a
+file read /usr/\\(lib\\)/b
+file read \\*/c
+file read \\@
+";
+
+/// A connect of a stream to port 80 of this address.
+fn connect(alloc: Global, addr: Addr) -> Result<Request, NoMemory> {
+    let port = Number {
+        value: 80,
+        base: Base::Decimal,
+    };
+    let addr = AddrUnion::One(AddrRange {
+        low: addr,
+        high: addr,
+    });
+    let port = NumberUnion::One(Range {
+        low: port,
+        high: port,
+    });
+    request(alloc, Args::Inet(InetKind::Stream, addr, port), 2)
 }
 
 /// The policy of these files, with an index.
@@ -131,6 +162,58 @@ fn all_agree(alloc: Global, walked: &Plain, found: &Indexed, count: u32) -> Resu
     Ok(agree(walked, found, &request, false))
 }
 
+/// Whether they agree on connects to addresses, some of which are there.
+fn connects_agree(alloc: Global, walked: &Plain, found: &Indexed) -> Result<bool, NoMemory>
+    requires walked { IsFew walked.now }
+    requires found { IsFew found.now }
+{
+    let wanted = [
+        (Addr::V4(0x0a00_0001), true),
+        (Addr::V4(0x0a00_0002), false),
+        (Addr::V4(0x0a00_0003), false),
+        (Addr::V4(0x0a00_0004), true),
+        (Addr::V4(0x0a00_0005), true),
+        (Addr::V4(0x0a00_0006), false),
+        (Addr::V6(1), true),
+        (Addr::V6(0x0a00_0001), false),
+        (Addr::V4(1), false),
+    ];
+    for (addr, there) in wanted.iter() {
+        if !agree(walked, found, &connect(alloc, *addr)?, *there) {
+            return Ok(false);
+        }
+    }
+    Ok(true)
+}
+
+/// Whether they agree on reads of names, some of which a pattern matches.
+fn reads_agree(alloc: Global, walked: &Plain, found: &Indexed) -> Result<bool, NoMemory>
+    requires walked { IsFew walked.now }
+    requires found { IsFew found.now }
+{
+    let wanted: [(&[u8], bool); 13] = [
+        (b"/var/lib/x.1", true),
+        (b"/var/lib/x.y", false),
+        (b"/var/lib/x/y.1", false),
+        (b"/var/lib", false),
+        (b"/var/a/b/a", true),
+        (b"/var/a", false),
+        (b"/usr/b", true),
+        (b"/usr/lib/lib/b", true),
+        (b"/usr/lib/c", false),
+        (b"a/c", true),
+        (b"abc", true),
+        (b"a.c", false),
+        (b"", true),
+    ];
+    for (name, there) in wanted.iter() {
+        if !agree(walked, found, &read(alloc, name)?, *there) {
+            return Ok(false);
+        }
+    }
+    Ok(true)
+}
+
 /// Appends the places of a name, a 99, the other places, and a 99.
 fn tell(rep: &Indexed, name: &Word, told: &mut Vec<u32>) -> Result<(), NoMemory> {
     told.extend_from_slice(rep.literal_places(0, None, name))?;
@@ -174,6 +257,16 @@ fn literal_lines_are_found_as_by_a_walk(rt: HostRuntime) -> Result<(), Fail> {
     let walked = plain(rt.alloc(), &files)?;
     let found = indexed(rt.alloc(), &files)?;
     assert!(rt; all_agree(rt.alloc(), &walked, &found, 500)?);
+    Ok(())
+}
+
+#[test]
+fn lines_without_a_literal_name_are_found_as_by_a_walk(rt: HostRuntime) -> Result<(), Fail> {
+    let files = files_of(rt.alloc(), NAMELESS)?;
+    let walked = plain(rt.alloc(), &files)?;
+    let found = indexed(rt.alloc(), &files)?;
+    assert!(rt; connects_agree(rt.alloc(), &walked, &found)?);
+    assert!(rt; reads_agree(rt.alloc(), &walked, &found)?);
     Ok(())
 }
 

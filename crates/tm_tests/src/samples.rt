@@ -50,6 +50,11 @@ fn named(alloc: Global, name: &[u8]) -> Result<Args, NoMemory> {
 
 /// A read of this file.
 pub fn read(alloc: Global, name: &[u8]) -> Result<Request, NoMemory> {
+    request(alloc, named(alloc, name)?, 1)
+}
+
+/// A request with these arguments and the permission at this place, and nothing recorded besides.
+pub fn request(alloc: Global, args: Args, perm: u8) -> Result<Request, NoMemory> {
     let attributes = Attributes {
         real_path: None,
         argv: Seq::new(alloc),
@@ -57,7 +62,7 @@ pub fn read(alloc: Global, name: &[u8]) -> Result<Request, NoMemory> {
         target: None,
         stats: Seq::new(alloc),
     };
-    Request::new(alloc, named(alloc, name)?, 1, attributes)
+    Request::new(alloc, args, perm, attributes)
 }
 
 /// Process 7, of root.

@@ -1,0 +1,5 @@
+use Rattle.tm_index.proofs.WalkLaws.{Fronted}
+use Rattle.tm_index.proofs.stems.plain_front.Given as goal
+
+abbrev pub invariant-loop-count : goal.invariant-loop-count
+invariant-loop-count l = Fronted l.pattern l.count

@@ -1,0 +1,43 @@
+-- The literal that the first name argument of an entry is.
+use Rattle.std.specs.Prelude.{Bool, false, ◌&&◌, Option, Some, None, if◌then◌else◌}
+use Rattle.std.specs.Option.{option_and_then, option_map_or}
+use Rattle.tm_word.specs.Words.{Word, Pattern}
+use Rattle.tm_word.specs.Matching.{matches}
+use Rattle.tm_word.specs.Printing.{literal_word}
+use Rattle.tm_types.specs.declared.unions.NameUnion.{NameUnion}
+use Rattle.tm_types.specs.declared.entry.Args.{Args}
+use Rattle.tm_rules.specs.Requests.{is_literal}
+
+-- the pattern of a name argument, where it is no group
+abbrev pub pattern_of : NameUnion → Option Pattern
+pattern_of (NameUnion.One pattern_) = Some pattern_
+pattern_of (NameUnion.Group group) = None
+
+-- the pattern of the first name argument of a line; of `misc env` its pattern
+abbrev pub first_pattern : Args → Option Pattern
+first_pattern (Args.Path n) = pattern_of n
+first_pattern (Args.Execute n prefer) = pattern_of n
+first_pattern (Args.PathNumber n k) = pattern_of n
+first_pattern (Args.Device n mode major minor) = pattern_of n
+first_pattern (Args.Path2 n m) = pattern_of n
+first_pattern (Args.Mount device dir kind flags) = pattern_of device
+first_pattern (Args.Inet kind addr port) = None
+first_pattern (Args.Unix kind n) = pattern_of n
+first_pattern (Args.Env pattern_) = Some pattern_
+first_pattern (Args.Manual domain) = None
+
+-- the first name argument is a literal that matches this name
+abbrev pub is_named : Word → Args → Bool
+is_named name args = option_map_or (λ pattern_. is_literal pattern_ && matches pattern_ name) (first_pattern args) false
+
+-- the first name argument is a literal
+abbrev pub is_literally_named : Args → Bool
+is_literally_named args = option_map_or is_literal (first_pattern args) false
+
+-- the name of a literal
+abbrev pub literal_name : Pattern → Option Word
+literal_name pattern_ = if is_literal pattern_ then Some (literal_word pattern_) else None
+
+-- the name that the first name argument is, where it is a literal
+unfoldable pub literal_of : Args → Option Word
+literal_of args = option_and_then literal_name (first_pattern args)
