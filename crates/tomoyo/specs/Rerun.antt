@@ -1,5 +1,5 @@
 -- The rerun of a run: the same trace under the run's final policy with its profiles enforcing, and nobody else.
-use Rattle.std.specs.Prelude.{◌≡◌, ◌↔◌, Bool, true, [], Option, Some, None, IsSome, IsTrue, Ok}
+use Rattle.std.specs.Prelude.{◌≡◌, ◌↔◌, Bool, true, [], Option, Some, None, IsSome, IsTrue, Ok, ⊤}
 use Rattle.std.specs.List.{AllByRecursion, list_all}
 use Rattle.tm_rules.specs.Words.{Trace}
 use Rattle.tm_rules.specs.Requests.{item_is_request}
@@ -15,6 +15,7 @@ use Rattle.tm_legal.specs.Play as core
 use Rattle.tm_legal.specs.Replay.{alone, Repeats}
 use Rattle.tm_run.specs.Reading.{run_of}
 use Rattle.tm_run.specs.RunText.{run_text}
+use Rattle.tm_run.specs.Typed.{is_typed}
 use Rattle.tm_rerun.specs.Rerun.{rerun_text}
 use Rattle.tomoyo.specs.declared.rerun.RerunTexts.{RerunTexts}
 use Rattle.tomoyo.specs.declared.rerun.Learned.{Learned}
@@ -43,9 +44,10 @@ pub record IsPlayAlone (scene : Scene) (run : Run) (last : Policy) : Type 0 wher
   pub is_legal : Legal scene run
   pub ends : final_policy scene run ≡ last
 
--- the texts of a rerun; its line says whether its processes are in the domains that they were in
+-- the texts of a rerun; its numbers are those that the types have, and its line says whether its processes are in the domains that they were in
 pub record IsRerunPrinted (last1 : Policy) (run1 : Run) (last2 : Policy) (run2 : Run) (rerun : RerunTexts) : Type 0 where
   pub run_is : rerun.run ≡ run_text run2
+  pub is_in_range : is_typed run2 ≡ true
   pub audit_is : rerun.audit ≡ audits_of run2.takes
   pub same : Bool
   pub is_same : IsTrue same ↔ SameDomains last1 run1 last2 run2
@@ -63,6 +65,11 @@ abbrev pub Reruns : Policy → Trace → Run → Option RerunTexts → Type 0
 Reruns last trace run None = IsSome (homeless last trace)
 Reruns last trace run (Some rerun) = (homeless last trace ≡ None) × IsRerun last trace run rerun
 
+-- the text of a rerun is read back as the run that the trace plays again
+abbrev pub IsReadBack : (last : Policy) (trace : Trace) (run : Run) (rerun : Option RerunTexts) → Reruns last trace run rerun → Type 0
+IsReadBack last trace run None left = ⊤
+IsReadBack last trace run (Some rerun) played = run_of rerun.run ≡ Ok played.1.run2
+
 -- the rerun isn't left out; it makes no step and grants every take, in domains of the same names, and its line says that they are the same
 abbrev pub IsRepeated : Scene → Run → Option RerunTexts → Type 0
 IsRepeated scene run None = ⊥
@@ -77,10 +84,11 @@ pub record LearnsLoaded (loaded : Loaded) (learned : Learned) : Type 0 where
   pub rerun : Reruns (final_policy (scene_of loaded) run) loaded.trace run learned.rerun
   pub repeated : IsTrue (is_plain loaded.policy) → IsTrue (is_clean run) → IsRepeated (scene_of loaded) run learned.rerun
 
--- the files are read, and what was learned are the texts of the run that what was read plays, and of its rerun; the text of the run is read
--- back as that run
+-- the files are read, and what was learned are the texts of the run that what was read plays, and of its rerun; the text of each of the two
+-- is read back as that run
 pub record Learns (texts : Texts) (learned : Learned) : Type 0 where
   pub loaded : Loaded
   pub read : step_reading texts ≡ Ok loaded
   pub learns : LearnsLoaded loaded learned
   pub read_back : run_of learned.played.run ≡ Ok learns.run
+  pub rerun_read_back : IsReadBack (final_policy (scene_of loaded) learns.run) loaded.trace learns.run learned.rerun learns.rerun

@@ -139,6 +139,8 @@ pub fn learn_of(alloc: Global, texts: &FileList) -> Result<Learned, Status>
     ensures learned { IfOk result (λ learned. (step_refusal texts.now ≡ None) × Learns texts.now learned) }
     ensures refused { IfErr result (RefusedBy (step_refusal texts.now)) }
 {
+    switched_domains();
+    switched_stays_opened();
     let loaded = match read_step(alloc, texts) {
         Ok(loaded) => loaded,
         Err(status) => return Err(status),

@@ -1,7 +1,7 @@
 use Rattle.std.proofs.Common.{ap}
 use Rattle.tomoyo.specs.Reading.{refused, step_refusal}
 use Rattle.tomoyo.proofs.Readings.{can-play}
-use Rattle.tomoyo.proofs.ReadBack.{read-back}
+use Rattle.tomoyo.proofs.ReadBack.{read-back, rerun-read-back}
 use Rattle.tomoyo.proofs.Playing.{refuses}
 use Rattle.tomoyo.proofs.rerun.learn_of.Goals as goal
 
@@ -21,5 +21,6 @@ returns-in-Ok-learn_loaded-clause-learned c =
         read = c.in-Ok.ensures.exact;
         learns = h;
         read_back = read-back c.args.texts.now c.in-Ok.loaded h.run c.in-Ok-learn_loaded.learned.played.run c.in-Ok.ensures.exact h.plays h.printed.is_in_range h.printed.run_is;
+        rerun_read_back = rerun-read-back c.args.texts.now c.in-Ok.loaded c.in-Ok-learn_loaded.learned c.switched_stays_opened.ensures c.switched_domains.ensures.domains c.switched_domains.ensures.live c.in-Ok.ensures.exact h;
       },
     )
