@@ -253,10 +253,10 @@ fn three_lines(alloc: Global) -> Result<Indexed, NoMemory> {
 
 #[test]
 fn literal_lines_are_found_as_by_a_walk(rt: HostRuntime) -> Result<(), Fail> {
-    let files = files_of(rt.alloc(), &lines(rt.alloc(), 500)?)?;
+    let files = files_of(rt.alloc(), &lines(rt.alloc(), 5000)?)?;
     let walked = plain(rt.alloc(), &files)?;
     let found = indexed(rt.alloc(), &files)?;
-    assert!(rt; all_agree(rt.alloc(), &walked, &found, 500)?);
+    assert!(rt; all_agree(rt.alloc(), &walked, &found, 5000)?);
     Ok(())
 }
 
