@@ -4,7 +4,9 @@ use Rattle.std.specs.Prelude.{map, flat_map}
 use Rattle.std.specs.List.{join_with_byte}
 use Rattle.std.proofs.Common.{append-nil}
 use Rattle.tm_word.specs.declared.Component.{Component}
-use Rattle.tm_word.specs.Printing.{element_bytes, literal_word}
+use Rattle.tm_word.specs.Words.{Word}
+use Rattle.tm_word.specs.Printing.{element_bytes, literal, literal_word}
+use Rattle.tm_word.proofs.Literals.{literal-name}
 use Rattle.tm_types.specs.Request.{joined_bytes}
 
 -- the pieces joined by a byte: the first one, and each other one behind that byte
@@ -17,3 +19,7 @@ pub literal_components : (cs : List Component) → literal_word cs ≡ joined_by
 unfolding literal_word
 literal_components [] = refl
 literal_components (c ∷ cs) = joined_components 47 (λ (d : Component). flat_map element_bytes d.first) c cs
+
+-- the word of a name's literal is this name
+pub word_of_literal : (name : Word) → literal_word (literal name) ≡ name
+word_of_literal = literal-name

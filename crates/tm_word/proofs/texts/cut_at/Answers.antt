@@ -1,4 +1,4 @@
-use Rattle.std.proofs.Common.{◌≡◌, ◌+◌, ◌<◌, ◌==◌, length, take, drop, sym, subst, ◌∙◌, arith, length-drop}
+use Rattle.std.proofs.Common.{◌+◌, ◌<◌, ◌==◌, length, take, drop, sym, subst, ◌∙◌, arith, length-drop}
 use Rattle.std.proofs.lemmas.List.{take_rest}
 use Rattle.tm_word.specs.Words.{Text}
 use Rattle.tm_word.specs.Texts.{IsCut}

@@ -1,0 +1,42 @@
+-- A text of bytes that stand for themselves spells itself.
+use Rattle.std.specs.Prelude.{◌≡◌, ℕ, ◌+◌, ◌/◌, ◌%◌, ◌==◌, nat_lt, ◌&&◌, not, if◌then◌else◌, Bool, true, false, [], ◌∷◌, ◌++◌, refl, Ok}
+use Rattle.std.proofs.Common.{ap, ◌∙◌, sym, rules}
+use Rattle.std.proofs.lemmas.Bool.Decides.{nat_tests}
+use Rattle.tm_word.specs.Words.{Text}
+use Rattle.tm_word.specs.Spelling.{are_bytes, spelling_of, spell, is_own_spelling, are_own_spellings, word_of}
+use Rattle.tm_word.proofs.Spelled.{read_again}
+
+both : (a b : Bool) → (a && b) ≡ true → (a ≡ true) × (b ≡ true)
+both true b e = (refl, e)
+both false b e = absurd cc
+
+own : (byte : ℕ) → is_own_spelling byte ≡ true → spelling_of byte ≡ byte ∷ []
+own byte h = go (byte == 92) (nat_lt 32 byte) (nat_lt byte 127) h
+  where
+    go : (back above below : Bool) → (not back && above && below) ≡ true →
+        (if back then 92 ∷ 92 ∷ [] else (if above && below then byte ∷ [] else 92 ∷ (48 + byte / 64) ∷ (48 + byte / 8 % 8) ∷ (48 + byte % 8) ∷ [])) ≡ byte ∷ []
+    go true above below e = absurd cc
+    go false true true e = refl
+    go false true false e = absurd cc
+    go false false below e = absurd cc
+
+low : (byte : ℕ) → nat_lt byte 127 ≡ true → nat_lt byte 256 ≡ true
+low byte h = search (rules, nat_tests)
+
+own_byte : (byte : ℕ) → is_own_spelling byte ≡ true → nat_lt byte 256 ≡ true
+own_byte byte h = low byte (both (not (byte == 92) && nat_lt 32 byte) (nat_lt byte 127) h).1
+
+pub own_spelled : (text : Text) → are_own_spellings text ≡ true → spell text ≡ text
+own_spelled [] h = refl
+own_spelled (b ∷ text) h =
+    let t = both (is_own_spelling b) (are_own_spellings text) h in
+    ap (λ (front : Text). front ++ spell text) (own b t.0) ∙ ap (λ (rest : Text). b ∷ rest) (own_spelled text t.1)
+
+own_bytes : (text : Text) → are_own_spellings text ≡ true → are_bytes text ≡ true
+own_bytes [] h = refl
+own_bytes (b ∷ text) h =
+    let t = both (is_own_spelling b) (are_own_spellings text) h in
+    rw (own_byte b t.0) (own_bytes text t.1)
+
+pub own_word : (text : Text) → are_own_spellings text ≡ true → word_of text ≡ Ok text
+own_word text h = ap word_of (sym (own_spelled text h)) ∙ read_again text (own_bytes text h)
