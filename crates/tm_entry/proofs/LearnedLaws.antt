@@ -36,7 +36,8 @@ use Rattle.tm_file.specs.FileLines.{is_file}
 use Rattle.tm_net.specs.NetLines.{inet_permissions, unix_permissions, is_net, is_env}
 use Rattle.tm_cond.specs.Written.{is_attr, is_side, is_clause, is_cond}
 use Rattle.tm_entry.specs.Entries.{is_entry}
-use Rattle.tm_entry.proofs.LiteralLaws.{literal_right, name_is, name_line, env_line, number_line, address_line}
+use Rattle.tm_pattern.proofs.LiteralLaws.{literal_right}
+use Rattle.tm_entry.proofs.LiteralLaws.{name_is, name_line, env_line, number_line, address_line}
 
 -- What a request says
 

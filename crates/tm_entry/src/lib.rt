@@ -98,12 +98,15 @@ pub fn print_acl(
     }
 }
 
+/// Room for a line of usual length, so that its text seldom grows.
+const LINE_ROOM: usize = 64;
+
 // The words of an entry.
 #[tactic(auto, using(crate::proofs::TextLaws::entry_joined))]
 fn entry_text(alloc: Global, entry: &Entry) -> Result<Vec<u8>, NoMemory>
     ensures { IfOk result (λ text. text.items ≡ joined (entry_words entry.now)) }
 {
-    let mut text = Vec::new(alloc);
+    let mut text = Vec::with_capacity(alloc, LINE_ROOM)?;
     print_acl(alloc, &entry.args, entry.perms, &mut text)?;
     print_cond(alloc, &entry.cond, &mut text)?;
     Ok(text)

@@ -1,4 +1,5 @@
 pub mod JoinLaws
+pub mod OnePerm
 pub mod Steps
 pub mod GroupLaws
 pub mod LineLaws

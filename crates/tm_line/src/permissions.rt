@@ -1,5 +1,5 @@
 //! Lists of permissions.
-ghost use Rattle.std.specs.Prelude.{◌≡◌, [], ◌++◌, IfOk, OnOk, OnErr};
+ghost use Rattle.std.specs.Prelude.{◌≡◌, [], ◌++◌, Bool, Ok, ⊤, MatchOption, IfOk, OnOk, OnErr};
 ghost use Rattle.tm_word.specs.Gives.{Gives};
 ghost use Rattle.tm_line.specs.Lines.{line_cause};
 ghost use Rattle.tm_line.specs.Permissions.{mask_in, starts_in, pieces_of, bits_of, finishes, perms_of, perm_on, perms_spelling};
@@ -8,7 +8,7 @@ use crate::words::keyword_kind;
 use std::alloc::Global;
 use tm_list::{NoMemory, Seq};
 use tm_types::step::LineFault;
-use tm_word::{Text, begins, bytes_equal};
+use tm_word::{Text, begins, bytes_equal, place_of};
 
 /// The rows of permissions: those that one line may have together.
 #[derive(Clone, Copy)]
@@ -251,6 +251,20 @@ fn finishes(acl_row: Row, pieces: &[Text]) -> bool
     false
 }
 
+// The bits of a word that is one permission of the row, without a `/`.
+#[tactic(auto, using(crate::proofs::OnePerm::one_perm))]
+fn one_perm(acl_row: Row, word: &[u8]) -> Option<u16>
+    ensures { MatchOption result ⊤ (λ bits. (last : Bool) → perms_of acl_row word.now last ≡ Ok bits) }
+{
+    match place_of(b'/', word) {
+        Some(_) => None,
+        None => match mask_in(acl_row, word) {
+            Some(mask) => Some(0 | mask),
+            None => None,
+        },
+    }
+}
+
 /// Reads permissions of a row, joined by `/` in any order and repeated; `last` says whether the word is the line's last one.
 ///
 /// Errors: `Arity` where the last word is an unfinished list, else `Keyword` where a piece of the word is no permission of the row.
@@ -258,6 +272,9 @@ fn finishes(acl_row: Row, pieces: &[Text]) -> bool
 pub fn read_perms(alloc: Global, acl_row: Row, word: &[u8], last: bool) -> Result<u16, LineFault>
     ensures { Gives line_cause (λ bits. bits) result (perms_of acl_row word.now last) }
 {
+    if let Some(bits) = one_perm(acl_row, word) {
+        return Ok(bits);
+    }
     let pieces = pieces_of(alloc, word)?;
     match bits_of(acl_row, &pieces) {
         Some(bits) => Ok(bits),
