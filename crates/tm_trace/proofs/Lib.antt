@@ -18,3 +18,4 @@ pub mod TextLaws
 pub mod PlaceLaws
 pub mod PrintLaws
 pub mod PidSets
+pub mod Keywords

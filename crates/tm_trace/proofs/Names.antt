@@ -1,24 +1,22 @@
 -- Literal names: their patterns are right, their printed words are read again, and what is read is one of bytes.
-use Rattle.std.proofs.Common.{◌≡◌, ℕ, ◌+◌, ◌/◌, ◌%◌, ◌==◌, nat_lt, Bool, true, false, cond, ◌&&◌, ◌||◌, not, List, [], ◌∷◌, ◌++◌, map, Ok, Err, refl, sym, ap, subst, ◌∙◌}
+use Rattle.std.proofs.Common.{◌≡◌, ℕ, ◌+◌, ◌/◌, ◌%◌, ◌==◌, nat_lt, Bool, true, false, cond, ◌&&◌, ◌||◌, not, [], ◌∷◌, ◌++◌, Ok, Err, refl, sym, ap, subst, ◌∙◌}
 use Rattle.std.specs.Bool.{beq}
-use Rattle.std.specs.List.{list_any, list_all, onto_first}
+use Rattle.std.specs.List.{list_any}
 use Rattle.std.proofs.lemmas.Bool.{eqb-true, ltb-true}
-use Rattle.std.proofs.lemmas.List.Splits.{slice_split-cons_no, slice_split-cons_yes}
 use Rattle.std.proofs.lemmas.List.Folds.{list_any-append}
-use Rattle.tm_word.specs.declared.Element.{Element}
 use Rattle.tm_word.specs.Words.{Text, Word, Pattern}
 use Rattle.tm_word.specs.Spelling.{spelling_of, spell, are_bytes}
-use Rattle.tm_word.specs.Matching.{components, is_empty}
-use Rattle.tm_word.specs.Printing.{spelled_pattern, literal, literal_word, literal_component}
+use Rattle.tm_word.specs.Matching.{is_empty}
+use Rattle.tm_word.specs.Printing.{spelled_pattern, literal, literal_word}
 use Rattle.tm_word.proofs.Literals.{literal-spelled, literal-name}
-use Rattle.tm_pattern.specs.Grammar.{is_right_element, is_right_component, are_right, is_right}
+use Rattle.tm_pattern.specs.Grammar.{is_right}
+use Rattle.tm_pattern.proofs.LiteralLaws.{literal_right}
 use Rattle.tm_types.specs.declared.entry.LineKind.{LineKind}
 use Rattle.tm_types.specs.declared.unions.NameUnion.{NameUnion}
 use Rattle.tm_types.specs.Request.{name_value}
 use Rattle.tm_rules.specs.Requests.{is_literal, is_written, is_name}
 use Rattle.tm_word.specs.Texts.{begins_with_byte}
 use Rattle.tm_rules.proofs.EqualityLaws.{same_patterns}
-use Rattle.tm_word.proofs.Cuts.{pieces_of}
 use Rattle.tm_word.specs.Gives.{◌>>=◌}
 use Rattle.tm_line.specs.Arguments.{group_word}
 use Rattle.tm_line.specs.Printing.{name_spelling}
@@ -30,52 +28,6 @@ use Rattle.tm_line.proofs.GroupLaws.{group_again, group_found}
 use Rattle.tm_word.proofs.Spelled.{below, below-at}
 use Rattle.tm_net.specs.NetLines.{has_equals, is_env}
 use Rattle.tm_trace.specs.Requests.{literal_name, path_name, env_name}
-
--- ---- a literal's pattern is right
-
-abbrev part_byte : ℕ → Bool
-part_byte b = nat_lt b 256 && not (b == 47)
-
-bytes_right : (bs : Word) → list_all part_byte bs ≡ true → list_all is_right_element (map Element.Byte bs) ≡ true
-bytes_right [] h = refl
-bytes_right (b ∷ bs) h =
-    let t = both (part_byte b) (list_all part_byte bs) h in
-    all (part_byte b) (list_all is_right_element (map Element.Byte bs)) t.0 (bytes_right bs t.1)
-
-component_right : (bs : Word) → list_all part_byte bs ≡ true → is_right_component (literal_component bs) ≡ true
-component_right [] h = refl
-component_right (b ∷ bs) h = let full : list_all is_right_element (map Element.Byte (b ∷ bs)) ≡ true = bytes_right (b ∷ bs) h in rw full refl
-
-components_right : (p : Word) (ps : List Word) → list_all (list_all part_byte) (p ∷ ps) ≡ true → are_right (literal_component p) (map literal_component ps) ≡ true
-components_right p [] h = let t = both (list_all part_byte p) true h in rw (component_right p t.0) refl
-components_right p (q ∷ qs) h =
-    let t = both (list_all part_byte p) (list_all (list_all part_byte) (q ∷ qs)) h in
-    all (is_right_component (literal_component p)) (are_right (literal_component q) (map literal_component qs)) (component_right p t.0) (components_right q qs t.1)
-
-onto_parts : (b : ℕ) (parts : List Word) → part_byte b ≡ true → list_all (list_all part_byte) parts ≡ true → list_all (list_all part_byte) (onto_first b parts) ≡ true
-onto_parts b [] h k = rw h refl
-onto_parts b (p ∷ ps) h k =
-    let t = both (list_all part_byte p) (list_all (list_all part_byte) ps) k in
-    all (list_all part_byte (b ∷ p)) (list_all (list_all part_byte) ps) (all (part_byte b) (list_all part_byte p) h t.0) t.1
-
-onto_right : (b : ℕ) (w : Word) → nat_lt b 256 ≡ true → list_all (list_all part_byte) (components w) ≡ true → list_all (list_all part_byte) (components (b ∷ w)) ≡ true
-onto_right b w low more = by_slash (b == 47) refl
-  where
-    by_slash : (t : Bool) → (b == 47) ≡ t → list_all (list_all part_byte) (components (b ∷ w)) ≡ true
-    by_slash true e = ap (list_all (list_all part_byte)) (slice_split-cons_yes (λ c. c == 47) b w e) ∙ more
-    by_slash false e = ap (list_all (list_all part_byte)) (slice_split-cons_no (λ c. c == 47) b w e) ∙ onto_parts b (components w) (all (nat_lt b 256) (not (b == 47)) low (to_not (b == 47) e)) more
-
-parts_right : (w : Word) → are_bytes w ≡ true → list_all (list_all part_byte) (components w) ≡ true
-parts_right [] h = refl
-parts_right (b ∷ w) h = let t = both (nat_lt b 256) (are_bytes w) h in onto_right b w t.0 (parts_right w t.1)
-
-from_parts : (parts : List Word) (first : Word) (rest : List Word) → parts ≡ first ∷ rest → list_all (list_all part_byte) parts ≡ true → is_right (map literal_component parts) ≡ true
-unfolding is_right
-from_parts parts first rest e h = rw e (components_right first rest (ap (list_all (list_all part_byte)) (sym e) ∙ h))
-
-pub literal_right : (w : Word) → are_bytes w ≡ true → is_right (literal w) ≡ true
-unfolding literal
-literal_right w h = let p = pieces_of (λ b. b == 47) w in from_parts (components w) p.first p.rest p.are (parts_right w h)
 
 -- ---- the first byte of a spelled word, and whether it has an `=`
 

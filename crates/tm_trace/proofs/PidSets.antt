@@ -2,12 +2,11 @@
 use Rattle.std.proofs.Common.{◌≡◌, ℕ, ◌==◌, ◌||◌, Bool, List, [], ◌∷◌, ◌++◌, sym, ap, subst, ◌∙◌}
 use Rattle.std.specs.Prelude.{Option, Some, option_to_list}
 use Rattle.std.specs.BTreeSet.{BTreeSet}
-use Rattle.std.proofs.lemmas.List.{append-nil}
 use Rattle.std.proofs.lemmas.List.Folds.{list_any-append}
 use Rattle.tm_types.specs.declared.request.Item.{Item}
 use Rattle.tm_types.specs.declared.request.Tree.{Tree}
 use Rattle.tm_rules.specs.Words.{DomainName}
-use Rattle.tm_trace.specs.Trees.{made_by, new_tree, tree_pids, trace_pids, is_among, with_item}
+use Rattle.tm_trace.specs.Trees.{new_tree, tree_pids, trace_pids, is_among, with_item}
 use Rattle.tm_trace.specs.Steps.{Holds, HasMore, IsOnly, last_pids}
 use Rattle.tm_trace.proofs.Pids.{item_pids}
 use Rattle.tm_trace.proofs.Pids as pids
@@ -15,9 +14,6 @@ use Rattle.tm_trace.proofs.Pids as pids
 -- one set holds the pids of all trees, the other those of the last one
 abbrev pub Both : BTreeSet ℕ → BTreeSet ℕ → List Tree → Option Tree → Type 0
 Both made own before last = Holds made (trace_pids (before ++ option_to_list last)) × Holds own (last_pids last)
-
-holds_same : (set : BTreeSet ℕ) (these those : List ℕ) → those ≡ these → Holds set these → Holds set those
-holds_same set these those e holds = λ pid. holds pid ∙ ap (λ (ps : List ℕ). is_among ps pid) (sym e)
 
 holds_more : (set next : BTreeSet ℕ) (child : ℕ) (these those : List ℕ) → those ≡ these ++ child ∷ [] → Holds set these → HasMore set next child → Holds next those
 unfolding HasMore
@@ -31,17 +27,6 @@ unfolding IsOnly
 tree_holds made more other own before last all tree pid start e f h k both =
     let now : Holds made (trace_pids all) = subst (λ (trees : List Tree). Holds made (trace_pids trees)) (sym e) both.0 in
     subst (λ (t : Tree). Both more own all (Some t)) (sym f) (holds_more made more pid (trace_pids all) (trace_pids (all ++ new_tree pid start ∷ [])) (pids.pids_more all (new_tree pid start)) now h, k)
-
--- a record that makes no process
-pub record_holds : (made own : BTreeSet ℕ) (before : List Tree) (last : Option Tree) (tree next : Tree) (item : Item)
-    → last ≡ Some tree → made_by item ≡ [] → next ≡ with_item tree item → Both made own before last → Both made own before (Some next)
-record_holds made own before last tree next item at none e both =
-    let now : Both made own before (Some tree) = subst (Both made own before) at both in
-    subst (λ (t : Tree). Both made own before (Some t)) (sym e) (
-      holds_same made (trace_pids (before ++ tree ∷ [])) (trace_pids (before ++ with_item tree item ∷ []))
-          (pids.last_pids before tree item ∙ ap (λ (ps : List ℕ). trace_pids (before ++ tree ∷ []) ++ ps) none ∙ append-nil (trace_pids (before ++ tree ∷ []))) now.0,
-      holds_same own (tree_pids tree) (tree_pids (with_item tree item)) (item_pids tree item ∙ ap (λ (ps : List ℕ). tree_pids tree ++ ps) none ∙ append-nil (tree_pids tree)) now.1,
-    )
 
 -- a child
 pub child_holds : (made own more_made more_own : BTreeSet ℕ) (before : List Tree) (last : Option Tree) (tree next : Tree) (pid child : ℕ)

@@ -106,6 +106,10 @@ abbrev pub row_request : Option Row → Text → List Text → Result (Args × �
 row_request None word words = Err LineKind.Keyword
 row_request (Some acl_row) word words = or_keyword (place_in acl_row word) >>= λ perm. with_perm perm (args_at acl_row perm words)
 
+-- a single path with this name, and the words after it
+abbrev pub named_path : ℕ → Text → List Text → Result (Args × ℕ × List Text) LineKind
+named_path perm name words = path_name perm name >>= λ x. Ok (Args.Path x, perm, words)
+
 -- what stands after `file`: the permission tells the row
 unfoldable pub file_request : List Text → Result (Args × ℕ × List Text) LineKind
 file_request [] = Err LineKind.Arity

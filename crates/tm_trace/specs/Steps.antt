@@ -3,13 +3,17 @@ use Rattle.std.specs.Prelude.{◌≡◌, ℕ, ◌||◌, List, [], ◌∷◌, Opt
 use Rattle.std.specs.Ordering.{nat_cmp}
 use Rattle.std.specs.BTreeSet.{BTreeSet, contains}
 use Rattle.tm_word.specs.Words.{Text}
+use Rattle.tm_word.specs.Gives.{◌>>=◌}
+use Rattle.tm_types.specs.declared.entry.Args.{Args}
 use Rattle.tm_types.specs.declared.request.Item.{Item}
+use Rattle.tm_types.specs.declared.request.Request.{Request}
 use Rattle.tm_types.specs.declared.request.TraceFault.{TraceFault}
 use Rattle.tm_types.specs.declared.request.TraceKind.{TraceKind}
 use Rattle.tm_types.specs.declared.request.Tree.{Tree}
 use Rattle.tm_types.specs.declared.step.LineFault.{LineFault}
 use Rattle.tm_trace.specs.declared.faults.StepFault.{StepFault}
-use Rattle.tm_trace.specs.Lines.{fault_of}
+use Rattle.tm_trace.specs.Lines.{fault_of, in_trace}
+use Rattle.tm_trace.specs.Attributes.{no_attributes, request, attributes_from}
 use Rattle.tm_trace.specs.Trees.{is_among, tree_pids, Trees, with_record}
 use Rattle.tm_trace.specs.Reading.{process_at}
 
@@ -64,3 +68,7 @@ process_in (Some tree) words = process_at tree words
 abbrev pub recorded : Trees → Option Tree → Item → Result Trees TraceKind
 recorded trees None item = Err TraceKind.NoTree
 recorded trees (Some tree) item = Ok (with_record trees tree item)
+
+-- a request with these arguments, and its attributes after it
+abbrev pub with_attributes : Args → ℕ → List Text → Result Request TraceKind
+with_attributes args perm words = in_trace TraceKind.Attribute (attributes_from args perm no_attributes words) >>= λ attributes. Ok (request args perm attributes)

@@ -42,7 +42,8 @@ fn fault_of(kind: TraceKind, fault: LineKind) -> TraceKind
     }
 }
 
-fn step_fault(kind: TraceKind, fault: LineFault) -> StepFault
+/// A fault of a line as one of a trace, where each but a missing word is of this kind.
+pub(crate) fn step_fault(kind: TraceKind, fault: LineFault) -> StepFault
     ensures { result ≡ step_fault kind fault }
 {
     match fault {

@@ -6,32 +6,66 @@ ghost use Rattle.tm_word.specs.Gives.{Gives, GivesNow};
 ghost use Rattle.tm_trace.specs.Lines.{trace_cause};
 ghost use Rattle.tm_trace.specs.Trees.{made_by, new_tree, with_tree, no_trees, all_trees, with_item};
 ghost use Rattle.tm_trace.specs.Reading.{new_at, request_of, tree_line, ids_line, fork_line, do_line, line_at, trace_of, is_tree_line, tree_line_at};
-ghost use Rattle.tm_trace.specs.Steps.{step_cause, HasMore, IsOnly, process_in, recorded};
+ghost use Rattle.tm_trace.specs.Steps.{step_cause, with_attributes, HasMore, IsOnly, process_in, recorded};
 
 use crate::attribute::read_attributes;
-use crate::faults::{StepFault, as_step, in_line};
+use crate::faults::{StepFault, as_step, in_line, step_fault};
 use crate::process::{ids_to_end, pid_at};
-use crate::request::request_line;
+use crate::request::{path_name, path_request, request_line};
 use std::alloc::Global;
 use std::collections::BTreeSet;
 use std::marker::Model;
+use std::mem::replace;
 use tm_line::domain_to_end;
 use tm_list::{NoMemory, Seq};
+use tm_types::entry::Args;
 use tm_types::request::{Item, Request, Trace, TraceFault, TraceKind, Tree};
 use tm_types::unions::DomainName;
 use tm_word::{Text, bytes_equal, cut_at, cut_word, normal_words};
 
-// A request and its attributes, which are all words after it.
-#[tactic(auto, unfolding(crate::specs::Reading::request_of, crate::specs::Reading::request_at))]
-fn request_of(alloc: Global, words: &[Text]) -> Result<Request, StepFault>
-    ensures { Gives step_cause (λ request. request) result (request_of words.now) }
+// A request with these arguments, and its attributes, which are all words after it.
+fn with_attributes(
+    alloc: Global,
+    args: Args,
+    perm: u8,
+    words: &[Text],
+) -> Result<Request, StepFault>
+    ensures { Gives step_cause (λ request. request) result (with_attributes args perm words.now) }
 {
-    let (args, perm, rest) = as_step(TraceKind::Request, request_line(alloc, words))?;
-    let attributes = as_step(
-        TraceKind::Attribute,
-        read_attributes(alloc, &args, perm, rest),
-    )?;
-    Ok(Request::new(alloc, args, perm, attributes)?)
+    match read_attributes(alloc, &args, perm, words) {
+        Err(fault) => Err(step_fault(TraceKind::Attribute, fault)),
+        Ok(attributes) => Ok(Request::new(alloc, args, perm, attributes)?),
+    }
+}
+
+// Any request and its attributes.
+#[inline(never)]
+#[tactic(auto, unfolding(crate::specs::Reading::request_of, crate::specs::Reading::request_at))]
+fn any_request(alloc: Global, text: &[u8]) -> Result<Request, StepFault>
+    ensures { Gives step_cause (λ request. request) result (request_of (words_of text.now)) }
+{
+    let words = normal_words(alloc, text)?;
+    match request_line(alloc, &words) {
+        Err(fault) => Err(step_fault(TraceKind::Request, fault)),
+        Ok((args, perm, rest)) => with_attributes(alloc, args, perm, rest),
+    }
+}
+
+// A request and its attributes. That of a single path, the most frequent one, is read without a list of its words.
+#[tactic(auto, unfolding(crate::specs::Reading::request_of, crate::specs::Reading::request_at))]
+fn request_of(alloc: Global, text: &[u8]) -> Result<Request, StepFault>
+    ensures { Gives step_cause (λ request. request) result (request_of (words_of text.now)) }
+{
+    match path_request(text) {
+        None => any_request(alloc, text),
+        Some((perm, name, rest)) => match path_name(alloc, perm, name) {
+            Err(fault) => Err(step_fault(TraceKind::Request, fault)),
+            Ok(name) => {
+                let words = normal_words(alloc, rest)?;
+                with_attributes(alloc, Args::Path(name), perm, &words)
+            }
+        },
+    }
 }
 
 fn new_tree(alloc: Global, pid: u32, start: DomainName) -> Tree
@@ -134,10 +168,10 @@ impl Reading {
 
     // A pid that no line has made.
     #[tactic(auto, unfolding(crate::specs::Reading::new_at))]
-    fn new_at<'a>(&self, words: &'a [Text]) -> Result<(u32, &'a [Text]), StepFault>
-        ensures { GivesNow step_cause (λ x. (x.0, x.1.now)) result (new_at self.now words.now) }
+    fn new_at<'a>(&self, text: &'a [u8]) -> Result<(u32, &'a [u8]), StepFault>
+        ensures { GivesNow step_cause (λ x. (x.0, words_of x.1.now)) result (new_at self.now (words_of text.now)) }
     {
-        let (pid, rest) = as_step(TraceKind::Number, pid_at(words))?;
+        let (pid, rest) = as_step(TraceKind::Number, pid_at(text))?;
         if self.made.contains(&pid) {
             Err(StepFault::Kind(TraceKind::KnownProcess))
         } else {
@@ -147,13 +181,13 @@ impl Reading {
 
     // A process of the last tree.
     #[tactic(auto, unfolding(crate::specs::Reading::process_at))]
-    fn process_at<'a>(&self, words: &'a [Text]) -> Result<(u32, &'a [Text]), StepFault>
-        ensures { GivesNow step_cause (λ x. (x.0, x.1.now)) result (process_in self.now.last words.now) }
+    fn process_at<'a>(&self, text: &'a [u8]) -> Result<(u32, &'a [u8]), StepFault>
+        ensures { GivesNow step_cause (λ x. (x.0, words_of x.1.now)) result (process_in self.now.last (words_of text.now)) }
     {
         if self.last.is_none() {
             return Err(StepFault::Kind(TraceKind::NoTree));
         }
-        let (pid, rest) = as_step(TraceKind::Number, pid_at(words))?;
+        let (pid, rest) = as_step(TraceKind::Number, pid_at(text))?;
         if self.own.contains(&pid) {
             Ok((pid, rest))
         } else {
@@ -184,26 +218,15 @@ impl Reading {
     }
 
     // One record more of the last tree, which makes no process.
-    fn with_record(self, item: Item) -> Result<Reading, StepFault>
+    fn put_record(&mut self, item: Item) -> Result<(), StepFault>
         requires { made_by item ≡ [] }
-        ensures { Gives step_cause (λ next. next) result (recorded self self.last item) }
+        ensures { Gives step_cause (λ _. self.new) result (recorded self.old self.old.last item) }
     {
-        let Reading {
-            before,
-            last,
-            made,
-            own,
-        } = self;
-        match last {
+        match &mut self.last {
             None => Err(StepFault::Kind(TraceKind::NoTree)),
             Some(tree) => {
-                let tree = with_item(tree, item)?;
-                Ok(Reading {
-                    before,
-                    last: Some(tree),
-                    made,
-                    own,
-                })
+                tree.records.push(item)?;
+                Ok(())
             }
         }
     }
@@ -235,80 +258,77 @@ impl Reading {
     }
 
     // `tree PID DOMAIN`, past the first word.
+    #[inline(never)]
     #[tactic(auto, unfolding(crate::specs::Reading::tree_line))]
-    fn tree_line(self, alloc: Global, words: &[Text]) -> Result<Reading, StepFault>
-        ensures { Gives step_cause (λ next. next) result (tree_line self words.now) }
+    fn tree_line(&mut self, alloc: Global, text: &[u8]) -> Result<(), StepFault>
+        ensures { Gives step_cause (λ _. self.new) result (tree_line self.old (words_of text.now)) }
     {
-        let (pid, rest) = self.new_at(words)?;
-        let start = as_step(TraceKind::NoDomain, domain_to_end(alloc, rest))?;
-        Ok(self.with_tree(alloc, pid, start)?)
+        let (pid, rest) = self.new_at(text)?;
+        let words = normal_words(alloc, rest)?;
+        let start = as_step(TraceKind::NoDomain, domain_to_end(alloc, &words))?;
+        *self = replace(self, Reading::new(alloc)).with_tree(alloc, pid, start)?;
+        Ok(())
     }
 
     // `ids PID UID EUID SUID FSUID GID EGID SGID FSGID`, past the first word.
+    #[inline(never)]
     #[tactic(auto, unfolding(crate::specs::Reading::ids_line))]
-    fn ids_line(self, words: &[Text]) -> Result<Reading, StepFault>
-        ensures { Gives step_cause (λ next. next) result (ids_line self self.last words.now) }
+    fn ids_line(&mut self, text: &[u8]) -> Result<(), StepFault>
+        ensures { Gives step_cause (λ _. self.new) result (ids_line self.old self.old.last (words_of text.now)) }
     {
-        let (pid, rest) = self.process_at(words)?;
+        let (pid, rest) = self.process_at(text)?;
         let ids = as_step(TraceKind::Number, ids_to_end(rest))?;
-        self.with_record(Item::Ids(pid, ids))
+        self.put_record(Item::Ids(pid, ids))
     }
 
     // `fork PID CHILD`, past the first word.
+    #[inline(never)]
     #[tactic(auto, unfolding(crate::specs::Reading::fork_line))]
-    fn fork_line(self, words: &[Text]) -> Result<Reading, StepFault>
-        ensures { Gives step_cause (λ next. next) result (fork_line self self.last words.now) }
+    fn fork_line(&mut self, alloc: Global, text: &[u8]) -> Result<(), StepFault>
+        ensures { Gives step_cause (λ _. self.new) result (fork_line self.old self.old.last (words_of text.now)) }
     {
-        let (pid, rest) = self.process_at(words)?;
+        let (pid, rest) = self.process_at(text)?;
         let (child, rest) = self.new_at(rest)?;
-        if rest.is_empty() {
-            self.with_child(pid, child)
-        } else {
-            Err(StepFault::Kind(TraceKind::Arity))
+        if cut_word(rest).is_some() {
+            return Err(StepFault::Kind(TraceKind::Arity));
         }
+        *self = replace(self, Reading::new(alloc)).with_child(pid, child)?;
+        Ok(())
     }
 
     // `do PID REQUEST ATTRIBUTES`, past the first word.
     #[tactic(auto, unfolding(crate::specs::Reading::do_line))]
-    fn do_line(self, alloc: Global, words: &[Text]) -> Result<Reading, StepFault>
-        ensures { Gives step_cause (λ next. next) result (do_line self self.last words.now) }
+    fn do_line(&mut self, alloc: Global, text: &[u8]) -> Result<(), StepFault>
+        ensures { Gives step_cause (λ _. self.new) result (do_line self.old self.old.last (words_of text.now)) }
     {
-        let (pid, rest) = self.process_at(words)?;
+        let (pid, rest) = self.process_at(text)?;
         let request = request_of(alloc, rest)?;
-        self.with_record(Item::Do(pid, request))
+        self.put_record(Item::Do(pid, request))
     }
 
-    // The words of a line.
-    #[tactic(auto, unfolding(crate::specs::Reading::line_at))]
-    fn words_read(self, alloc: Global, words: &[Text]) -> Result<Reading, StepFault>
-        ensures { Gives step_cause (λ next. next) result (line_at self words.now) }
+    // A line. Most of them ask for something, so that `do` comes first.
+    #[tactic(auto, using(crate::proofs::Keywords::do_first), unfolding(crate::specs::Reading::line_at))]
+    fn read_line(&mut self, alloc: Global, line: &[u8]) -> Result<(), StepFault>
+        ensures { Gives step_cause (λ _. self.new) result (line_at self.old (words_of line.now)) }
     {
-        match words {
-            [] => Ok(self),
-            [word, rest @ ..] => {
-                if bytes_equal(word.bytes(), b"tree") {
+        match cut_word(line) {
+            None => Ok(()),
+            Some((word, rest)) => {
+                if bytes_equal(word, b"do") {
+                    return self.do_line(alloc, rest);
+                }
+                if bytes_equal(word, b"tree") {
                     return self.tree_line(alloc, rest);
                 }
-                if bytes_equal(word.bytes(), b"ids") {
+                if bytes_equal(word, b"ids") {
                     return self.ids_line(rest);
                 }
-                if bytes_equal(word.bytes(), b"fork") {
-                    return self.fork_line(rest);
-                }
-                if bytes_equal(word.bytes(), b"do") {
-                    return self.do_line(alloc, rest);
+                if bytes_equal(word, b"fork") {
+                    return self.fork_line(alloc, rest);
                 }
                 Err(StepFault::Kind(TraceKind::Keyword))
             }
         }
-    }
-
-    // A line.
-    fn line_read(self, alloc: Global, line: &[u8]) -> Result<Reading, StepFault>
-        ensures { Gives step_cause (λ next. next) result (line_at self (words_of line.now)) }
-    {
-        let words = normal_words(alloc, line)?;
-        self.words_read(alloc, &words)
     }
 }
 
@@ -324,11 +344,11 @@ pub fn read_trace(alloc: Global, bytes: &[u8]) -> Result<Trace, TraceFault>
     let mut rest = bytes;
     let mut number = 1;
     while let Some((line, after)) = cut_at(b'\n', rest) {
-        trees = in_line(number, trees.line_read(alloc, line))?;
+        in_line(number, trees.read_line(alloc, line))?;
         rest = after;
         number += 1;
     }
-    let trees = in_line(number, trees.line_read(alloc, rest))?;
+    in_line(number, trees.read_line(alloc, rest))?;
     match trees.trace() {
         Ok(trace) => Ok(trace),
         Err(_) => Err(TraceFault::NoMemory),

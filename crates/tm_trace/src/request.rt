@@ -1,22 +1,21 @@
 //! Reading requests: an ACL line with one permission, literal names, single numbers and a single address.
-ghost use Rattle.std.specs.Prelude.{◌≡◌};
+ghost use Rattle.std.specs.Prelude.{◌≡◌, Some, None, IfSome, MatchOption};
+ghost use Rattle.tm_word.specs.Spelling.{words_of};
 ghost use Rattle.tm_word.specs.Gives.{Gives, GivesNow};
 ghost use Rattle.tm_line.specs.Lines.{line_cause, word_at};
 ghost use Rattle.tm_file.specs.FileLines.{row_of};
 ghost use Rattle.tm_net.specs.NetLines.{inet_kind, unix_kind};
-ghost use Rattle.tm_trace.specs.Requests.{one_of, only_at, place_in, literal_name, path_name, single_number, single_address, env_name, args_at, mount_at, row_request, file_request, inet_request, unix_request, network_request, misc_request, task_request, request_line};
+ghost use Rattle.tm_trace.specs.Requests.{one_of, only_at, place_in, literal_name, path_name, single_number, single_address, env_name, args_at, mount_at, row_request, named_path, file_request, inet_request, unix_request, network_request, misc_request, task_request, request_line};
 
 use std::alloc::Global;
 use tm_addr::read_addr;
-use tm_file::row_of;
 use tm_line::{Row, domain_at, group_word, mask_in};
 use tm_net::{inet_kind, inet_permissions, unix_kind, unix_permissions};
 use tm_number::{AddrRange, Range, read_number};
-use tm_pattern::literal;
 use tm_types::entry::{Args, InetKind, LineKind, UnixKind};
 use tm_types::step::LineFault;
 use tm_types::unions::{AddrUnion, NameUnion, NumberUnion};
-use tm_word::{Pattern, Text, bytes_equal, has_byte};
+use tm_word::{Pattern, Text, bytes_equal, cut_word, has_byte};
 
 // The words after this one.
 fn only_at<'a>(keyword: &[u8], words: &'a [Text]) -> Result<&'a [Text], LineFault>
@@ -43,12 +42,12 @@ fn literal_name(alloc: Global, text: &[u8]) -> Result<NameUnion, LineFault>
         return Err(LineFault::Kind(LineKind::Name));
     }
     let word = group_word(alloc, text)?;
-    Ok(NameUnion::One(literal(alloc, &word)?))
+    Ok(NameUnion::One(Pattern::literal(word)))
 }
 
-// A literal name for the permission at this place of single paths, which begins with `/` for an execute.
+/// A literal name for the permission at this place of single paths, which begins with `/` for an execute.
 #[tactic(auto, unfolding(crate::specs::Requests::path_name))]
-fn path_name(alloc: Global, perm: u8, text: &[u8]) -> Result<NameUnion, LineFault>
+pub(crate) fn path_name(alloc: Global, perm: u8, text: &[u8]) -> Result<NameUnion, LineFault>
     ensures { Gives line_cause (λ name. name) result (path_name perm text.now) }
 {
     if perm == 0 {
@@ -96,7 +95,7 @@ fn env_name(alloc: Global, text: &[u8]) -> Result<Pattern, LineFault>
         return Err(LineFault::Kind(LineKind::Name));
     }
     let word = group_word(alloc, text)?;
-    Ok(literal(alloc, &word)?)
+    Ok(Pattern::literal(word))
 }
 
 fn path_at(alloc: Global, perm: u8, words: &[Text]) -> Result<(NameUnion, &[Text]), LineFault>
@@ -144,7 +143,42 @@ fn env_at(alloc: Global, words: &[Text]) -> Result<(Pattern, &[Text]), LineFault
     }
 }
 
-// The arguments of a row of files.
+// The arguments of a row with a name and a number.
+#[inline(never)]
+#[tactic(auto, unfolding(crate::specs::Requests::args_at))]
+fn numbered_at(alloc: Global, words: &[Text]) -> Result<(Args, &[Text]), LineFault>
+    ensures { Gives line_cause (λ x. (x.0, x.1.now)) result (args_at Row.PathNumber 0 words.now) }
+{
+    let (name, rest) = literal_at(alloc, words)?;
+    let (number, rest) = number_at(rest)?;
+    Ok((Args::PathNumber(name, number), rest))
+}
+
+// The arguments of a row of devices.
+#[inline(never)]
+#[tactic(auto, unfolding(crate::specs::Requests::args_at))]
+fn device_at(alloc: Global, words: &[Text]) -> Result<(Args, &[Text]), LineFault>
+    ensures { Gives line_cause (λ x. (x.0, x.1.now)) result (args_at Row.Device 0 words.now) }
+{
+    let (name, rest) = literal_at(alloc, words)?;
+    let (mode, rest) = number_at(rest)?;
+    let (major, rest) = number_at(rest)?;
+    let (minor, rest) = number_at(rest)?;
+    Ok((Args::Device(name, mode, major, minor), rest))
+}
+
+// The arguments of a row with two names.
+#[inline(never)]
+#[tactic(auto, unfolding(crate::specs::Requests::args_at))]
+fn pair_at(alloc: Global, words: &[Text]) -> Result<(Args, &[Text]), LineFault>
+    ensures { Gives line_cause (λ x. (x.0, x.1.now)) result (args_at Row.Pair 0 words.now) }
+{
+    let (first, rest) = literal_at(alloc, words)?;
+    let (second, rest) = literal_at(alloc, rest)?;
+    Ok((Args::Path2(first, second), rest))
+}
+
+// The arguments of a row of files. Those of the rare rows are read by functions that aren't inlined, so that the frame stays small.
 #[tactic(auto, unfolding(crate::specs::Requests::args_at))]
 fn args_at(alloc: Global, row: Row, perm: u8, words: &[Text]) -> Result<(Args, &[Text]), LineFault>
     ensures { Gives line_cause (λ x. (x.0, x.1.now)) result (args_at row perm words.now) }
@@ -154,27 +188,14 @@ fn args_at(alloc: Global, row: Row, perm: u8, words: &[Text]) -> Result<(Args, &
             let (name, rest) = path_at(alloc, perm, words)?;
             Ok((Args::Path(name), rest))
         }
-        Row::PathNumber => {
-            let (name, rest) = literal_at(alloc, words)?;
-            let (number, rest) = number_at(rest)?;
-            Ok((Args::PathNumber(name, number), rest))
-        }
-        Row::Device => {
-            let (name, rest) = literal_at(alloc, words)?;
-            let (mode, rest) = number_at(rest)?;
-            let (major, rest) = number_at(rest)?;
-            let (minor, rest) = number_at(rest)?;
-            Ok((Args::Device(name, mode, major, minor), rest))
-        }
-        Row::Pair => {
-            let (first, rest) = literal_at(alloc, words)?;
-            let (second, rest) = literal_at(alloc, rest)?;
-            Ok((Args::Path2(first, second), rest))
-        }
+        Row::PathNumber => numbered_at(alloc, words),
+        Row::Device => device_at(alloc, words),
+        Row::Pair => pair_at(alloc, words),
         Row::Listening | Row::Sending => Err(LineFault::Kind(LineKind::Keyword)),
     }
 }
 
+#[inline(never)]
 #[tactic(auto, unfolding(crate::specs::Requests::mount_at))]
 fn mount_at(alloc: Global, words: &[Text]) -> Result<(Args, &[Text]), LineFault>
     ensures { Gives line_cause (λ x. (x.0, x.1.now)) result (mount_at words.now) }
@@ -209,6 +230,26 @@ fn perm_at(row: Row, words: &[Text]) -> Result<(u8, &[Text]), LineFault>
     }
 }
 
+// The row that has this permission, and its place there.
+#[tactic(auto, using(crate::proofs::PlaceLaws::row_by_place))]
+fn row_and_place(word: &[u8]) -> Option<(Row, u8)>
+    ensures { MatchOption result (row_of word.now ≡ None) (λ found. (row_of word.now ≡ Some found.0) × (place_in found.0 word.now ≡ Some found.1)) }
+{
+    if let Some(place) = place_in(Row::Path, word) {
+        return Some((Row::Path, place));
+    }
+    if let Some(place) = place_in(Row::PathNumber, word) {
+        return Some((Row::PathNumber, place));
+    }
+    if let Some(place) = place_in(Row::Device, word) {
+        return Some((Row::Device, place));
+    }
+    if let Some(place) = place_in(Row::Pair, word) {
+        return Some((Row::Pair, place));
+    }
+    None
+}
+
 // What stands after the permission of a row of files.
 fn row_request<'a>(
     alloc: Global,
@@ -217,15 +258,12 @@ fn row_request<'a>(
 ) -> Result<(Args, u8, &'a [Text]), LineFault>
     ensures { Gives line_cause (λ x. (x.0, x.1, x.2.now)) result (row_request (row_of word.now) word.now words.now) }
 {
-    match row_of(word) {
+    match row_and_place(word) {
         None => Err(LineFault::Kind(LineKind::Keyword)),
-        Some(row) => match place_in(row, word) {
-            None => Err(LineFault::Kind(LineKind::Keyword)),
-            Some(perm) => {
-                let (args, rest) = args_at(alloc, row, perm, words)?;
-                Ok((args, perm, rest))
-            }
-        },
+        Some((row, perm)) => {
+            let (args, rest) = args_at(alloc, row, perm, words)?;
+            Ok((args, perm, rest))
+        }
     }
 }
 
@@ -295,6 +333,7 @@ fn unix_request(alloc: Global, words: &[Text]) -> Result<(Args, u8, &[Text]), Li
 }
 
 // What stands after `network`.
+#[inline(never)]
 #[tactic(auto, unfolding(crate::specs::Requests::network_request))]
 fn network_request(alloc: Global, words: &[Text]) -> Result<(Args, u8, &[Text]), LineFault>
     ensures { Gives line_cause (λ x. (x.0, x.1, x.2.now)) result (network_request words.now) }
@@ -314,6 +353,7 @@ fn network_request(alloc: Global, words: &[Text]) -> Result<(Args, u8, &[Text]),
 }
 
 // What stands after `misc`.
+#[inline(never)]
 #[tactic(auto, unfolding(crate::specs::Requests::misc_request))]
 fn misc_request(alloc: Global, words: &[Text]) -> Result<(Args, u8, &[Text]), LineFault>
     ensures { Gives line_cause (λ x. (x.0, x.1, x.2.now)) result (misc_request words.now) }
@@ -324,6 +364,7 @@ fn misc_request(alloc: Global, words: &[Text]) -> Result<(Args, u8, &[Text]), Li
 }
 
 // What stands after `task`.
+#[inline(never)]
 #[tactic(auto, unfolding(crate::specs::Requests::task_request))]
 fn task_request(alloc: Global, words: &[Text]) -> Result<(Args, u8, &[Text]), LineFault>
     ensures { Gives line_cause (λ x. (x.0, x.1, x.2.now)) result (task_request words.now) }
@@ -331,6 +372,25 @@ fn task_request(alloc: Global, words: &[Text]) -> Result<(Args, u8, &[Text]), Li
     let rest = only_at(b"manual_domain_transition", words)?;
     let (domain, rest) = domain_at(alloc, rest)?;
     Ok((Args::Manual(domain), 0, rest))
+}
+
+/// The place of the permission, the name's word and the text after it, where a text begins with a request of a single path. Takes no
+/// memory.
+#[tactic(auto, using(crate::proofs::PlaceLaws::path_is))]
+pub(crate) fn path_request(text: &[u8]) -> Option<(u8, &[u8], &[u8])>
+    ensures { IfSome result (λ found. request_line (words_of text.now) ≡ named_path found.0 found.1.now (words_of found.2.now)) }
+{
+    let (keyword, rest) = cut_word(text)?;
+    if !bytes_equal(keyword, b"file") {
+        return None;
+    }
+    let (word, rest) = cut_word(rest)?;
+    if bytes_equal(word, b"mount") {
+        return None;
+    }
+    let perm = place_in(Row::Path, word)?;
+    let (name, rest) = cut_word(rest)?;
+    Some((perm, name, rest))
 }
 
 /// Reads a request at the front of these words: its arguments, the place of its permission, and the words after them, which are its
