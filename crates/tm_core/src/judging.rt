@@ -37,12 +37,18 @@ pub fn judge<R: Rep>(
     ensures { IfOk result (λ found. found ≡ judged machine.now.state domain process.now request.now) }
 {
     let attached = machine.attached();
-    match verdict_of(alloc, machine.rep(), attached, domain, process, request)? {
-        Some(verdict) => {
-            let audit = audit_text(alloc, machine.policy(), domain, process, request, &verdict)?;
-            Ok(Some(Judged { verdict, audit }))
+    match verdict_of(alloc, machine.rep(), attached, domain, process, request) {
+        Ok(Some(verdict)) => {
+            match audit_text(alloc, machine.policy(), domain, process, request, &verdict) {
+                Ok(audit) => Ok(Some(Judged { verdict, audit })),
+                Err(fault) => {
+                    drop(verdict);
+                    Err(fault)
+                }
+            }
         }
-        None => Ok(None),
+        Ok(None) => Ok(None),
+        Err(fault) => Err(fault),
     }
 }
 

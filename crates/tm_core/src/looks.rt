@@ -7,7 +7,7 @@ ghost use Rattle.tm_take.specs.Situations.{situation_of};
 ghost use Rattle.tm_take.specs.Ways.{way_of};
 ghost use Rattle.tm_core.specs.Judging.{looked};
 
-use crate::judging::judge;
+use crate::judging::{Judged, judge};
 use std::alloc::Global;
 use tm_list::NoMemory;
 use tm_machine::Machine;
@@ -36,15 +36,8 @@ fn look<R: Rep>(
         &pending.now.process,
         &pending.request,
     ) {
-        Ok(Some(judged)) => {
-            let begun = begin(
-                alloc,
-                machine.version(),
-                domain,
-                pending,
-                judged.verdict,
-                judged.audit,
-            )?;
+        Ok(Some(Judged { verdict, audit })) => {
+            let begun = begin(alloc, machine.version(), domain, pending, verdict, audit)?;
             Ok(Some(begun))
         }
         Ok(None) => {

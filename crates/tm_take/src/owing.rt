@@ -9,7 +9,8 @@ ghost use Rattle.tm_legal.specs.Legal.{steps_of_line, steps_of_move};
 ghost use Rattle.tm_grammar.specs.Tomoyo.{tomoyo_grammar};
 ghost use Rattle.tm_take.specs.Taking.{owed_steps, asked_of};
 
-use std::alloc::Global;
+use std::alloc::{AllocError, Global};
+use std::marker::Model;
 use tm_entry::print_entry;
 use tm_list::{Copied, NoMemory, Seq};
 use tm_types::entry::Entry;
@@ -17,11 +18,48 @@ use tm_types::step::Step;
 use tm_types::verdict::{Move, Reason, Verdict};
 use tm_word::Text;
 
+/// A step that is kept apart, so that what owes it is small where it is moved.
+#[derive(Drop)]
+pub(crate) struct KeptStep {
+    step: Box<Step>,
+}
+
+impl Model for KeptStep {
+    ghost use Rattle.tm_types.specs.declared.step.Step.{Step};
+
+    ghost Value = { Step };
+
+    ghost view = { λ kept. kept.step.value };
+}
+
+impl KeptStep {
+    // This step, kept apart.
+    fn new(alloc: Global, step: Step) -> Result<KeptStep, NoMemory>
+        ensures { IfOk result (λ kept. kept ≡ step) }
+    {
+        match Box::new(alloc, step) {
+            Ok(step) => Ok(KeptStep { step }),
+            Err(refused) => {
+                drop(refused);
+                Err(AllocError)
+            }
+        }
+    }
+
+    // The step.
+    pub(crate) fn into_step(self) -> Step
+        ensures { result ≡ self }
+    {
+        let KeptStep { step } = self;
+        Box::into_inner(step)
+    }
+}
+
 /// The steps that a take owes: the one of its line, and then the one of its move.
 #[derive(Drop)]
 pub(crate) struct Owed {
-    pub line: Option<Step>,
-    pub lead: Option<Step>,
+    pub line: Option<KeptStep>,
+    pub lead: Option<KeptStep>,
 }
 
 /// What a take waits for: its own steps, one after another; the answer to the query of a serial; another look.
@@ -58,16 +96,22 @@ fn line_owed(
     before: u32,
     retry: u32,
     verdict: &Verdict,
-) -> Result<Option<Step>, NoMemory>
+) -> Result<Option<KeptStep>, NoMemory>
     ensures { IfOk result (λ step. option_to_list step ≡ steps_of_line tomoyo_grammar before retry verdict.now) }
 {
     match verdict.reason {
         Reason::Learn => match &verdict.line {
-            Some(line) => Ok(Some(Step::Learn(before, line.copy(alloc)?))),
+            Some(line) => {
+                let learn = Step::Learn(before, line.copy(alloc)?);
+                Ok(Some(KeptStep::new(alloc, learn)?))
+            }
             None => Ok(None),
         },
         Reason::Ask => match &verdict.line {
-            Some(line) => Ok(Some(Step::Ask(before, retry, printed(alloc, line)?))),
+            Some(line) => {
+                let ask = Step::Ask(before, retry, printed(alloc, line)?);
+                Ok(Some(KeptStep::new(alloc, ask)?))
+            }
             None => Ok(None),
         },
         Reason::Entry(_)
@@ -85,21 +129,28 @@ pub(crate) fn lead_owed(
     alloc: Global,
     before: u32,
     verdict: &Verdict,
-) -> Result<Option<Step>, NoMemory>
+) -> Result<Option<KeptStep>, NoMemory>
     ensures { IfOk result (λ step. option_to_list step ≡ steps_of_move before verdict.now) }
 {
     match verdict.step {
         Move::Make => match &verdict.target {
-            Some(name) => Ok(Some(Step::Make(before, name.copy(alloc)?))),
+            Some(name) => {
+                let make = Step::Make(before, name.copy(alloc)?);
+                Ok(Some(KeptStep::new(alloc, make)?))
+            }
             None => Ok(None),
         },
-        Move::Fail => Ok(Some(Step::Fail(before))),
+        Move::Fail => Ok(Some(KeptStep::new(alloc, Step::Fail(before))?)),
         Move::Stay | Move::Enter(_) => Ok(None),
     }
 }
 
 // The step of the move, where the verdict grants.
-fn lead_if_granted(alloc: Global, before: u32, verdict: &Verdict) -> Result<Option<Step>, NoMemory>
+fn lead_if_granted(
+    alloc: Global,
+    before: u32,
+    verdict: &Verdict,
+) -> Result<Option<KeptStep>, NoMemory>
     ensures { IfOk result (λ step. option_to_list step ≡ (if is_granting verdict.now.reason then steps_of_move before verdict.now else [])) }
 {
     if grants(&verdict.reason) {
@@ -145,7 +196,7 @@ impl Owed {
     }
 
     // The first step, and what is owed after it; None where nothing is owed.
-    pub(crate) fn first(self) -> Option<(Step, Owed)>
+    pub(crate) fn first(self) -> Option<(KeptStep, Owed)>
         ensures { MatchOption result (owed_steps self ≡ []) (λ next. owed_steps self ≡ next.0 ∷ owed_steps next.1) }
     {
         let Owed { line, lead } = self;

@@ -6,10 +6,11 @@ ghost use Rattle.tm_grammar.specs.Tomoyo.{tomoyo_grammar};
 ghost use Rattle.tm_take.specs.Situations.{situation_of};
 ghost use Rattle.tm_take.specs.Taking.{owed_steps, stage_of, rest_of, serial_of, begun_with, IsNext, TakesOut, LooksAgain};
 
-use crate::owing::{Awaited, Owed, grants, lead_owed, steps_owed};
+use crate::owing::{Awaited, KeptStep, Owed, grants, lead_owed, steps_owed};
 use crate::situations::ProcessSituation;
 use std::alloc::{AllocError, Global};
 use std::marker::Model;
+use std::mem::replace;
 use tm_list::{NoMemory, Seq};
 use tm_types::request::{Proc, Request};
 use tm_types::step::{Answered, Heard, Held, Look, MakeReply, Reply, Step, Take};
@@ -48,11 +49,9 @@ pub enum NextEvent {
     End,
 }
 
-/// A request in progress: a take that has begun and not ended. It has where its process stands and the domain that it is in, the
-/// request, the retry number, the looks before, the look that it is at with that look's verdict and audit text, where it leads, and
-/// what it waits for.
+/// The parts of a request in progress.
 #[derive(Drop)]
-pub struct RequestInProgress {
+struct AttemptParts {
     now: ProcessSituation,
     before: u32,
     request: Request,
@@ -65,6 +64,14 @@ pub struct RequestInProgress {
     awaited: Awaited,
 }
 
+/// A request in progress: a take that has begun and not ended. It has where its process stands and the domain that it is in, the
+/// request, the retry number, the looks before, the look that it is at with that look's verdict and audit text, where it leads, and
+/// what it waits for. These parts are kept apart, so that it is small where it is moved.
+#[derive(Drop)]
+pub struct RequestInProgress {
+    parts: Box<AttemptParts>,
+}
+
 impl Model for RequestInProgress {
     ghost use Rattle.tm_legal.specs.Play.{InProgress};
     ghost use Rattle.tm_take.specs.Situations.{situation_of};
@@ -73,21 +80,21 @@ impl Model for RequestInProgress {
     ghost Value = { InProgress };
 
     ghost view = { λ r. record {
-      now = situation_of r.now;
-      before = r.before;
-      request = r.request;
-      retry = r.retry;
-      looked = r.looked;
-      look = r.look;
-      verdict = r.verdict;
-      audit = r.audit;
-      after = r.after;
-      stage = stage_of r.awaited;
+      now = situation_of r.parts.value.now;
+      before = r.parts.value.before;
+      request = r.parts.value.request;
+      retry = r.parts.value.retry;
+      looked = r.parts.value.looked;
+      look = r.parts.value.look;
+      verdict = r.parts.value.verdict;
+      audit = r.parts.value.audit;
+      after = r.parts.value.after;
+      stage = stage_of r.parts.value.awaited;
     } };
 }
 
 // The first step that is owed, and what is owed after it; None where none is owed.
-fn first_owed(awaited: Awaited) -> Option<(Step, Owed)>
+fn first_owed(awaited: Awaited) -> Option<(KeptStep, Owed)>
     ensures { MatchOption result (rest_of (stage_of awaited) ≡ []) (λ next. stage_of awaited ≡ Stage.Owing (next.0 ∷ owed_steps next.1)) }
 {
     match awaited {
@@ -128,13 +135,24 @@ fn look_grants(look: &Look) -> bool
     }
 }
 
+// Looks with room for one more, where there is none yet: most takes have one look alone.
+fn with_room(looks: Seq<Look>) -> Result<Vec<Look>, NoMemory>
+    ensures { IfOk result (λ roomy. roomy.items ≡ looks) }
+{
+    let mut looks = looks.into_vec();
+    if looks.is_empty() {
+        looks.reserve_exact(1)?;
+    }
+    Ok(looks)
+}
+
 // The looks with one look more.
 fn with_last(looks: Seq<Look>, look: Look) -> Result<Seq<Look>, NoMemory>
     ensures { IfOk result (λ all. all ≡ looks ++ look ∷ []) }
 {
-    let mut looks = looks;
+    let mut looks = with_room(looks)?;
     looks.push(look)?;
-    Ok(looks)
+    Ok(Seq::from_vec(looks))
 }
 
 // The number that a move enters.
@@ -176,7 +194,7 @@ pub fn begin(
         heard: None,
     };
     let after = entered(verdict.step);
-    Ok(RequestInProgress {
+    let parts = AttemptParts {
         now,
         before,
         request,
@@ -187,7 +205,14 @@ pub fn begin(
         audit,
         after,
         awaited: Awaited::Steps(owed),
-    })
+    };
+    match Box::new(alloc, parts) {
+        Ok(parts) => Ok(RequestInProgress { parts }),
+        Err(refused) => {
+            drop(refused);
+            Err(AllocError)
+        }
+    }
 }
 
 impl RequestInProgress {
@@ -195,35 +220,35 @@ impl RequestInProgress {
     pub fn process(&self) -> &Proc
         ensures { result.now ≡ self.entry.now.now.process }
     {
-        &self.now.process
+        &self.parts.now.process
     }
 
     /// The number of the domain that its process is in. Takes no memory.
     pub fn before(&self) -> u32
         ensures { result ≡ self.entry.now.before }
     {
-        self.before
+        self.parts.before
     }
 
     /// What is asked for. Takes no memory.
     pub fn request(&self) -> &Request
         ensures { result.now ≡ self.entry.now.request }
     {
-        &self.request
+        &self.parts.request
     }
 
     /// The look that it is at. Takes no memory.
     pub fn look(&self) -> &Look
         ensures { result.now ≡ self.entry.now.look }
     {
-        &self.look
+        &self.parts.look
     }
 
     /// What comes next. Takes no memory.
     pub fn next_event(&self) -> NextEvent
         ensures { IsNext result self.entry.now.stage }
     {
-        match &self.awaited {
+        match &self.parts.awaited {
             Awaited::Steps(owed) => {
                 if owed.is_nothing() {
                     NextEvent::End
@@ -240,43 +265,31 @@ impl RequestInProgress {
     pub(crate) fn awaits(&self) -> Option<u64>
         ensures { result ≡ serial_of self.entry.now.stage }
     {
-        match &self.awaited {
+        match &self.parts.awaited {
             Awaited::Steps(_) => None,
             Awaited::Answer(serial) => Some(*serial),
             Awaited::Look => None,
         }
     }
 
+    // Takes out what it waits for; until it is said what it waits for next, it is to look again.
+    fn take_awaited(self) -> (Awaited, RequestInProgress)
+        ensures awaited { stage_of result.0 ≡ self.stage }
+        ensures left { result.1 ≡ record self { stage = Stage.Looking } }
+    {
+        let mut attempt = self;
+        let awaited = replace(&mut attempt.parts.awaited, Awaited::Look);
+        (awaited, attempt)
+    }
+
     /// Takes the first step out that it owes; None where it owes none. Takes no memory.
     pub fn next_owed(self) -> Option<(Step, RequestInProgress)>
         ensures { MatchOption result (rest_of self.stage ≡ []) (λ next. TakesOut self next.0 next.1) }
     {
-        let RequestInProgress {
-            now,
-            before,
-            request,
-            retry,
-            looked,
-            look,
-            verdict,
-            audit,
-            after,
-            awaited,
-        } = self;
+        let (awaited, attempt) = self.take_awaited();
         let (step, left) = first_owed(awaited)?;
-        let left = RequestInProgress {
-            now,
-            before,
-            request,
-            retry,
-            looked,
-            look,
-            verdict,
-            audit,
-            after,
-            awaited: Awaited::Steps(left),
-        };
-        Some((step, left))
+        let next = attempt.awaiting(Awaited::Steps(left));
+        Some((step.into_step(), next))
     }
 
     // It waits for this from now on.
@@ -284,7 +297,7 @@ impl RequestInProgress {
         ensures { result ≡ record self { stage = stage_of awaited } }
     {
         let mut attempt = self;
-        attempt.awaited = awaited;
+        attempt.parts.awaited = awaited;
         attempt
     }
 
@@ -292,7 +305,7 @@ impl RequestInProgress {
     fn still_owing(self) -> RequestInProgress
         ensures { result ≡ record self { stage = Stage.Owing (rest_of self.stage) } }
     {
-        match &self.awaited {
+        match &self.parts.awaited {
             Awaited::Steps(_) => self,
             Awaited::Answer(_) | Awaited::Look => self.awaiting(Awaited::Steps(Owed::nothing())),
         }
@@ -303,7 +316,7 @@ impl RequestInProgress {
         ensures { IfOk result (λ next. next ≡ record self { look = with_own tomoyo_grammar self.look number }) }
     {
         let mut attempt = self;
-        match attempt.look.own.push(number) {
+        match attempt.parts.look.own.push(number) {
             Ok(()) => Ok(attempt),
             Err(fault) => {
                 drop(attempt);
@@ -317,7 +330,7 @@ impl RequestInProgress {
         ensures { result ≡ record self { look = with_heard tomoyo_grammar self.look answer version } }
     {
         let mut attempt = self;
-        attempt.look.heard = Some(Heard { answer, version });
+        attempt.parts.look.heard = Some(Heard { answer, version });
         attempt
     }
 
@@ -326,7 +339,7 @@ impl RequestInProgress {
         ensures { result ≡ record self { after = Some after } }
     {
         let mut attempt = self;
-        attempt.after = Some(after);
+        attempt.parts.after = Some(after);
         attempt
     }
 
@@ -358,7 +371,7 @@ impl RequestInProgress {
     fn owing_lead(self, alloc: Global) -> Result<RequestInProgress, NoMemory>
         ensures { IfOk result (λ next. next ≡ record self { stage = Stage.Owing (steps_of_move self.before self.verdict) }) }
     {
-        match lead_owed(alloc, self.before, &self.verdict) {
+        match lead_owed(alloc, self.parts.before, &self.parts.verdict) {
             Ok(lead) => Ok(self.awaiting(Awaited::Steps(Owed { line: None, lead }))),
             Err(fault) => {
                 drop(self);
@@ -391,14 +404,15 @@ impl RequestInProgress {
     pub fn again(self) -> Result<PendingLook, NoMemory>
         ensures { IfOk result (λ next. LooksAgain self next) }
     {
-        let RequestInProgress {
+        let RequestInProgress { parts } = self;
+        let AttemptParts {
             now,
             request,
             retry,
             looked,
             look,
             ..
-        } = self;
+        } = Box::into_inner(parts);
         let Some(retry) = retry.checked_add(1) else {
             return Err(AllocError);
         };
@@ -416,29 +430,10 @@ impl RequestInProgress {
         ensures { result ≡ (if granted then unwrap_or self.entry.now.after self.entry.now.before else self.entry.now.before) }
     {
         if granted {
-            self.after.unwrap_or(self.before)
+            self.parts.after.unwrap_or(self.parts.before)
         } else {
-            self.before
+            self.parts.before
         }
-    }
-
-    // The looks before, its look and its audit text.
-    fn into_parts(self) -> (Seq<Look>, Look, Option<Text>)
-        ensures { result ≡ (self.looked, self.look, self.audit) }
-    {
-        let RequestInProgress {
-            request,
-            looked,
-            look,
-            verdict,
-            audit,
-            awaited,
-            ..
-        } = self;
-        drop(request);
-        drop(verdict);
-        drop(awaited);
-        (looked, look, audit)
     }
 
     /// The take that it ends as: granted by its last look, into the domain where it leads, with all its looks and the last one's audit
@@ -446,11 +441,17 @@ impl RequestInProgress {
     pub fn into_take(self) -> Result<Take, NoMemory>
         ensures { IfOk result (λ ended. ended ≡ taken tomoyo_grammar self) }
     {
-        let granted = look_grants(&self.look);
+        let granted = look_grants(&self.parts.look);
         let after = self.domain_after(granted);
-        let before = self.before;
-        let pid = self.now.process.pid;
-        let (looked, look, audit) = self.into_parts();
+        let before = self.parts.before;
+        let pid = self.parts.now.process.pid;
+        let RequestInProgress { parts } = self;
+        let AttemptParts {
+            looked,
+            look,
+            audit,
+            ..
+        } = Box::into_inner(parts);
         let looks = with_last(looked, look)?;
         Ok(Take {
             pid,

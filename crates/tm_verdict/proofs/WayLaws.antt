@@ -12,8 +12,10 @@ use Rattle.tm_rules.specs.Policy.{live_domain, namespace_word}
 use Rattle.tm_rules.specs.Transition.{is_domain_name, can_enter}
 use Rattle.tm_legal.specs.Verdict.{made, move_to}
 use Rattle.tm_legal.specs.Play.{IsNamed}
+use Rattle.tm_word.specs.Gives.{Fails}
 use Rattle.tm_domain.specs.declared.DomainFault.{DomainFault}
-use Rattle.tm_domain.specs.Names.{domain_of, is_path, is_read}
+use Rattle.tm_domain.specs.declared.DomainFault.TheVariants.{NoMemory, NoNamespace, BadPath, TooLong}
+use Rattle.tm_domain.specs.Names.{domain_cause, domain_of, is_path, is_read}
 use Rattle.tm_domain.proofs.NameLaws.{right_name, same_texts}
 use Rattle.tm_verdict.specs.declared.targets.Way.{Way}
 use Rattle.tm_verdict.specs.Leading.{way_to}
@@ -62,3 +64,10 @@ module _ (policy : Policy) (domain : Domain) (strict : Bool) (name : DomainName)
   pub to_nothing : (fault : DomainFault) → IsNamed is_path policy → domain_of name ≡ Err fault → way false strict Move.Fail None ≡ way_to is_path policy domain strict (Some name)
   unfolding move_to can_enter
   to_nothing fault named e = let wrong : is_domain_name is_path name ≡ false = unread name fault e in rw (none_live policy name named wrong, wrong) refl
+
+  -- whatever is wrong with it
+  pub to_nowhere : (fault : DomainFault) → IsNamed is_path policy → ¬ (fault ≡ NoMemory) → Fails (domain_cause fault) (domain_of name) → way false strict Move.Fail None ≡ way_to is_path policy domain strict (Some name)
+  to_nowhere NoMemory named other fails = absurd (other refl)
+  to_nowhere NoNamespace named other fails = to_nothing NoNamespace named fails
+  to_nowhere (BadPath place) named other fails = to_nothing (BadPath place) named fails
+  to_nowhere TooLong named other fails = to_nothing TooLong named fails

@@ -104,10 +104,13 @@ fn way_of_made<R: Rep>(
 {
     match made {
         Ok(name) => Ok(way_to(rep, domain, strict, name)),
-        Err(DomainFault::NoMemory) => Err(AllocError),
-        Err(DomainFault::NoNamespace) => Ok(Way::fails(strict)),
-        Err(DomainFault::BadPath(_)) => Ok(Way::fails(strict)),
-        Err(DomainFault::TooLong) => Ok(Way::fails(strict)),
+        Err(fault) => {
+            if fault == DomainFault::NoMemory {
+                Err(AllocError)
+            } else {
+                Ok(Way::fails(strict))
+            }
+        }
     }
 }
 
