@@ -6,4 +6,5 @@ pub mod StepWords
 pub mod Reading
 pub mod Written
 pub mod Typed
+pub mod Room
 pub mod Laws

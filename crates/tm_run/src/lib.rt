@@ -6,10 +6,10 @@
 mod fields;
 mod lines;
 mod look;
-mod numbers;
 mod printing;
 mod reading;
 mod replies;
+mod room;
 mod step_words;
 mod steps;
 

@@ -1,145 +1,165 @@
 //! The line of a look.
-ghost use Rattle.std.specs.Prelude.{◌≡◌, ◌++◌, ◌∷◌, OnOk, decimal, true};
+ghost use Rattle.std.specs.Prelude.{◌≡◌, ◌+◌, ◌≤◌, ◌++◌, ◌∷◌, OnOk, decimal, true};
 ghost use Rattle.std.specs.List.{flat_map, list_all};
+ghost use Rattle.tm_run.specs.Room.{room};
 ghost use Rattle.tm_run.specs.Written.{is_place, is_reason, is_move, is_wide, is_heard, is_look};
-ghost use Rattle.tm_run.specs.RunText.{mode_word, place_text, reason_text, move_text, numbers_text, answer_text, heard_text, verdict_text, learned_text, look_text};
+ghost use Rattle.tm_run.specs.RunText.{mode_word, place_text, reason_text, move_text, numbers_text, answer_text, heard_text, verdict_text, look_text};
 
-use crate::numbers::{push_plain, push_small, push_wide};
+use crate::room::{make_room, put, put_plain, put_small, put_text, put_wide};
 use std::alloc::Global;
 use tm_list::NoMemory;
 use tm_types::policy::Mode;
 use tm_types::step::{Answered, Heard, Look};
 use tm_types::verdict::{EntryPlace, Move, Reason};
 
-fn push_mode(mode: Option<Mode>, out: &mut Vec<u8>) -> Result<(), NoMemory>
-    ensures { OnOk result (out.new.items ≡ out.old.items ++ mode_word mode) }
+#[tactic(auto, using(crate::proofs::Lengths::mode_length))]
+fn put_mode(mode: Option<Mode>, out: &mut Vec<u8>)
+    requires { 10 ≤ room out.old }
+    ensures text { out.new.items ≡ out.old.items ++ mode_word mode }
+    ensures room { room out.old ≤ room out.new + 10 }
 {
     match mode {
-        None => out.extend_from_slice(b"none"),
-        Some(mode) => out.extend_from_slice(mode.text().as_bytes()),
+        None => put_text(b"none", out),
+        Some(mode) => put_text(mode.text().as_bytes(), out),
     }
 }
 
-fn push_place(alloc: Global, place: EntryPlace, out: &mut Vec<u8>) -> Result<(), NoMemory>
-    ensures text { OnOk result (out.new.items ≡ out.old.items ++ place_text place) }
-    ensures range { OnOk result (is_place place ≡ true) }
+fn put_place(place: EntryPlace, out: &mut Vec<u8>)
+    requires { 20 ≤ room out.old }
+    ensures text { out.new.items ≡ out.old.items ++ place_text place }
+    ensures room { room out.old ≤ room out.new + 20 }
+    ensures range { is_place place ≡ true }
 {
     match place {
-        EntryPlace::Own(place) => push_plain(alloc, b"entry:", place, out),
+        EntryPlace::Own(place) => put_plain(b"entry:", place, out),
         EntryPlace::Acl(group, place) => {
-            push_small(alloc, b"group:", group, out)?;
-            push_plain(alloc, b":", place, out)
+            put_small(b"group:", group, out);
+            put_plain(b":", place, out);
         }
     }
 }
 
-fn push_reason(alloc: Global, reason: Reason, out: &mut Vec<u8>) -> Result<(), NoMemory>
-    ensures text { OnOk result (out.new.items ≡ out.old.items ++ reason_text reason) }
-    ensures range { OnOk result (is_reason reason ≡ true) }
+fn put_reason(reason: Reason, out: &mut Vec<u8>)
+    requires { 20 ≤ room out.old }
+    ensures text { out.new.items ≡ out.old.items ++ reason_text reason }
+    ensures room { room out.old ≤ room out.new + 20 }
+    ensures range { is_reason reason ≡ true }
 {
     match reason {
-        Reason::Entry(place) => push_place(alloc, place, out),
-        Reason::Disabled => out.extend_from_slice(b"disabled"),
-        Reason::Permissive => out.extend_from_slice(b"permissive"),
-        Reason::Quota => out.extend_from_slice(b"quota"),
-        Reason::Learn => out.extend_from_slice(b"learn"),
-        Reason::Ask => out.extend_from_slice(b"ask"),
-        Reason::NoEntry => out.extend_from_slice(b"no_entry"),
-        Reason::NotReady => out.extend_from_slice(b"not_ready"),
-        Reason::NoManual => out.extend_from_slice(b"no_manual"),
+        Reason::Entry(place) => put_place(place, out),
+        Reason::Disabled => put_text(b"disabled", out),
+        Reason::Permissive => put_text(b"permissive", out),
+        Reason::Quota => put_text(b"quota", out),
+        Reason::Learn => put_text(b"learn", out),
+        Reason::Ask => put_text(b"ask", out),
+        Reason::NoEntry => put_text(b"no_entry", out),
+        Reason::NotReady => put_text(b"not_ready", out),
+        Reason::NoManual => put_text(b"no_manual", out),
     }
 }
 
-fn push_move(alloc: Global, step: Move, out: &mut Vec<u8>) -> Result<(), NoMemory>
-    ensures text { OnOk result (out.new.items ≡ out.old.items ++ move_text step) }
-    ensures range { OnOk result (is_move step ≡ true) }
+fn put_move(step: Move, out: &mut Vec<u8>)
+    requires { 16 ≤ room out.old }
+    ensures text { out.new.items ≡ out.old.items ++ move_text step }
+    ensures room { room out.old ≤ room out.new + 16 }
+    ensures range { is_move step ≡ true }
 {
     match step {
-        Move::Stay => out.extend_from_slice(b"stay"),
-        Move::Enter(domain) => push_plain(alloc, b"enter:", domain, out),
-        Move::Make => out.extend_from_slice(b"make"),
-        Move::Fail => out.extend_from_slice(b"fail"),
+        Move::Stay => put_text(b"stay", out),
+        Move::Enter(domain) => put_plain(b"enter:", domain, out),
+        Move::Make => put_text(b"make", out),
+        Move::Fail => put_text(b"fail", out),
     }
 }
 
-fn push_others(alloc: Global, numbers: &[u64], out: &mut Vec<u8>) -> Result<(), NoMemory>
+fn put_verdict(look: &Look, out: &mut Vec<u8>)
+    requires { 48 ≤ room out.old }
+    ensures text { out.new.items ≡ out.old.items ++ verdict_text look.now }
+    ensures room { room out.old ≤ room out.new + 48 }
+    ensures range { (is_reason look.now.reason ≡ true) × (is_move look.now.step ≡ true) }
+{
+    put_mode(look.mode, out);
+    put(b' ', out);
+    put_reason(look.reason, out);
+    put(b' ', out);
+    put_move(look.step, out);
+}
+
+fn put_answer(answer: Option<Answered>, out: &mut Vec<u8>)
+    requires { 8 ≤ room out.old }
+    ensures text { out.new.items ≡ out.old.items ++ answer_text answer }
+    ensures room { room out.old ≤ room out.new + 8 }
+{
+    match answer {
+        None => put_text(b"nobody", out),
+        Some(Answered::Yes) => put_text(b"yes", out),
+        Some(Answered::No) => put_text(b"no", out),
+        Some(Answered::Retry) => put_text(b"retry", out),
+        Some(Answered::Detached) => put_text(b"detached", out),
+    }
+}
+
+fn put_heard(heard: Option<Heard>, out: &mut Vec<u8>)
+    requires { 29 ≤ room out.old }
+    ensures text { out.new.items ≡ out.old.items ++ heard_text heard }
+    ensures room { room out.old ≤ room out.new + 29 }
+    ensures range { is_heard heard ≡ true }
+{
+    match heard {
+        None => put(b'-', out),
+        Some(heard) => {
+            put_answer(heard.answer, out);
+            put_wide(b"@", heard.version, out);
+        }
+    }
+}
+
+// The numbers after the first one. Behind them there is room for what a look heard.
+fn push_others(numbers: &[u64], out: &mut Vec<u8>) -> Result<(), NoMemory>
+    requires { 31 ≤ room out.old }
     ensures text { OnOk result (out.new.items ≡ out.old.items ++ flat_map (λ other. 44 ∷ decimal other) numbers.now) }
+    ensures room { OnOk result (31 ≤ room out.new) }
     ensures range { OnOk result (list_all is_wide numbers.now ≡ true) }
 {
     for number in numbers {
-        push_wide(alloc, b",", *number, out)?;
+        make_room(52, out)?;
+        put_wide(b",", *number, out);
     }
     Ok(())
 }
 
-fn push_numbers(alloc: Global, numbers: &[u64], out: &mut Vec<u8>) -> Result<(), NoMemory>
+// The numbers of the steps that a look made. Behind them there is room for what it heard.
+fn push_numbers(numbers: &[u64], out: &mut Vec<u8>) -> Result<(), NoMemory>
+    requires { 51 ≤ room out.old }
     ensures text { OnOk result (out.new.items ≡ out.old.items ++ numbers_text numbers.now) }
+    ensures room { OnOk result (31 ≤ room out.new) }
     ensures range { OnOk result (list_all is_wide numbers.now ≡ true) }
 {
     match numbers {
-        [] => out.extend_from_slice(b"-"),
+        [] => {
+            put(b'-', out);
+            Ok(())
+        }
         [number, others @ ..] => {
-            push_wide(alloc, b"", *number, out)?;
-            push_others(alloc, others, out)
+            put_wide(b"", *number, out);
+            push_others(others, out)
         }
     }
 }
 
-fn push_answer(answer: Option<Answered>, out: &mut Vec<u8>) -> Result<(), NoMemory>
-    ensures { OnOk result (out.new.items ≡ out.old.items ++ answer_text answer) }
-{
-    match answer {
-        None => out.extend_from_slice(b"nobody"),
-        Some(Answered::Yes) => out.extend_from_slice(b"yes"),
-        Some(Answered::No) => out.extend_from_slice(b"no"),
-        Some(Answered::Retry) => out.extend_from_slice(b"retry"),
-        Some(Answered::Detached) => out.extend_from_slice(b"detached"),
-    }
-}
-
-fn push_heard(alloc: Global, heard: Option<Heard>, out: &mut Vec<u8>) -> Result<(), NoMemory>
-    ensures text { OnOk result (out.new.items ≡ out.old.items ++ heard_text heard) }
-    ensures range { OnOk result (is_heard heard ≡ true) }
-{
-    match heard {
-        None => out.extend_from_slice(b"-"),
-        Some(heard) => {
-            push_answer(heard.answer, out)?;
-            push_wide(alloc, b"@", heard.version, out)
-        }
-    }
-}
-
-fn push_verdict(alloc: Global, look: &Look, out: &mut Vec<u8>) -> Result<(), NoMemory>
-    ensures text { OnOk result (out.new.items ≡ out.old.items ++ verdict_text look.now) }
-    ensures range { OnOk result ((is_reason look.now.reason ≡ true) × (is_move look.now.step ≡ true)) }
-{
-    push_mode(look.mode, out)?;
-    out.push(b' ')?;
-    push_reason(alloc, look.reason, out)?;
-    out.push(b' ')?;
-    push_move(alloc, look.step, out)
-}
-
-fn push_learned(alloc: Global, look: &Look, out: &mut Vec<u8>) -> Result<(), NoMemory>
-    ensures text { OnOk result (out.new.items ≡ out.old.items ++ learned_text look.now) }
-    ensures range { OnOk result ((list_all is_wide look.now.own ≡ true) × (is_heard look.now.heard ≡ true)) }
-{
-    push_numbers(alloc, look.own.as_slice(), out)?;
-    out.push(b' ')?;
-    push_heard(alloc, look.heard, out)
-}
-
-pub(crate) fn push_look(alloc: Global, look: &Look, out: &mut Vec<u8>) -> Result<(), NoMemory>
+pub(crate) fn push_look(_alloc: Global, look: &Look, out: &mut Vec<u8>) -> Result<(), NoMemory>
     ensures text { OnOk result (out.new.items ≡ out.old.items ++ look_text look.now) }
     ensures range { OnOk result (is_look look.now ≡ true) }
 {
-    push_wide(alloc, b"look ", look.version, out)?;
-    out.push(b' ')?;
-    push_verdict(alloc, look, out)?;
-    out.push(b' ')?;
-    push_learned(alloc, look, out)?;
-    out.push(b'\n')?;
+    make_room(126, out)?;
+    put_wide(b"look ", look.version, out);
+    put(b' ', out);
+    put_verdict(look, out);
+    put(b' ', out);
+    push_numbers(look.own.as_slice(), out)?;
+    put(b' ', out);
+    put_heard(look.heard, out);
+    put(b'\n', out);
     Ok(())
 }
 

@@ -1,40 +1,45 @@
 //! The text of a run.
-ghost use Rattle.std.specs.Prelude.{◌≡◌, ◌++◌, ◌∷◌, [], IfOk, OnOk, OnErr, length, true};
+ghost use Rattle.std.specs.Prelude.{◌≡◌, ◌+◌, ◌≤◌, ◌++◌, IfOk, OnOk, OnErr, length, true};
 ghost use Rattle.std.specs.List.{list_all};
+ghost use Rattle.tm_run.specs.Room.{room};
 ghost use Rattle.tm_run.specs.Written.{is_plain, is_wide};
 ghost use Rattle.tm_run.specs.Typed.{is_typed_take, is_typed};
-ghost use Rattle.tm_run.specs.RunText.{granted_text, domains_text, take_line, take_text, audit_word, audit_line, takes_text, run_text};
+ghost use Rattle.tm_run.specs.RunText.{granted_text, domains_text, take_line, take_text, audit_line, takes_text, run_text};
 
 use crate::look::push_looks;
-use crate::numbers::{push_plain, push_wide};
+use crate::room::{make_room, put, put_plain, put_text, put_wide};
 use crate::steps::push_steps;
 use std::alloc::Global;
 use tm_list::NoMemory;
 use tm_types::step::{Run, Take};
 use tm_word::{Text, write_word};
 
-fn push_granted(granted: bool, out: &mut Vec<u8>) -> Result<(), NoMemory>
-    ensures { OnOk result (out.new.items ≡ out.old.items ++ granted_text granted) }
+fn put_granted(granted: bool, out: &mut Vec<u8>)
+    requires { 7 ≤ room out.old }
+    ensures text { out.new.items ≡ out.old.items ++ granted_text granted }
+    ensures room { room out.old ≤ room out.new + 7 }
 {
     if granted {
-        out.extend_from_slice(b"granted")
+        put_text(b"granted", out)
     } else {
-        out.extend_from_slice(b"denied")
+        put_text(b"denied", out)
     }
 }
 
-fn push_domains(alloc: Global, take: &Take, out: &mut Vec<u8>) -> Result<(), NoMemory>
-    ensures text { OnOk result (out.new.items ≡ out.old.items ++ domains_text take.now) }
-    ensures range { OnOk result ((is_plain take.now.pid ≡ true) × (is_plain take.now.before ≡ true)
-        × (is_plain take.now.after ≡ true)) }
+fn put_domains(take: &Take, out: &mut Vec<u8>)
+    requires { 32 ≤ room out.old }
+    ensures text { out.new.items ≡ out.old.items ++ domains_text take.now }
+    ensures room { room out.old ≤ room out.new + 32 }
+    ensures range { (is_plain take.now.pid ≡ true) × (is_plain take.now.before ≡ true)
+        × (is_plain take.now.after ≡ true) }
 {
-    push_plain(alloc, b"", take.pid, out)?;
-    push_plain(alloc, b" ", take.before, out)?;
-    push_plain(alloc, b" ", take.after, out)
+    put_plain(b"", take.pid, out);
+    put_plain(b" ", take.before, out);
+    put_plain(b" ", take.after, out);
 }
 
 pub(crate) fn push_take_line(
-    alloc: Global,
+    _alloc: Global,
     number: u64,
     take: &Take,
     out: &mut Vec<u8>,
@@ -43,22 +48,14 @@ pub(crate) fn push_take_line(
     ensures range { OnOk result ((is_plain take.now.pid ≡ true) × (is_plain take.now.before ≡ true)
         × (is_plain take.now.after ≡ true)) }
 {
-    push_wide(alloc, b"take ", number, out)?;
-    out.push(b' ')?;
-    push_domains(alloc, take, out)?;
-    out.push(b' ')?;
-    push_granted(take.granted, out)?;
-    out.push(b'\n')?;
+    make_room(67, out)?;
+    put_wide(b"take ", number, out);
+    put(b' ', out);
+    put_domains(take, out);
+    put(b' ', out);
+    put_granted(take.granted, out);
+    put(b'\n', out);
     Ok(())
-}
-
-fn push_audit(alloc: Global, audit: &Option<Text>, out: &mut Vec<u8>) -> Result<(), NoMemory>
-    ensures { OnOk result (out.new.items ≡ out.old.items ++ audit_word audit.now) }
-{
-    match audit {
-        None => out.extend_from_slice(b"-"),
-        Some(text) => write_word(alloc, text, out),
-    }
 }
 
 pub(crate) fn push_audit_line(
@@ -68,10 +65,15 @@ pub(crate) fn push_audit_line(
 ) -> Result<(), NoMemory>
     ensures { OnOk result (out.new.items ≡ out.old.items ++ audit_line audit.now) }
 {
-    out.extend_from_slice(b"audit ")?;
-    push_audit(alloc, audit, out)?;
-    out.push(b'\n')?;
-    Ok(())
+    match audit {
+        None => out.extend_from_slice(b"audit -\n"),
+        Some(text) => {
+            out.extend_from_slice(b"audit ")?;
+            write_word(alloc, text, out)?;
+            out.push(b'\n')?;
+            Ok(())
+        }
+    }
 }
 
 fn push_take(alloc: Global, number: u64, take: &Take, out: &mut Vec<u8>) -> Result<(), NoMemory>
@@ -117,5 +119,9 @@ pub fn print_run(alloc: Global, run: &Run, out: &mut Vec<u8>) -> Result<(), NoMe
     ensures range { OnOk result (is_typed run.now ≡ true) }
 {
     let text = run_text(alloc, run)?;
+    if out.is_empty() {
+        *out = text;
+        return Ok(());
+    }
     out.extend_from_slice(&text)
 }

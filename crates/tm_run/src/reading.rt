@@ -1,5 +1,5 @@
 //! Reading the text of a run, line by line.
-ghost use Rattle.std.specs.Prelude.{◌≡◌, ◌+◌, ◌∷◌, ◌<◌, [], length, true, false, Some, IfOk, MatchOption};
+ghost use Rattle.std.specs.Prelude.{◌≡◌, ◌+◌, ◌∷◌, ◌++◌, ◌&&◌, ◌<◌, [], length, true, false, Some, IfOk, MatchOption};
 ghost use Rattle.tm_run.specs.RunText.{run_text, take_line, look_text, audit_line};
 ghost use Rattle.tm_run.specs.Steps.{step_line};
 ghost use Rattle.tm_word.specs.Gives.{Gives};
@@ -70,6 +70,35 @@ fn is_audit_line(alloc: Global, audit: &Option<Text>, line: &[u8]) -> Result<boo
     Ok(bytes_equal(&printed, line))
 }
 
+// Whether a step is the next one after so many, and its line this one.
+fn is_next_step(
+    alloc: Global,
+    count: usize,
+    step: &(Step, Reply),
+    line: &[u8],
+) -> Result<bool, NoMemory>
+    ensures { IfOk result (λ same. same ≡ (has_number count && texts_equal (step_line (count + 1) step.now) line.now)) }
+{
+    match next_number(count) {
+        Some(number) => is_step_line(alloc, number, step, line),
+        None => Ok(false),
+    }
+}
+
+// One step more.
+fn put_step(reading: Reading, step: (Step, Reply)) -> Result<Reading, NoMemory>
+    ensures { IfOk result (λ next. next ≡ record reading { steps = reading.steps ++ step ∷ [] }) }
+{
+    let mut reading = reading;
+    match reading.steps.push(step) {
+        Ok(()) => Ok(reading),
+        Err(fault) => {
+            drop(reading);
+            Err(fault)
+        }
+    }
+}
+
 fn with_step(
     alloc: Global,
     reading: Reading,
@@ -78,15 +107,22 @@ fn with_step(
 ) -> Result<Option<Reading>, NoMemory>
     ensures { IfOk result (λ next. next ≡ with_step reading line.now (Some step)) }
 {
-    let Some(number) = next_number(reading.steps.len()) else {
-        return Ok(None);
-    };
-    if !is_step_line(alloc, number, &step, line)? {
-        return Ok(None);
+    match is_next_step(alloc, reading.steps.len(), &step, line) {
+        Ok(true) => match put_step(reading, step) {
+            Ok(next) => Ok(Some(next)),
+            Err(fault) => Err(fault),
+        },
+        Ok(false) => {
+            drop(reading);
+            drop(step);
+            Ok(None)
+        }
+        Err(fault) => {
+            drop(reading);
+            drop(step);
+            Err(fault)
+        }
     }
-    let mut reading = reading;
-    reading.steps.push(step)?;
-    Ok(Some(reading))
 }
 
 fn with_take(

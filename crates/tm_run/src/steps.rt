@@ -1,82 +1,96 @@
 //! The lines of the steps of a run.
-ghost use Rattle.std.specs.Prelude.{◌≡◌, ◌++◌, OnOk, length, true};
+ghost use Rattle.std.specs.Prelude.{◌≡◌, ◌+◌, ◌≤◌, ◌++◌, OnOk, length, true};
 ghost use Rattle.std.specs.List.{list_all};
+ghost use Rattle.tm_run.specs.Room.{room};
 ghost use Rattle.tm_run.specs.Written.{is_made, is_held, is_wide};
 ghost use Rattle.tm_run.specs.Typed.{has_numbers, replies_number, is_typed_step};
 ghost use Rattle.tm_run.specs.Steps.{make_text, fail_text, held_text, answer_reply_text, change_text, reply_text, step_text, step_line, steps_text};
 
-use crate::numbers::{push_plain, push_wide};
+use crate::room::{make_room, put, put_plain, put_text, put_wide};
 use std::alloc::Global;
 use tm_entry::print_entry;
 use tm_list::NoMemory;
 use tm_types::entry::Entry;
 use tm_types::step::{AnswerFault, FileKind, Held, MakeReply, Reply, Step};
 
-fn push_make(alloc: Global, reply: MakeReply, out: &mut Vec<u8>) -> Result<(), NoMemory>
-    ensures text { OnOk result (out.new.items ≡ out.old.items ++ make_text reply) }
+fn put_make(reply: MakeReply, out: &mut Vec<u8>)
+    requires { 14 ≤ room out.old }
+    ensures text { out.new.items ≡ out.old.items ++ make_text reply }
+    ensures room { room out.old ≤ room out.new + 14 }
     ensures range { is_made reply ≡ true }
 {
     match reply {
-        MakeReply::New(domain) => push_plain(alloc, b"new:", domain, out),
-        MakeReply::Old(domain) => push_plain(alloc, b"old:", domain, out),
+        MakeReply::New(domain) => put_plain(b"new:", domain, out),
+        MakeReply::Old(domain) => put_plain(b"old:", domain, out),
     }
 }
 
-fn push_fail(set: bool, out: &mut Vec<u8>) -> Result<(), NoMemory>
-    ensures { OnOk result (out.new.items ≡ out.old.items ++ fail_text set) }
+fn put_fail(set: bool, out: &mut Vec<u8>)
+    requires { 3 ≤ room out.old }
+    ensures text { out.new.items ≡ out.old.items ++ fail_text set }
+    ensures room { room out.old ≤ room out.new + 3 }
 {
     if set {
-        out.extend_from_slice(b"set")
+        put_text(b"set", out)
     } else {
-        out.extend_from_slice(b"was")
+        put_text(b"was", out)
     }
 }
 
-fn push_held(alloc: Global, held: Held, out: &mut Vec<u8>) -> Result<(), NoMemory>
-    ensures text { OnOk result (out.new.items ≡ out.old.items ++ held_text held) }
+fn put_held(held: Held, out: &mut Vec<u8>)
+    requires { 25 ≤ room out.old }
+    ensures text { out.new.items ≡ out.old.items ++ held_text held }
+    ensures room { room out.old ≤ room out.new + 25 }
     ensures range { is_held held ≡ true }
 {
     match held {
-        Held::Nobody => out.extend_from_slice(b"nobody"),
-        Held::Serial(serial) => push_wide(alloc, b"held:", serial, out),
+        Held::Nobody => put_text(b"nobody", out),
+        Held::Serial(serial) => put_wide(b"held:", serial, out),
     }
 }
 
-fn push_answer_reply(fault: Option<AnswerFault>, out: &mut Vec<u8>) -> Result<(), NoMemory>
-    ensures { OnOk result (out.new.items ≡ out.old.items ++ answer_reply_text fault) }
+fn put_answer_reply(fault: Option<AnswerFault>, out: &mut Vec<u8>)
+    requires { 8 ≤ room out.old }
+    ensures text { out.new.items ≡ out.old.items ++ answer_reply_text fault }
+    ensures room { room out.old ≤ room out.new + 8 }
 {
     match fault {
-        None => out.extend_from_slice(b"done"),
-        Some(AnswerFault::NoQuery) => out.extend_from_slice(b"no_query"),
-        Some(AnswerFault::Answered) => out.extend_from_slice(b"answered"),
-        Some(AnswerFault::BadAnswer) => out.extend_from_slice(b"bad"),
+        None => put_text(b"done", out),
+        Some(AnswerFault::NoQuery) => put_text(b"no_query", out),
+        Some(AnswerFault::Answered) => put_text(b"answered", out),
+        Some(AnswerFault::BadAnswer) => put_text(b"bad", out),
     }
 }
 
-fn push_change(changed: bool, out: &mut Vec<u8>) -> Result<(), NoMemory>
-    ensures { OnOk result (out.new.items ≡ out.old.items ++ change_text changed) }
+fn put_change(changed: bool, out: &mut Vec<u8>)
+    requires { 4 ≤ room out.old }
+    ensures text { out.new.items ≡ out.old.items ++ change_text changed }
+    ensures room { room out.old ≤ room out.new + 4 }
 {
     if changed {
-        out.extend_from_slice(b"done")
+        put_text(b"done", out)
     } else {
-        out.extend_from_slice(b"was")
+        put_text(b"was", out)
     }
 }
 
-fn push_reply(alloc: Global, reply: Reply, out: &mut Vec<u8>) -> Result<(), NoMemory>
-    ensures text { OnOk result (out.new.items ≡ out.old.items ++ reply_text reply) }
+#[tactic(auto, using(crate::proofs::Lengths::learn_length, crate::proofs::Lengths::edit_length))]
+fn put_reply(reply: Reply, out: &mut Vec<u8>)
+    requires { 25 ≤ room out.old }
+    ensures text { out.new.items ≡ out.old.items ++ reply_text reply }
+    ensures room { room out.old ≤ room out.new + 25 }
     ensures range { replies_number reply ≡ true }
 {
     match reply {
-        Reply::Learn(reply) => out.extend_from_slice(reply.text().as_bytes()),
-        Reply::Make(reply) => push_make(alloc, reply, out),
-        Reply::Fail(set) => push_fail(set, out),
-        Reply::Ask(held) => push_held(alloc, held, out),
-        Reply::Answer(fault) => push_answer_reply(fault, out),
-        Reply::Attach(changed) => push_change(changed, out),
-        Reply::Detach(changed) => push_change(changed, out),
-        Reply::Edit(reply) => out.extend_from_slice(reply.text().as_bytes()),
-        Reply::End => out.extend_from_slice(b"done"),
+        Reply::Learn(reply) => put_text(reply.text().as_bytes(), out),
+        Reply::Make(reply) => put_make(reply, out),
+        Reply::Fail(set) => put_fail(set, out),
+        Reply::Ask(held) => put_held(held, out),
+        Reply::Answer(fault) => put_answer_reply(fault, out),
+        Reply::Attach(changed) => put_change(changed, out),
+        Reply::Detach(changed) => put_change(changed, out),
+        Reply::Edit(reply) => put_text(reply.text().as_bytes(), out),
+        Reply::End => put_text(b"done", out),
     }
 }
 
@@ -86,69 +100,76 @@ fn push_learned(
     entry: &Entry,
     out: &mut Vec<u8>,
 ) -> Result<(), NoMemory>
+    requires { 17 ≤ room out.old }
     ensures text { OnOk result (out.new.items ≡ out.old.items ++ step_text (Step.Learn domain entry.now)) }
     ensures range { OnOk result (has_numbers (Step.Learn domain entry.now) ≡ true) }
 {
-    push_plain(alloc, b"learn ", domain, out)?;
-    out.push(b' ')?;
+    put_plain(b"learn ", domain, out);
+    put(b' ', out);
     print_entry(alloc, entry, out)
 }
 
-fn push_asked(
-    alloc: Global,
-    domain: u32,
-    retry: u32,
-    line: &[u8],
-    out: &mut Vec<u8>,
-) -> Result<(), NoMemory>
+fn push_made(domain: u32, name: &[u8], out: &mut Vec<u8>) -> Result<(), NoMemory>
+    requires { 16 ≤ room out.old }
+    ensures text { OnOk result (out.new.items ≡ out.old.items ++ step_text (Step.Make domain name.now)) }
+    ensures range { OnOk result (has_numbers (Step.Make domain name.now) ≡ true) }
+{
+    put_plain(b"make ", domain, out);
+    put(b' ', out);
+    out.extend_from_slice(name)
+}
+
+fn push_asked(domain: u32, retry: u32, line: &[u8], out: &mut Vec<u8>) -> Result<(), NoMemory>
+    requires { 26 ≤ room out.old }
     ensures text { OnOk result (out.new.items ≡ out.old.items ++ step_text (Step.Ask domain retry line.now)) }
     ensures range { OnOk result (has_numbers (Step.Ask domain retry line.now) ≡ true) }
 {
-    push_plain(alloc, b"ask ", domain, out)?;
-    push_plain(alloc, b" ", retry, out)?;
-    out.push(b' ')?;
+    put_plain(b"ask ", domain, out);
+    put_plain(b" ", retry, out);
+    put(b' ', out);
     out.extend_from_slice(line)
 }
 
-fn push_edited(
-    alloc: Global,
-    editor: u32,
-    file: FileKind,
-    line: &[u8],
-    out: &mut Vec<u8>,
-) -> Result<(), NoMemory>
+fn put_answered(serial: u64, code: u64, out: &mut Vec<u8>)
+    requires { 48 ≤ room out.old }
+    ensures text { out.new.items ≡ out.old.items ++ step_text (Step.Answer serial code) }
+    ensures range { has_numbers (Step.Answer serial code) ≡ true }
+{
+    put_wide(b"answer ", serial, out);
+    put_wide(b" ", code, out);
+}
+
+#[tactic(auto, using(crate::proofs::Lengths::policy_length))]
+fn push_edited(editor: u32, file: FileKind, line: &[u8], out: &mut Vec<u8>) -> Result<(), NoMemory>
+    requires { 33 ≤ room out.old }
     ensures text { OnOk result (out.new.items ≡ out.old.items ++ step_text (Step.Edit editor file line.now)) }
     ensures range { OnOk result (has_numbers (Step.Edit editor file line.now) ≡ true) }
 {
-    push_plain(alloc, b"edit ", editor, out)?;
-    out.push(b' ')?;
-    out.extend_from_slice(file.text().as_bytes())?;
-    out.push(b' ')?;
+    put_plain(b"edit ", editor, out);
+    put(b' ', out);
+    put_text(file.text().as_bytes(), out);
+    put(b' ', out);
     out.extend_from_slice(line)
 }
 
+// The words of a step, where there is room for those that are none of a line or of a name.
 fn push_step(alloc: Global, step: &Step, out: &mut Vec<u8>) -> Result<(), NoMemory>
+    requires { 48 ≤ room out.old }
     ensures text { OnOk result (out.new.items ≡ out.old.items ++ step_text step.now) }
     ensures range { OnOk result (has_numbers step.now ≡ true) }
 {
     match step {
-        Step::Learn(domain, entry) => push_learned(alloc, *domain, entry, out),
-        Step::Make(domain, name) => {
-            push_plain(alloc, b"make ", *domain, out)?;
-            out.push(b' ')?;
-            out.extend_from_slice(name.bytes())
-        }
-        Step::Fail(domain) => push_plain(alloc, b"fail ", *domain, out),
-        Step::Ask(domain, retry, line) => push_asked(alloc, *domain, *retry, line.bytes(), out),
-        Step::Answer(serial, code) => {
-            push_wide(alloc, b"answer ", *serial, out)?;
-            push_wide(alloc, b" ", *code, out)
-        }
-        Step::Attach => out.extend_from_slice(b"attach"),
-        Step::Detach => out.extend_from_slice(b"detach"),
-        Step::Edit(editor, file, line) => push_edited(alloc, *editor, *file, line.bytes(), out),
-        Step::End(tree) => push_plain(alloc, b"end ", *tree, out),
+        Step::Learn(domain, entry) => return push_learned(alloc, *domain, entry, out),
+        Step::Make(domain, name) => return push_made(*domain, name.bytes(), out),
+        Step::Fail(domain) => put_plain(b"fail ", *domain, out),
+        Step::Ask(domain, retry, line) => return push_asked(*domain, *retry, line.bytes(), out),
+        Step::Answer(serial, code) => put_answered(*serial, *code, out),
+        Step::Attach => put_text(b"attach", out),
+        Step::Detach => put_text(b"detach", out),
+        Step::Edit(editor, file, line) => return push_edited(*editor, *file, line.bytes(), out),
+        Step::End(tree) => put_plain(b"end ", *tree, out),
     }
+    Ok(())
 }
 
 pub(crate) fn push_step_line(
@@ -160,10 +181,11 @@ pub(crate) fn push_step_line(
     ensures text { OnOk result (out.new.items ≡ out.old.items ++ step_line number step.now) }
     ensures range { OnOk result (is_typed_step step.now ≡ true) }
 {
-    push_wide(alloc, b"step ", number, out)?;
-    out.push(b' ')?;
-    push_reply(alloc, step.1, out)?;
-    out.push(b' ')?;
+    make_room(100, out)?;
+    put_wide(b"step ", number, out);
+    put(b' ', out);
+    put_reply(step.1, out);
+    put(b' ', out);
     push_step(alloc, &step.0, out)?;
     out.push(b'\n')?;
     Ok(())

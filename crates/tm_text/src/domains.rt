@@ -4,6 +4,7 @@ ghost use Rattle.std.specs.List.{flat_map};
 ghost use Rattle.tm_policy_line.specs.Printing.{quota_words, failed_words};
 ghost use Rattle.tm_text.specs.DomainText.{flag_line, group_line, entry_line, name_lines, flag_lines, block_text, live_text, domain_text};
 
+use crate::whole::append;
 use std::alloc::Global;
 use tm_list::NoMemory;
 use tm_policy_line::{
@@ -115,5 +116,5 @@ pub fn print_domain(alloc: Global, policy: &Policy, out: &mut Vec<u8>) -> Result
     ensures err { OnErr result (out.new.items ≡ out.old.items) }
 {
     let text = domain_text(alloc, policy)?;
-    out.extend_from_slice(&text)
+    append(text, out)
 }

@@ -5,6 +5,7 @@ ghost use Rattle.tm_text.specs.ProfileText.{lent};
 ghost use Rattle.tm_text.specs.ExceptionText.{acl_lines, exception_lines, exception_text};
 
 use crate::profiles::by_name;
+use crate::whole::append;
 use std::alloc::Global;
 use tm_except::print_lists;
 use tm_list::{NoMemory, Seq};
@@ -86,5 +87,5 @@ pub fn print_exception(alloc: Global, policy: &Policy, out: &mut Vec<u8>) -> Res
     ensures err { OnErr result (out.new.items ≡ out.old.items) }
 {
     let text = exception_text(alloc, policy)?;
-    out.extend_from_slice(&text)
+    append(text, out)
 }

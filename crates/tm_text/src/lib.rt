@@ -8,6 +8,7 @@ mod exceptions;
 mod managers;
 mod permissions;
 mod profiles;
+mod whole;
 
 pub use domains::print_domain;
 pub use exceptions::print_exception;

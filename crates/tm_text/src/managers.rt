@@ -5,6 +5,7 @@ ghost use Rattle.tm_policy_line.specs.Printing.{non_root_words};
 ghost use Rattle.tm_text.specs.DomainText.{flag_line};
 ghost use Rattle.tm_text.specs.ManagerText.{manager_line, manager_text};
 
+use crate::whole::append;
 use std::alloc::Global;
 use tm_list::NoMemory;
 use tm_policy_line::{print_manager_line, print_non_root_line};
@@ -50,5 +51,5 @@ pub fn print_manager(alloc: Global, policy: &Policy, out: &mut Vec<u8>) -> Resul
     ensures err { OnErr result (out.new.items ≡ out.old.items) }
 {
     let text = manager_text(alloc, policy)?;
-    out.extend_from_slice(&text)
+    append(text, out)
 }

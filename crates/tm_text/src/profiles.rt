@@ -6,6 +6,7 @@ ghost use Rattle.tm_types.specs.declared.policy.Namespace.{Namespace};
 ghost use Rattle.tm_text.specs.Order.{IsOrdered};
 ghost use Rattle.tm_text.specs.ProfileText.{comes_before, with_namespace, placed, by_name, namespace_text, profile_text, lent, place_for};
 
+use crate::whole::append;
 use std::alloc::Global;
 use tm_list::NoMemory;
 use tm_profile::print_profiles;
@@ -101,7 +102,7 @@ pub fn print_profile(alloc: Global, policy: &Policy, out: &mut Vec<u8>) -> Resul
     ensures err { OnErr result (out.new.items ≡ out.old.items) }
 {
     let text = profile_text(alloc, policy)?;
-    out.extend_from_slice(&text)
+    append(text, out)
 }
 
 /// The order of namespaces, as a law over all lists of them: each is kept, and none stands right before one whose name comes first.
