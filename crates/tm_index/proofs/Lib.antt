@@ -4,6 +4,7 @@ pub mod PlaceLaws
 pub mod ListingLaws
 pub mod NameLaws
 pub mod FrontLaws
+pub mod KeptLaws
 pub mod WalkLaws
 pub mod StemLaws
 pub mod SearchLaws

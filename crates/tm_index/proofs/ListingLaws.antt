@@ -8,6 +8,8 @@ use Rattle.std.specs.List.{position_from, find, list_any, remove}
 use Rattle.std.specs.Option.{option_or, option_map_or}
 use Rattle.tm_word.specs.Words.{Text, Word}
 use Rattle.tm_word.specs.Texts.{texts_equal}
+use Rattle.tm_types.specs.declared.entry.Args.{Args}
+use Rattle.tm_types.specs.declared.entry.Cond.{Cond}
 use Rattle.tm_types.specs.declared.entry.Entry.{Entry}
 use Rattle.tm_rules.specs.Policy.{same_line, has_line, adding, deleting, without_permissions}
 use Rattle.tm_rules.proofs.EqualityLaws.{lines_are_same, same_texts}
@@ -125,7 +127,8 @@ shared-key : (line entry : Entry) → same_line entry line ≡ true → has_key 
 unfolding line_key
 shared-key line entry h =
     let parts = (lines_are_same entry line).0 h in
-    rw (parts.0, parts.1) (same_texts.full (line_key line))
+    let own : line_key entry ≡ line_key line = ap (λ (args : Args). line_key (record entry { args = args })) parts.0 ∙ ap (λ (cond : Cond). line_key (record line { cond = cond })) parts.1 in
+    ap (texts_equal (line_key line)) own ∙ same_texts.full (line_key line)
 
 -- the places of a line's words
 pub line_places : (index : Listed) (entries : List Entry) (label : Label) (line : Entry) → index ≡ listing entries → label ≡ label_of line → index.lines label.key ≡ places_from (has_key (line_key line)) 0 entries

@@ -1,8 +1,10 @@
--- By what an entry is found: the literal that its first name argument is, its stem, and the words of its line.
+-- By what an entry is found: the literal that its first name argument is, its stem, and a text of its line.
 use Rattle.std.specs.Prelude.{◌++◌}
 use Rattle.tm_word.specs.Words.{Text}
 use Rattle.tm_word.specs.Spelling.{joined}
 use Rattle.tm_line.specs.Lines.{spaced}
+use Rattle.tm_line.specs.Printing.{name_spelling}
+use Rattle.tm_types.specs.declared.entry.Args.{Args}
 use Rattle.tm_types.specs.declared.entry.Entry.{Entry}
 use Rattle.tm_types.specs.declared.entry.Perms.{Perms}
 use Rattle.tm_cond.specs.Reading.{cond_words}
@@ -15,9 +17,14 @@ use Rattle.tm_index.specs.declared.label.Label.{Label}
 abbrev pub one_permission : Perms
 one_permission = record { bits = 1 }
 
--- the printed words of a line's arguments and condition
+-- what equal arguments share: the spelling of a single path, the words of any other line
+abbrev pub args_key : Args → Text
+args_key (Args.Path name) = name_spelling name
+args_key args = joined (acl_words args one_permission)
+
+-- and the words of the condition
 unfoldable pub line_key : Entry → Text
-line_key entry = joined (acl_words entry.args one_permission) ++ spaced (cond_words entry.cond)
+line_key entry = args_key entry.args ++ spaced (cond_words entry.cond)
 
 -- what an entry is found by
 unfoldable pub label_of : Entry → Label

@@ -1,4 +1,5 @@
 pub mod Buckets
+pub mod Places
 pub mod Names
 pub mod Stems
 pub mod Labels

@@ -1,7 +1,8 @@
 //! Places by key: a map from keys to rising lists of places.
-ghost use Rattle.std.specs.Prelude.{◌≡◌, ℕ, List, [], true, drop, filter, map, not, ◌==◌, OnOk, OnErr};
+ghost use Rattle.std.specs.Prelude.{◌≡◌, ◌↔◌, ℕ, List, [], IsTrue, drop, filter, map, not, ◌==◌, OnOk, OnErr};
 ghost use Rattle.tm_index.specs.Buckets.{places_at, placing, with_place, front, lowered, closing};
 
+use crate::places::Places;
 use indexmap::IndexMap;
 use std::alloc::Global;
 use std::marker::Model;
@@ -11,7 +12,7 @@ use tm_list::{NoMemory, Seq};
 /// places have all gone stays.
 #[derive(Drop)]
 pub(crate) struct Buckets {
-    lists: IndexMap<Vec<u8>, Seq<u32>>,
+    lists: IndexMap<Vec<u8>, Places>,
 }
 
 impl Model for Buckets {
@@ -34,7 +35,7 @@ impl Buckets {
 
     /// Whether there is no key.
     pub(crate) fn is_empty(&self) -> bool
-        ensures { result ≡ true → self.now ≡ [] }
+        ensures { IsTrue result ↔ (self.now ≡ []) }
     {
         self.lists.is_empty()
     }
@@ -55,11 +56,10 @@ impl Buckets {
         ensures kept { OnErr result (self.new ≡ self.old) }
     {
         match self.lists.get_mut(key) {
-            Some(list) => list.push(place),
+            Some(list) => list.push(alloc, place),
             None => {
-                let mut list = Seq::new(alloc);
-                list.push(place)?;
-                self.lists.insert(Vec::from_slice(alloc, key)?, list)?;
+                self.lists
+                    .insert(Vec::from_slice(alloc, key)?, Places::one(place))?;
                 Ok(())
             }
         }
@@ -70,7 +70,7 @@ impl Buckets {
         ensures { places_at self.new ≡ placing key.now (front (places_at self.old key.now)) (places_at self.old) }
     {
         if let Some(list) = self.lists.get_mut(key) {
-            let _ = list.pop();
+            list.take_last();
         }
     }
 
@@ -79,7 +79,7 @@ impl Buckets {
         ensures { places_at self.new ≡ placing key.now (drop 1 (places_at self.old key.now)) (places_at self.old) }
     {
         if let Some(list) = self.lists.get_mut(key) {
-            take_first(list);
+            list.take_first();
         }
     }
 
@@ -89,14 +89,14 @@ impl Buckets {
     {
         for number in 0..self.lists.len() {
             if let Some(list) = self.lists.get_index_mut(number) {
-                close(list, place);
+                list.close(place);
             }
         }
     }
 }
 
-// Takes the first place out.
-fn take_first(list: &mut Seq<u32>)
+/// Takes the first place out.
+pub(crate) fn take_first(list: &mut Seq<u32>)
     ensures { list.new ≡ drop 1 list.old }
 {
     let mut places = list.take();
@@ -123,8 +123,8 @@ fn leave(places: &mut Vec<u32>, place: u32)
     places.retain(|there| *there != place);
 }
 
-// Where a place is after what stood at another one is gone.
-fn lowered(place: u32, there: u32) -> u32
+/// Where a place is after what stood at another one is gone.
+pub(crate) fn lowered(place: u32, there: u32) -> u32
     ensures { result ≡ lowered place there }
 {
     if there > place { there - 1 } else { there }

@@ -5,22 +5,24 @@ ghost use Rattle.std.specs.List.{flat_map};
 ghost use Rattle.tm_word.specs.declared.Component.{Component};
 ghost use Rattle.tm_word.specs.Printing.{element_bytes, literal_word};
 ghost use Rattle.tm_types.specs.Request.{joined_bytes};
-ghost use Rattle.tm_rules.specs.Equality.{patterns_equal};
 ghost use Rattle.tm_index.specs.Names.{pattern_of, first_pattern, literal_name, literal_of};
-ghost use Rattle.tm_index.specs.Labels.{line_key, label_of};
+ghost use Rattle.tm_index.specs.Labels.{args_key, line_key, label_of};
 
 use crate::stems::stem_of;
 use std::alloc::Global;
 use tm_cond::print_cond;
 use tm_entry::print_acl;
-use tm_list::{NoMemory, Same, Seq};
-use tm_pattern::literal;
+use tm_line::print_name;
+use tm_list::{NoMemory, Seq};
 use tm_types::entry::{Args, Entry, Perms};
 use tm_types::unions::NameUnion;
 use tm_word::{Component, Element, Pattern, Text, Word};
 
-/// What an entry is found by: the literal that its first name argument is, its stem, and the printed words of its arguments and its
-/// condition, which equal lines share.
+// Most keys have no more bytes than this.
+const KEY_ROOM: usize = 32;
+
+/// What an entry is found by: the literal that its first name argument is, its stem, and a text of its arguments and its condition,
+/// which equal lines share.
 #[derive(Drop)]
 pub(crate) struct Label {
     pub(crate) name: Option<Word>,
@@ -114,22 +116,13 @@ pub(crate) fn literal_word(alloc: Global, pattern: &[Component]) -> Result<Word,
     Ok(Seq::from_vec(literal_bytes(alloc, pattern)?))
 }
 
-// Whether two patterns are equal.
-fn patterns_equal(left: &Pattern, right: &Pattern) -> bool
-    ensures { result ≡ patterns_equal left.now right.now }
-{
-    left.same(right)
-}
-
 // The name of a literal; None for any other pattern.
 fn literal_name(alloc: Global, pattern: &Pattern) -> Result<Option<Word>, NoMemory>
     ensures { IfOk result (λ name. name ≡ literal_name pattern.now) }
 {
-    let word = literal_word(alloc, pattern.as_slice())?;
-    if patterns_equal(pattern, &literal(alloc, &word)?) {
-        Ok(Some(word))
-    } else {
-        Ok(None)
+    match pattern.name() {
+        Ok(name) => Ok(Some(Word::from_bytes(alloc, name.bytes())?)),
+        Err(_) => Ok(None),
     }
 }
 
@@ -144,13 +137,31 @@ fn literal_of(alloc: Global, args: &Args) -> Result<Option<Word>, NoMemory>
     }
 }
 
-// The printed words of the arguments and the condition.
+// Appends what equal arguments share.
+fn push_args_key(alloc: Global, args: &Args, out: &mut Vec<u8>) -> Result<(), NoMemory>
+    ensures { OnOk result (out.new.items ≡ out.old.items ++ args_key args.now) }
+{
+    match args {
+        Args::Path(name) => print_name(alloc, name, out),
+        Args::Execute(_, _)
+        | Args::PathNumber(_, _)
+        | Args::Device(_, _, _, _)
+        | Args::Path2(_, _)
+        | Args::Mount(_, _, _, _)
+        | Args::Inet(_, _, _)
+        | Args::Unix(_, _)
+        | Args::Env(_)
+        | Args::Manual(_) => print_acl(alloc, args, Perms { bits: 1 }, out),
+    }
+}
+
+// What equal arguments share, and the words of the condition.
 #[tactic(auto, unfolding(crate::specs::Labels::line_key))]
 fn line_key(alloc: Global, entry: &Entry) -> Result<Text, NoMemory>
     ensures { IfOk result (λ key. key ≡ line_key entry.now) }
 {
-    let mut text = Vec::new(alloc);
-    print_acl(alloc, &entry.args, Perms { bits: 1 }, &mut text)?;
+    let mut text = Vec::with_capacity(alloc, KEY_ROOM)?;
+    push_args_key(alloc, &entry.args, &mut text)?;
     print_cond(alloc, &entry.cond, &mut text)?;
     Ok(Seq::from_vec(text))
 }

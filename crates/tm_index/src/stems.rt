@@ -128,15 +128,25 @@ fn short_stem(bytes: Text) -> Option<Text>
     }
 }
 
-// The stem of a pattern.
-fn pattern_stem(alloc: Global, pattern: &Pattern) -> Result<Option<Text>, NoMemory>
-    ensures { IfOk result (λ stem. stem ≡ pattern_stem pattern.now) }
+// The stem of components.
+fn front_stem(alloc: Global, components: &[Component]) -> Result<Option<Text>, NoMemory>
+    ensures { IfOk result (λ stem. stem ≡ pattern_stem components.now) }
 {
-    let front = plain_front(pattern.as_slice());
+    let front = plain_front(components);
     if front.is_empty() {
         Ok(None)
     } else {
         Ok(short_stem(literal_word(alloc, front)?))
+    }
+}
+
+// The stem of a pattern.
+fn pattern_stem(alloc: Global, pattern: &Pattern) -> Result<Option<Text>, NoMemory>
+    ensures { IfOk result (λ stem. stem ≡ pattern_stem pattern.now) }
+{
+    match pattern.name() {
+        Ok(name) => Ok(short_stem(Text::from_bytes(alloc, name.bytes())?)),
+        Err(components) => front_stem(alloc, components),
     }
 }
 

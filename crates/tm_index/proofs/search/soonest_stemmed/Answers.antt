@@ -7,4 +7,4 @@ use Rattle.tm_index.proofs.search.soonest_stemmed.Goals as goal
 pub returns-then-is_empty : goal.returns-then-is_empty
 returns-then-is_empty c =
     soonest_none c.args.groups.now c.args.process.now (asked_as c.args.request.now (option_copied c.args.path)) c.args.entries.now c.args.list.now.stemmed c.args.found
-    (stems_asked (asked_as c.args.request.now (option_copied c.args.path)).args) (c.is_empty.ensures c.if-is_empty.true)
+    (stems_asked (asked_as c.args.request.now (option_copied c.args.path)).args) (c.is_empty.ensures.0 c.if-is_empty.true)

@@ -11,7 +11,7 @@ loop-number-preserved c =
     elim c.match-get_index_mut.branch [
       | in-Some w ↦
           value_next (closing c.args.place) c.loop-number.number c.self.inside.lists.entries c.loop-number.self-inside.lists.entries c.match-get_index_mut.self-inside.lists.entries
-          w.in-Some.list.now w.close.new.list c.loop-number.invariant (sym w.in-Some.ensures.value) w.close.ensures (ap (λ s. s.lists.entries) w.self-inside-is)
+          w.in-Some.list.now w.close.new.self c.loop-number.invariant (sym w.in-Some.ensures.value) w.close.ensures (ap (λ s. s.lists.entries) w.self-inside-is)
       | in_default w ↦
           none_next (closing c.args.place) c.loop-number.number c.self.inside.lists.entries c.loop-number.self-inside.lists.entries c.match-get_index_mut.self-inside.lists.entries
           c.loop-number.invariant (sym c.get_index_mut.ensures.value ∙ ap option_copied_mut w.in_default.is) (ap (λ s. s.lists.entries) w.self-inside-is)

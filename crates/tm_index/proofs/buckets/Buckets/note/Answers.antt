@@ -19,6 +19,6 @@ returns-in-Some-clause-kept c =
 
 pub returns-in_ok-insert-in-None-clause-done : goal.returns-in_ok-insert-in-None-clause-done
 returns-in_ok-insert-in-None-clause-done c =
-    noted_new (λ k. k.items) c.in_ok-from_slice-in-None.field-0 c.args.key.now c.args.place c.self.inside.lists.entries c.insert.new.self.entries c.push-in-None.new.self c.args.self.now
+    noted_new (λ k. k.items) c.in_ok-from_slice-in-None.field-0 c.args.key.now c.args.place c.self.inside.lists.entries c.insert.new.self.entries c.one.result c.args.self.now
     (sym c.in-None.ensures.value) c.in_ok-from_slice-in-None.ensures.items (rw c.get_mut.follows.holds-at-none at c.in_ok-insert-in-None.ensures.entries)
     (search rules) c.self.view_is

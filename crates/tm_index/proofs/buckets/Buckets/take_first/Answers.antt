@@ -8,8 +8,8 @@ pub returns : goal.returns
 returns c =
     elim c.match-get_mut.branch [
       | in-Some w ↦
-          changed_there (λ k. k.items) (drop 1) c.args.key.now c.self.inside.lists.entries c.match-get_mut.self-inside.lists.entries w.in-Some.list.now w.take_first.new.list c.args.self.now
-          (sym w.in-Some.ensures.value) (ap (λ s. s.lists.entries) w.self-inside-is ∙ (c.get_mut.follows.holds w.take_first.new.list).0)
+          changed_there (λ k. k.items) (drop 1) c.args.key.now c.self.inside.lists.entries c.match-get_mut.self-inside.lists.entries w.in-Some.list.now w.take_first.new.self c.args.self.now
+          (sym w.in-Some.ensures.value) (ap (λ s. s.lists.entries) w.self-inside-is ∙ (c.get_mut.follows.holds w.take_first.new.self).0)
           w.take_first.ensures c.self.view_is
       | in_default w ↦
           changed_none (λ k. k.items) (drop 1) c.args.key.now c.self.inside.lists.entries c.match-get_mut.self-inside.lists.entries c.args.self.now
