@@ -1,6 +1,6 @@
 //! Patterns read, printed and matched.
 use std::alloc::{AllocError, AllocFailed, Global};
-use tm_list::{NoMemory, Same};
+use tm_list::{Copied, NoMemory, Same};
 use tm_pattern::{
     PatternFault, is_literal, literal, matches, matches_bytes, print_pattern, read_pattern,
 };
@@ -234,6 +234,33 @@ fn literals_of_names(rt: HostRuntime) -> Result<(), NoMemory> {
             }
         } else {
             assert!(rt; false, "{name}");
+        }
+    }
+    Ok(())
+}
+
+#[test]
+fn a_literal_lends_its_name(rt: HostRuntime) -> Result<(), PatternFault> {
+    let alloc = rt.alloc();
+    for (text, name) in [("/a\\040b/c", "/a b/c"), ("", ""), ("a\\\\b", "a\\b")] {
+        let pattern = read_pattern(alloc, text.as_bytes())?;
+        let own = pattern.copy(alloc)?;
+        match own.name() {
+            Ok(word) => assert_eq!(rt; word.bytes(), name.as_bytes(), "{text}"),
+            Err(_) => assert!(rt; false, "{text}"),
+        }
+    }
+    Ok(())
+}
+
+#[test]
+fn another_pattern_lends_its_components(rt: HostRuntime) -> Result<(), PatternFault> {
+    let alloc = rt.alloc();
+    for (text, count) in [("/a/\\*", 3), ("/a\\-b/c/", 4), ("\\$", 1)] {
+        let pattern = read_pattern(alloc, text.as_bytes())?;
+        match pattern.name() {
+            Ok(_) => assert!(rt; false, "{text}"),
+            Err(components) => assert_eq!(rt; components.len(), count, "{text}"),
         }
     }
     Ok(())
