@@ -5,13 +5,14 @@ ghost use Rattle.tm_word.specs.Spelling.{spell, spelling_of, is_separator, words
 ghost use Rattle.tm_word.specs.Texts.{texts_equal, begins_with_byte, begins, after, pieces, IsCut, if_word};
 
 use crate::Text;
+use tm_list::Same;
 
 /// Whether two texts are equal, byte by byte.
 #[tactic(auto, using(crate::proofs::TextLaws::texts_are_same))]
 pub fn bytes_equal(left: &[u8], right: &[u8]) -> bool
     ensures { result ≡ texts_equal left.now right.now }
 {
-    left == right
+    u8::same_all(left, right)
 }
 
 /// Whether two texts are equal, byte by byte.
