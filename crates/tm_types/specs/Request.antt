@@ -1,7 +1,7 @@
 -- What a process asks for, and the words of its name arguments.
-use Rattle.std.specs.Prelude.{ℕ, List, [], ◌∷◌, ◌++◌, flat_map}
+use Rattle.std.specs.Prelude.{◌≡◌, ℕ, List, [], ◌∷◌, ◌++◌, ⊤, Option, Some, None, flat_map}
 use Rattle.tm_word.specs.declared.Component.{Component}
-use Rattle.tm_word.specs.Printing.{element_bytes, literal_word}
+use Rattle.tm_word.specs.Printing.{element_bytes, literal, literal_word}
 use Rattle.tm_types.specs.declared.unions.NameUnion.{NameUnion}
 use Rattle.tm_types.specs.declared.entry.Args.{Args}
 use Rattle.tm_types.specs.declared.request.Attributes.{Attributes}
@@ -29,6 +29,28 @@ argument_words (Args.Inet kind addr port) = []
 argument_words (Args.Unix kind n) = name_value n ∷ []
 argument_words (Args.Env n) = literal_word n ∷ []
 argument_words (Args.Manual domain) = []
+
+-- a name argument that is the literal of its word
+unfoldable pub IsLiteral : NameUnion → Type 0
+IsLiteral n = n ≡ NameUnion.One (literal (name_value n))
+
+-- each name argument is a name's literal
+unfoldable pub AreLiterals : Args → Type 0
+AreLiterals (Args.Path n) = IsLiteral n
+AreLiterals (Args.Execute n prefer) = IsLiteral n
+AreLiterals (Args.PathNumber n k) = IsLiteral n
+AreLiterals (Args.Device n mode major minor) = IsLiteral n
+AreLiterals (Args.Path2 n m) = IsLiteral n × IsLiteral m
+AreLiterals (Args.Mount device dir kind flags) = IsLiteral device × IsLiteral dir × IsLiteral kind
+AreLiterals (Args.Inet kind addr port) = ⊤
+AreLiterals (Args.Unix kind n) = IsLiteral n
+AreLiterals (Args.Env n) = IsLiteral (NameUnion.One n)
+AreLiterals (Args.Manual domain) = ⊤
+
+-- the names that are kept with arguments: none where each is a name's literal, and otherwise all
+unfoldable pub AreNamed : Args → Option (List (List ℕ)) → Type 0
+AreNamed args None = AreLiterals args
+AreNamed args (Some names) = names ≡ argument_words args
 
 -- the bytes of a literal: those of its first component, and each other one behind its slash
 abbrev pub joined_bytes : List Component → List ℕ
