@@ -1,5 +1,5 @@
 -- The text of an entry: its line, and each condition after a space.
-use Rattle.std.proofs.Common.{◌≡◌, List, ◌∷◌, ◌++◌, refl}
+use Rattle.std.proofs.Common.{◌≡◌, List, ◌∷◌, ◌++◌, refl, sym, ap, ◌∙◌, append_assoc}
 use Rattle.tm_word.specs.Words.{Text}
 use Rattle.tm_word.specs.Spelling.{joined}
 use Rattle.tm_types.specs.declared.entry.Args.{Args}
@@ -34,3 +34,10 @@ acl_first (Args.Manual domain) perms = record { first = _; rest = _; are = refl 
 pub entry_joined : (e : Entry) → joined (entry_words e) ≡ joined (acl_words e.args e.perms) ++ spaced (cond_words e.cond)
 unfolding entry_words
 entry_joined e = let w = acl_first e.args e.perms in rw w.are (joined_more w.first w.rest (cond_words e.cond))
+
+-- what a line and then its conditions are appended to ends with the words of the entry
+pub entry_printed : (e : Entry) (before one two : Text) → one ≡ before ++ joined (acl_words e.args e.perms) → two ≡ one ++ spaced (cond_words e.cond) → two ≡ before ++ joined (entry_words e)
+entry_printed e before one two first then =
+    then ∙ ap (λ t. t ++ spaced (cond_words e.cond)) first
+    ∙ append_assoc before (joined (acl_words e.args e.perms)) (spaced (cond_words e.cond))
+    ∙ ap (λ t. before ++ t) (sym (entry_joined e))

@@ -98,28 +98,22 @@ pub fn print_acl(
     }
 }
 
-/// Room for a line of usual length, so that its text seldom grows.
-const LINE_ROOM: usize = 64;
-
-// The words of an entry.
-#[tactic(auto, using(crate::proofs::TextLaws::entry_joined))]
-fn entry_text(alloc: Global, entry: &Entry) -> Result<Vec<u8>, NoMemory>
-    ensures { IfOk result (λ text. text.items ≡ joined (entry_words entry.now)) }
-{
-    let mut text = Vec::with_capacity(alloc, LINE_ROOM)?;
-    print_acl(alloc, &entry.args, entry.perms, &mut text)?;
-    print_cond(alloc, &entry.cond, &mut text)?;
-    Ok(text)
-}
-
 /// Appends the line of an entry, its words joined by single spaces: permissions in the row's order, numbers in the base that they were
 /// written in, clauses in their order and `grant_log` last. After want of memory `out` is as before.
+#[tactic(auto, using(crate::proofs::TextLaws::entry_printed))]
 pub fn print_entry(alloc: Global, entry: &Entry, out: &mut Vec<u8>) -> Result<(), NoMemory>
     ensures ok { OnOk result (out.new.items ≡ out.old.items ++ joined (entry_words entry.now)) }
     ensures err { OnErr result (out.new.items ≡ out.old.items) }
 {
-    let text = entry_text(alloc, entry)?;
-    out.extend_from_slice(&text)
+    let before = out.len();
+    print_acl(alloc, &entry.args, entry.perms, out)?;
+    match print_cond(alloc, &entry.cond, out) {
+        Ok(()) => Ok(()),
+        Err(refused) => {
+            out.truncate(before);
+            Err(refused)
+        }
+    }
 }
 
 /// Entries, as laws over all words: an entry that a line can write is read from its printed words as the equal entry; what is read is

@@ -383,6 +383,56 @@ fn perms_text(alloc: Global, acl_row: Row, bits: u16) -> Result<Vec<u8>, NoMemor
     }
 }
 
+// The name of the one permission of a path that is set; None where none or several are.
+#[tactic(auto, unfolding(crate::specs::Permissions::perm_on))]
+fn only_path(bits: u16) -> Option<&'static [u8]>
+    ensures { MatchOption result ⊤ (λ name. perms_spelling Row.Path bits ≡ name.now) }
+{
+    match bits {
+        1 => Some(b"execute"),
+        2 => Some(b"read"),
+        4 => Some(b"write"),
+        8 => Some(b"append"),
+        16 => Some(b"unlink"),
+        32 => Some(b"getattr"),
+        64 => Some(b"rmdir"),
+        128 => Some(b"truncate"),
+        256 => Some(b"symlink"),
+        512 => Some(b"chroot"),
+        1024 => Some(b"unmount"),
+        _ => None,
+    }
+}
+
+// The name of the one permission of a path and a number that is set; None where none or several are.
+#[tactic(auto, unfolding(crate::specs::Permissions::perm_on))]
+fn only_path_number(bits: u16) -> Option<&'static [u8]>
+    ensures { MatchOption result ⊤ (λ name. perms_spelling Row.PathNumber bits ≡ name.now) }
+{
+    match bits {
+        1 => Some(b"create"),
+        2 => Some(b"mkdir"),
+        4 => Some(b"mkfifo"),
+        8 => Some(b"mksock"),
+        16 => Some(b"ioctl"),
+        32 => Some(b"chmod"),
+        64 => Some(b"chown"),
+        128 => Some(b"chgrp"),
+        _ => None,
+    }
+}
+
+// The name of the one permission of its row that is set, for the rows of paths; None where none or several are.
+fn only_name(acl_row: Row, bits: u16) -> Option<&'static [u8]>
+    ensures { MatchOption result ⊤ (λ name. perms_spelling acl_row bits ≡ name.now) }
+{
+    match acl_row {
+        Row::Path => only_path(bits),
+        Row::PathNumber => only_path_number(bits),
+        Row::Device | Row::Pair | Row::Listening | Row::Sending => None,
+    }
+}
+
 /// Appends the permissions of a row in its order, joined by `/`. After want of memory `out` is as before.
 pub fn print_perms(
     alloc: Global,
@@ -393,6 +443,9 @@ pub fn print_perms(
     ensures ok { OnOk result (out.new.items ≡ out.old.items ++ perms_spelling acl_row bits) }
     ensures err { OnErr result (out.new.items ≡ out.old.items) }
 {
+    if let Some(name) = only_name(acl_row, bits) {
+        return out.extend_from_slice(name);
+    }
     let text = perms_text(alloc, acl_row, bits)?;
     out.extend_from_slice(&text)
 }
