@@ -114,7 +114,14 @@ found_later groups process request lists members k d r less is e =
     let next : suc k ≡ k + 1 = omega arith in
     groups_from groups process request lists members k d less ∙ found_next _ _ (sym is ∙ e) ∙ ap (λ n. found_in groups process request (acl_entries lists (drop n members))) next
 
--- what is found in the first list is found in both; where nothing is, what the second one has
-pub found_both : (groups : Groups) (process : Proc) (request : Request) (xs ys : List (EntryPlace × Entry)) (r s : Option Found)
-    → r ≡ found_in groups process request xs → s ≡ found_in groups process request ys → option_or r s ≡ found_in groups process request (xs ++ ys)
-found_both groups process request xs ys r s e h = rw (e, h) (sym (found-append groups process request xs ys))
+-- what is found in the first list is found in both
+pub found_own : (groups : Groups) (process : Proc) (request : Request) (xs ys : List (EntryPlace × Entry)) (r : Option Found) (found : Found)
+    → r ≡ found_in groups process request xs → r ≡ Some found → Some found ≡ found_in groups process request (xs ++ ys)
+found_own groups process request xs ys r found e is =
+    ap (λ (o : Option Found). option_or o (found_in groups process request ys)) (sym is ∙ e) ∙ sym (found-append groups process request xs ys)
+
+-- where nothing is found in the first list, what is found in the second one is found in both
+pub found_after : (groups : Groups) (process : Proc) (request : Request) (xs ys : List (EntryPlace × Entry)) (r s : Option Found)
+    → r ≡ found_in groups process request xs → r ≡ None → s ≡ found_in groups process request ys → s ≡ found_in groups process request (xs ++ ys)
+found_after groups process request xs ys r s e is h =
+    h ∙ ap (λ (o : Option Found). option_or o (found_in groups process request ys)) (sym is ∙ e) ∙ sym (found-append groups process request xs ys)

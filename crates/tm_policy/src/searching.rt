@@ -82,7 +82,7 @@ fn first_in_groups<L: ListSearch>(
 }
 
 // What is found first in a domain's own list and then in those of its ACL groups.
-#[tactic(auto, using(crate::proofs::Lists::found_both))]
+#[tactic(auto, using(crate::proofs::Lists::found_own, crate::proofs::Lists::found_after))]
 fn first_in_domain<L: ListSearch>(
     scan: &L,
     groups: &Groups,
@@ -109,16 +109,18 @@ fn first_in_domain<L: ListSearch>(
         None,
         domain.entries.as_slice(),
     );
-    let of_groups = first_in_groups(
-        scan,
-        groups,
-        process,
-        request,
-        path,
-        lists,
-        domain.groups.as_slice(),
-    );
-    own.or(of_groups)
+    match own {
+        Some(found) => Some(found),
+        None => first_in_groups(
+            scan,
+            groups,
+            process,
+            request,
+            path,
+            lists,
+            domain.groups.as_slice(),
+        ),
+    }
 }
 
 // The search in a domain of a namespace.
