@@ -129,6 +129,11 @@ module _ {V : Type 0} (bytes : V → Text) where
   unfolding places_at
   no_places name es h = sym (ap (λ o. unwrap_or o []) (sym (lookup-pairs name es) ∙ h))
 
+  -- what is stored under a key, or none, are its places
+  some_places : (name : Text) (es : List (V × List ℕ)) → unwrap_or (lookup (test_of name) es) [] ≡ places_at (pairs_of es) name
+  unfolding places_at
+  some_places name es = ap (λ o. unwrap_or o []) (lookup-pairs name es)
+
   -- another list under a key that is there
   pub places-set : (key : Text) (es : List (V × List ℕ)) (v w : List ℕ) → lookup (test_of key) es ≡ Some v → places_at (pairs_of (set_value (test_of key) es w)) ≡ placing key w (places_at (pairs_of es))
   unfolding places_at
@@ -157,6 +162,20 @@ module _ {V : Type 0} (bytes : V → Text) where
       let list : w ≡ places_at (pairs_of old) key ++ place ∷ [] = added ∙ ap (λ t. t ++ place ∷ []) (no_places key old h) in
       ap (λ es. places_at (pairs_of es)) e ∙ places-insert k old w ∙ ap (λ t. placing t w (places_at (pairs_of old))) read
       ∙ ap (λ t. placing key t (places_at (pairs_of old))) list ∙ ap (λ s. with_place key place (places_at s)) is
+
+  -- a place more under a key, which may be new
+  pub noted_entry : (k : V) (key : Text) (place : ℕ) (old new : List (V × List ℕ)) (v w none : List ℕ) (found : Option (List ℕ)) (seen : List (Text × List ℕ)) → v ≡ unwrap_or found none → found ≡ lookup (eq_of k) old → none ≡ [] → bytes k ≡ key → new ≡ insert_entry eq_of old k w → w ≡ v ++ place ∷ [] → pairs_of old ≡ seen
+      → places_at (pairs_of new) ≡ with_place key place (places_at seen)
+  noted_entry k key place old new v w none found seen h there empty read e added is =
+      let list : w ≡ places_at (pairs_of old) (bytes k) ++ place ∷ [] = added ∙ ap (λ t. t ++ place ∷ []) (h ∙ ap (λ o. unwrap_or o none) there ∙ ap (unwrap_or (lookup (eq_of k) old)) empty ∙ some_places (bytes k) old) in
+      ap (λ es. places_at (pairs_of es)) e ∙ places-insert k old w ∙ ap (λ t. placing (bytes k) t (places_at (pairs_of old))) list
+      ∙ ap (λ t. with_place t place (places_at (pairs_of old))) read ∙ ap (λ s. with_place key place (places_at s)) is
+
+  -- no place more under it
+  pub kept_entry : (k : V) (old new : List (V × List ℕ)) (v w none : List ℕ) (found : Option (List ℕ)) (seen : List (Text × List ℕ)) → v ≡ unwrap_or found none → found ≡ lookup (eq_of k) old → none ≡ [] → new ≡ insert_entry eq_of old k w → w ≡ v → pairs_of old ≡ seen
+      → places_at (pairs_of new) ≡ places_at seen
+  kept_entry k old new v w none found seen h there empty e same is =
+      ap (λ es. places_at (pairs_of es)) e ∙ places-insert k old w ∙ placing_same (bytes k) (places_at (pairs_of old)) w (same ∙ h ∙ ap (λ o. unwrap_or o none) there ∙ ap (unwrap_or (lookup (eq_of k) old)) empty ∙ some_places (bytes k) old) ∙ ap places_at is
 
   -- the list under a key is changed
   pub changed_there : (change : List ℕ → List ℕ) (key : Text) (old new : List (V × List ℕ)) (v w : List ℕ) (seen : List (Text × List ℕ)) → lookup (test_of key) old ≡ Some v → new ≡ set_value (test_of key) old w → w ≡ change v → pairs_of old ≡ seen

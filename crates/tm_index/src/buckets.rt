@@ -65,6 +65,18 @@ impl Buckets {
         }
     }
 
+    /// Notes one more place of a key, as a rule of a new one: that is looked for once. After want of memory each key has its places.
+    pub(crate) fn note_new(&mut self, alloc: Global, key: &[u8], place: u32) -> Result<(), NoMemory>
+        ensures done { OnOk result (places_at self.new ≡ with_place key.now place (places_at self.old)) }
+        ensures kept { OnErr result (places_at self.new ≡ places_at self.old) }
+    {
+        let list = self
+            .lists
+            .entry(Vec::from_slice(alloc, key)?)?
+            .or_insert(Places::none());
+        list.push(alloc, place)
+    }
+
     /// Takes the last place of a key out.
     pub(crate) fn take_last(&mut self, key: &[u8])
         ensures { places_at self.new ≡ placing key.now (front (places_at self.old key.now)) (places_at self.old) }

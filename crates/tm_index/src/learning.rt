@@ -48,11 +48,12 @@ pub(crate) fn look(
         Some(domain) => match index.domains.get(number as usize) {
             Some(noted) => {
                 let entries = domain.entries.as_slice();
+                let (at, there) = noted.own.line_place(entries, label, line);
                 Looked {
                     length: entries.len() as u32,
                     permissions: noted.permissions,
-                    at: noted.own.entry_place(entries, label, line),
-                    there: noted.own.has_line(entries, label, line),
+                    at,
+                    there,
                 }
             }
             None => unreachable!(),

@@ -49,7 +49,7 @@ impl ListIndex {
         ensures kept { OnErr result (listed self.new ≡ listed self.old) }
     {
         match name {
-            Some(name) => self.named.note(alloc, name.bytes(), place),
+            Some(name) => self.named.note_new(alloc, name.bytes(), place),
             None => self.others.push(place),
         }
     }
@@ -111,7 +111,7 @@ impl ListIndex {
         ensures kept { OnErr result (listed self.new ≡ listed self.old) }
     {
         self.note_stem(alloc, label.name.as_ref(), label.stem.as_ref(), place)?;
-        match self.lines.note(alloc, label.key.bytes(), place) {
+        match self.lines.note_new(alloc, label.key.bytes(), place) {
             Ok(()) => Ok(()),
             Err(fault) => {
                 self.take_stem(label.name.as_ref(), label.stem.as_ref());
@@ -180,13 +180,25 @@ impl ListIndex {
         first_sharing(entries, self.lines.get(label.key.bytes()), line)
     }
 
-    /// Whether the list has the whole line: an entry that shares it has each of its permissions. Takes no memory.
-    pub(crate) fn has_line(&self, entries: &[Entry], label: &Label, line: &Entry) -> bool
+    /// Where the first entry of the list stands that shares a line, and whether the list has the whole line: an entry that shares it has
+    /// each of its permissions. Takes no memory.
+    pub(crate) fn line_place(
+        &self,
+        entries: &[Entry],
+        label: &Label,
+        line: &Entry,
+    ) -> (Option<usize>, bool)
         requires listed { listed self.now ≡ listing entries.now }
         requires label { label.now ≡ label_of line.now }
-        ensures { result ≡ has_line line.now entries.now }
+        ensures found { result.0 ≡ position_from (λ (entry : Entry). same_line entry line.now) 0 entries.now }
+        ensures within { IfSome result.0 (λ place. place < length entries.now) }
+        ensures there { result.1 ≡ has_line line.now entries.now }
     {
-        any_having(entries, self.lines.get(label.key.bytes()), line)
+        let places = self.lines.get(label.key.bytes());
+        (
+            first_sharing(entries, places, line),
+            any_having(entries, places, line),
+        )
     }
 }
 

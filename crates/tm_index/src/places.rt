@@ -45,6 +45,13 @@ fn pair(alloc: Global, first: u32, second: u32) -> Result<Seq<u32>, NoMemory>
 }
 
 impl Places {
+    /// No place, which takes no memory.
+    pub(crate) fn none() -> Places
+        ensures { result ≡ [] }
+    {
+        Places { form: Form::None }
+    }
+
     /// One place, which takes no memory.
     pub(crate) fn one(place: u32) -> Places
         ensures { result ≡ place ∷ [] }

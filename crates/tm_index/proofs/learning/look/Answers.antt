@@ -10,13 +10,8 @@ use Rattle.tm_index.proofs.KnownLaws.{noted_somewhere, own_noted}
 use Rattle.tm_index.proofs.ChangeLaws.{read_within}
 use Rattle.tm_index.proofs.learning.look.Goals as goal
 
-pub entry_place-requires-clause-listed : goal.entry_place-requires-clause-listed
-entry_place-requires-clause-listed c =
-    ap (λ (d : Listed × ℕ). d.0) (own_noted c.args.index.now c.args.policy.now c.args.number c.in-Some.domain.now c.in-Some-get.noted.now c.requires.index (sym c.in-Some.ensures) (sym c.in-Some-get.ensures))
-    ∙ ap listing (sym c.as_slice-entries.ensures)
-
-pub has_line-requires-clause-listed : goal.has_line-requires-clause-listed
-has_line-requires-clause-listed c =
+pub line_place-at-requires-clause-listed : goal.line_place-at-requires-clause-listed
+line_place-at-requires-clause-listed c =
     ap (λ (d : Listed × ℕ). d.0) (own_noted c.args.index.now c.args.policy.now c.args.number c.in-Some.domain.now c.in-Some-get.noted.now c.requires.index (sym c.in-Some.ensures) (sym c.in-Some-get.ensures))
     ∙ ap listing (sym c.as_slice-entries.ensures)
 
@@ -31,9 +26,9 @@ returns-clause-looked c domain h =
       entries = ap length c.as_slice-entries.ensures ∙ ap (λ (d : Domain). length d.entries) same;
       permissions = ap (λ (d : Listed × ℕ). d.1) noted ∙ ap count same;
       at =
-          c.entry_place.ensures.found ∙ ap (position_from (λ (entry : Entry). same_line entry c.args.line.now) 0) c.as_slice-entries.ensures
+          c.line_place-at.ensures.found ∙ ap (position_from (λ (entry : Entry). same_line entry c.args.line.now) 0) c.as_slice-entries.ensures
           ∙ ap (λ (d : Domain). position_from (λ (entry : Entry). same_line entry c.args.line.now) 0 d.entries) same;
-      there = c.has_line.ensures ∙ ap (has_line c.args.line.now) c.as_slice-entries.ensures ∙ ap (λ (d : Domain). has_line c.args.line.now d.entries) same;
+      there = c.line_place-at.ensures.there ∙ ap (has_line c.args.line.now) c.as_slice-entries.ensures ∙ ap (λ (d : Domain). has_line c.args.line.now d.entries) same;
     }
 
 pub returns-clause-within : goal.returns-clause-within
