@@ -5,7 +5,7 @@ use Rattle.tm_types.specs.declared.entry.LineKind.{LineKind}
 use Rattle.tm_types.specs.declared.step.FileKind.{FileKind}
 use Rattle.tm_types.specs.declared.step.LearnReply.{LearnReply}
 use Rattle.tm_types.specs.declared.step.EditReply.{EditReply}
-use Rattle.tm_types.specs.Texts.{mode_text, policy_text, kind_text, learn_text, edit_text}
+use Rattle.tm_types.specs.Texts.{mode_text, policy_text, learn_text, edit_text}
 
 pub mode_length : (mode : Mode) → length (mode_text mode) ≤ 10
 mode_length Mode.Disabled = omega arith

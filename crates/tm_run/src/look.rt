@@ -6,7 +6,6 @@ ghost use Rattle.tm_run.specs.Written.{is_place, is_reason, is_move, is_wide, is
 ghost use Rattle.tm_run.specs.RunText.{mode_word, place_text, reason_text, move_text, numbers_text, answer_text, heard_text, verdict_text, look_text};
 
 use crate::room::{make_room, put, put_plain, put_small, put_text, put_wide};
-use std::alloc::Global;
 use tm_list::NoMemory;
 use tm_types::policy::Mode;
 use tm_types::step::{Answered, Heard, Look};
@@ -114,6 +113,9 @@ fn put_heard(heard: Option<Heard>, out: &mut Vec<u8>)
     }
 }
 
+// Room for one more number behind its comma, and for what a look heard behind it.
+const NEXT_ROOM: usize = 52;
+
 // The numbers after the first one. Behind them there is room for what a look heard.
 fn push_others(numbers: &[u64], out: &mut Vec<u8>) -> Result<(), NoMemory>
     requires { 31 ≤ room out.old }
@@ -122,7 +124,7 @@ fn push_others(numbers: &[u64], out: &mut Vec<u8>) -> Result<(), NoMemory>
     ensures range { OnOk result (list_all is_wide numbers.now ≡ true) }
 {
     for number in numbers {
-        make_room(52, out)?;
+        make_room(NEXT_ROOM, out)?;
         put_wide(b",", *number, out);
     }
     Ok(())
@@ -147,11 +149,14 @@ fn push_numbers(numbers: &[u64], out: &mut Vec<u8>) -> Result<(), NoMemory>
     }
 }
 
-pub(crate) fn push_look(_alloc: Global, look: &Look, out: &mut Vec<u8>) -> Result<(), NoMemory>
+// Room for the line of any look but its numbers: its words, its version, its verdict and what it heard.
+const LOOK_ROOM: usize = 126;
+
+pub(crate) fn push_look(look: &Look, out: &mut Vec<u8>) -> Result<(), NoMemory>
     ensures text { OnOk result (out.new.items ≡ out.old.items ++ look_text look.now) }
     ensures range { OnOk result (is_look look.now ≡ true) }
 {
-    make_room(126, out)?;
+    make_room(LOOK_ROOM, out)?;
     put_wide(b"look ", look.version, out);
     put(b' ', out);
     put_verdict(look, out);
@@ -163,12 +168,12 @@ pub(crate) fn push_look(_alloc: Global, look: &Look, out: &mut Vec<u8>) -> Resul
     Ok(())
 }
 
-pub(crate) fn push_looks(alloc: Global, looks: &[Look], out: &mut Vec<u8>) -> Result<(), NoMemory>
+pub(crate) fn push_looks(looks: &[Look], out: &mut Vec<u8>) -> Result<(), NoMemory>
     ensures text { OnOk result (out.new.items ≡ out.old.items ++ flat_map look_text looks.now) }
     ensures range { OnOk result (list_all is_look looks.now ≡ true) }
 {
     for look in looks {
-        push_look(alloc, look, out)?;
+        push_look(look, out)?;
     }
     Ok(())
 }

@@ -38,17 +38,15 @@ fn put_domains(take: &Take, out: &mut Vec<u8>)
     put_plain(b" ", take.after, out);
 }
 
-pub(crate) fn push_take_line(
-    _alloc: Global,
-    number: u64,
-    take: &Take,
-    out: &mut Vec<u8>,
-) -> Result<(), NoMemory>
+// Room for the line of any take: its words, its number and its three pids.
+const TAKE_ROOM: usize = 67;
+
+pub(crate) fn push_take_line(number: u64, take: &Take, out: &mut Vec<u8>) -> Result<(), NoMemory>
     ensures text { OnOk result (out.new.items ≡ out.old.items ++ take_line number take.now) }
     ensures range { OnOk result ((is_plain take.now.pid ≡ true) × (is_plain take.now.before ≡ true)
         × (is_plain take.now.after ≡ true)) }
 {
-    make_room(67, out)?;
+    make_room(TAKE_ROOM, out)?;
     put_wide(b"take ", number, out);
     put(b' ', out);
     put_domains(take, out);
@@ -80,8 +78,8 @@ fn push_take(alloc: Global, number: u64, take: &Take, out: &mut Vec<u8>) -> Resu
     ensures text { OnOk result (out.new.items ≡ out.old.items ++ take_text number take.now) }
     ensures range { OnOk result (is_typed_take take.now ≡ true) }
 {
-    push_take_line(alloc, number, take, out)?;
-    push_looks(alloc, take.looks.as_slice(), out)?;
+    push_take_line(number, take, out)?;
+    push_looks(take.looks.as_slice(), out)?;
     push_audit_line(alloc, &take.audit, out)
 }
 

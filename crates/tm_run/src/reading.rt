@@ -50,7 +50,7 @@ fn is_take_line(alloc: Global, number: u64, take: &Take, line: &[u8]) -> Result<
     ensures { IfOk result (λ same. same ≡ texts_equal (take_line number take.now) line.now) }
 {
     let mut printed = Vec::new(alloc);
-    push_take_line(alloc, number, take, &mut printed)?;
+    push_take_line(number, take, &mut printed)?;
     Ok(bytes_equal(&printed, line))
 }
 
@@ -58,7 +58,7 @@ fn is_look_line(alloc: Global, look: &Look, line: &[u8]) -> Result<bool, NoMemor
     ensures { IfOk result (λ same. same ≡ texts_equal (look_text look.now) line.now) }
 {
     let mut printed = Vec::new(alloc);
-    push_look(alloc, look, &mut printed)?;
+    push_look(look, &mut printed)?;
     Ok(bytes_equal(&printed, line))
 }
 

@@ -3,6 +3,7 @@ ghost use Rattle.std.specs.Prelude.{◌≡◌, ◌+◌, ◌≤◌, ◌++◌, ◌
 ghost use Rattle.tm_run.specs.Room.{room};
 ghost use Rattle.tm_run.specs.Written.{is_plain, is_wide};
 
+use itoa::Buffer;
 use tm_list::NoMemory;
 
 // Makes room for so many bytes.
@@ -37,19 +38,15 @@ pub(crate) fn put_text(text: &[u8], out: &mut Vec<u8>)
     }
 }
 
-// The digits of a number.
-#[tactic(auto, using(std::proofs::lemmas::Fmt::decimal_digit))]
+// The digits of a number of several digits.
+#[inline(never)]
 fn put_digits(number: u64, out: &mut Vec<u8>)
     requires { length (decimal number) ≤ room out.old }
     ensures text { out.new.items ≡ out.old.items ++ decimal number }
     ensures room { room out.old ≤ room out.new + length (decimal number) }
 {
-    if number < 10 {
-        put(b'0' + number as u8, out);
-        return;
-    }
-    put_digits(number / 10, out);
-    put(b'0' + (number % 10) as u8, out);
+    let mut buffer = Buffer::new();
+    put_text(buffer.format(number).as_bytes(), out);
 }
 
 // A number in decimal; that of one digit, as most are, without a call.

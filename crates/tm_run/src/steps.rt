@@ -172,6 +172,9 @@ fn push_step(alloc: Global, step: &Step, out: &mut Vec<u8>) -> Result<(), NoMemo
     Ok(())
 }
 
+// Room for the front of any step's line: its number, its word and its reply.
+const STEP_ROOM: usize = 100;
+
 pub(crate) fn push_step_line(
     alloc: Global,
     number: u64,
@@ -181,7 +184,7 @@ pub(crate) fn push_step_line(
     ensures text { OnOk result (out.new.items ≡ out.old.items ++ step_line number step.now) }
     ensures range { OnOk result (is_typed_step step.now ≡ true) }
 {
-    make_room(100, out)?;
+    make_room(STEP_ROOM, out)?;
     put_wide(b"step ", number, out);
     put(b' ', out);
     put_reply(step.1, out);
