@@ -1,6 +1,6 @@
 -- The verdict by kinds: what is in common to the code and the definition.
-use Rattle.std.proofs.Common.{◌≡◌, ℕ, ◌<◌, ◌≤◌, Bool, true, false, ◌&&◌, ◌||◌, not, refl, sym, ap, ◌∙◌, subst, length, arith}
-use Rattle.std.specs.Prelude.{Option, Some, None, Result, Ok, Err, IfOk, option_map, if◌then◌else◌}
+use Rattle.std.proofs.Common.{◌≡◌, ℕ, ◌<◌, ◌≤◌, Bool, true, false, ◌==◌, ◌&&◌, ◌||◌, not, refl, sym, ap, ◌∙◌, subst, length, arith, eqb-true}
+use Rattle.std.specs.Prelude.{Option, Some, None, Result, Ok, Err, IfOk, option_map, is_some, if◌then◌else◌}
 use Rattle.std.specs.List.{find}
 use Rattle.std.proofs.lemmas.Option.{slice_get_within}
 use Rattle.tm_word.specs.Words.{Text, Word}
@@ -26,13 +26,14 @@ use Rattle.tm_types.specs.declared.verdict.Found.{Found}
 use Rattle.tm_rules.proofs.EqualityLaws.{both}
 use Rattle.tm_rules.specs.Policy.{at_key, domain_at, profile_of, namespace_word, namespace_named, namespace_of}
 use Rattle.tm_rules.specs.Requests.{is_request, are_literal}
-use Rattle.tm_rules.specs.Condition.{is_execute}
+use Rattle.tm_rules.specs.Condition.{is_execute, is_manual}
 use Rattle.tm_rules.specs.Learned.{learned_line, line_of}
 use Rattle.tm_rules.specs.Search.{Granting, aggregated, path_of, first, found, found_of}
 use Rattle.tm_rules.specs.Transition.{candidate, decision, is_domain_name, can_enter}
 use Rattle.tm_legal.specs.Verdict.{is_enforcing, made, denied, by_entry, by_mode, move_to, manual_verdict, execute_verdict, verdict_in, verdict}
 use Rattle.tm_verdict.specs.declared.targets.Way.{Way}
 use Rattle.tm_verdict.specs.Leading.{granting_at, way_to, way_by}
+use Rattle.tm_verdict.specs.Short.{short_of, completed}
 use Rattle.tm_verdict.proofs.Firsts.{told}
 
 -- a target is told once
@@ -62,15 +63,15 @@ line_any request x y other = rw other refl
 
 module _ (is_path : Text → Bool) (policy : Policy) (domain : Domain) where
   -- a manual transition by where its name leads
-  pub manual_entered : (name : DomainName) (found : Granting) (way : Way) → way ≡ way_to is_path policy domain true (Some name) → way.ready ≡ true → by_entry None found way.leads.step way.leads.target ≡ manual_verdict is_path policy domain name (Some found)
+  pub manual_entered : (name : DomainName) (found : Granting) (way : Way) → way ≡ way_to is_path policy domain true (Some name) → way.ready ≡ true → (line : Entry) → completed (short_of (by_entry None found way.leads.step way.leads.target)) line ≡ manual_verdict is_path policy domain name (Some found)
   unfolding manual_verdict
-  manual_entered name found way is ready =
+  manual_entered name found way is ready line =
       let can : can_enter is_path policy domain.name name ≡ true = sym (ap (λ (w : Way). w.ready) is) ∙ ready in
       rw (can, is) (by_entry-made None found (move_to is_path policy domain (Some name)) (Some name))
 
-  pub manual_barred : (name : DomainName) (found : Granting) (way : Way) → way ≡ way_to is_path policy domain true (Some name) → way.ready ≡ false → denied None Reason.NotReady ≡ manual_verdict is_path policy domain name (Some found)
+  pub manual_barred : (name : DomainName) (found : Granting) (way : Way) → way ≡ way_to is_path policy domain true (Some name) → way.ready ≡ false → (line : Entry) → completed (short_of (denied None Reason.NotReady)) line ≡ manual_verdict is_path policy domain name (Some found)
   unfolding manual_verdict
-  manual_barred name found way is ready =
+  manual_barred name found way is ready line =
       let can : can_enter is_path policy domain.name name ≡ false = sym (ap (λ (w : Way). w.ready) is) ∙ ready in
       rw can refl
 
@@ -93,8 +94,8 @@ module _ (is_path : Text → Bool) (policy : Policy) (domain : Domain) where
     pub execute_barred : (not way.ready && (way.strict || is_enforcing mode)) ≡ true → denied (Some mode) Reason.NotReady ≡ execute_verdict is_path policy attached domain ns mode found request
     execute_barred barred = sym (execute_by ∙ rw barred refl)
 
-    pub execute_goes : (name : Word) → name ≡ aggregated ns (path_of request) → (not way.ready && (way.strict || is_enforcing mode)) ≡ false → by_mode mode attached domain found (learned_line request name) way.leads.step way.leads.target ≡ execute_verdict is_path policy attached domain ns mode found request
-    execute_goes name named free = rw named (sym (execute_by ∙ rw free refl))
+    pub execute_goes : (not way.ready && (way.strict || is_enforcing mode)) ≡ false → by_mode mode attached domain found (line_of ns request) way.leads.step way.leads.target ≡ execute_verdict is_path policy attached domain ns mode found request
+    execute_goes free = sym (execute_by ∙ rw free refl)
 
 -- a row has at most eleven permissions
 row-few : (args : Args) → length (row_functions args) ≤ 11
@@ -116,6 +117,17 @@ row-few (Args.Manual n) = omega arith
 pub perm_below : (args : Args) (perm : ℕ) (function : Function) → function_of args perm ≡ Some function → perm < 16
 unfolding function_of
 perm_below args perm function is = let within : perm < length (row_functions args) = slice_get_within (row_functions args) perm function is in omega (arith, within, row-few args)
+
+-- so has what a trace asks for: a manual transition has the first
+below_any : (args : Args) (perm : ℕ) (manual : Bool) (known : Option Function) → function_of args perm ≡ known → (is_some known || (manual && perm == 0)) ≡ true → perm < 16
+below_any args perm manual (Some function) is one = perm_below args perm function is
+below_any args perm true None is one = let first : perm ≡ 0 = eqb-true perm 0 one in omega (arith, first)
+below_any args perm false None is one = absurd cc
+
+pub asked_below : (is_path : Text → Bool) (request : Request) → is_request is_path request ≡ true → request.perm < 16
+unfolding is_request
+asked_below is_path request asked =
+    below_any request.args request.perm (is_manual request) (function_of request.args request.perm) refl (both _ _ (both _ _ asked).0).1
 
 -- what a manual transition asks for is a right name
 pub asked_name : (is_path : Text → Bool) (request : Request) (name : DomainName) → is_request is_path request ≡ true → request.args ≡ Args.Manual name → is_domain_name is_path name ≡ true

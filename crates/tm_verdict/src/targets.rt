@@ -16,9 +16,9 @@ use tm_except::control_kind;
 use tm_list::NoMemory;
 use tm_policy::Rep;
 use tm_types::entry::Prefer;
-use tm_types::policy::{ControlKind, Domain};
-use tm_types::unions::DomainName;
-use tm_types::verdict::Move;
+use tm_types::policy::{ControlKind, Domain, Mode};
+use tm_types::unions::{DomainName, NamePlace};
+use tm_types::verdict::{Move, Reason};
 use tm_word::{Text, bytes_equal};
 
 // Where a granted request leads: the move, and the name of a domain that is to be made.
@@ -26,6 +26,15 @@ use tm_word::{Text, bytes_equal};
 pub(crate) struct Leads {
     pub step: Move,
     pub target: Option<DomainName>,
+}
+
+// A verdict without the line that is to be learned or asked for, which its reason tells.
+#[derive(Drop)]
+pub(crate) struct Short {
+    pub mode: Option<Mode>,
+    pub reason: Reason,
+    pub name: NamePlace,
+    pub leads: Leads,
 }
 
 // Where a transition leads: whether its target can be entered, whether a target that can't be is denied in every mode, and the move.

@@ -7,16 +7,18 @@ ghost use Rattle.tm_domain.specs.Names.{is_path};
 ghost use Rattle.tm_grammar.specs.Tomoyo.{tomoyo_grammar};
 ghost use Rattle.tm_rules.specs.Few.{IsFew};
 ghost use Rattle.tm_rules.specs.Condition.{is_execute};
-ghost use Rattle.tm_rules.specs.Learned.{learned_line};
+ghost use Rattle.tm_types.specs.declared.entry.Entry.{Entry};
+ghost use Rattle.tm_rules.specs.Learned.{line_of};
 ghost use Rattle.tm_rules.specs.Policy.{namespace_of};
 ghost use Rattle.tm_rules.specs.Requests.{is_request};
 ghost use Rattle.tm_rules.specs.Search.{first};
 ghost use Rattle.tm_rules.specs.Transition.{is_domain_name};
 ghost use Rattle.tm_legal.specs.Play.{IsNamed};
-ghost use Rattle.tm_legal.specs.Verdict.{is_enforcing, made, moving, denied, by_entry, with_line, by_mode, in_mode, manual_verdict, execute_verdict, verdict_in, verdict};
+ghost use Rattle.tm_legal.specs.Verdict.{is_enforcing, made, moving, denied, by_entry, by_mode, in_mode, manual_verdict, execute_verdict, verdict_in, verdict};
+ghost use Rattle.tm_verdict.specs.Short.{short_of, completed, with_line_of};
 
 use crate::candidates::{Access, Granting, executed_name, found_entry};
-use crate::targets::{Leads, Way, execute_way, way_to};
+use crate::targets::{Leads, Short, Way, execute_way, way_to};
 use std::alloc::Global;
 use tm_domain::namespace as namespace_word;
 use tm_learn::learned_line;
@@ -30,102 +32,81 @@ use tm_types::policy::{Mode, Profile};
 use tm_types::request::{Proc, Request};
 use tm_types::unions::{DomainName, NamePlace};
 use tm_types::verdict::{Move, Reason, Verdict};
-use tm_word::Word;
 
 // The target is told exactly where the move is `Make`.
-fn made(leads: Leads) -> Option<DomainName>
-    ensures { result ≡ made leads.step leads.target }
+fn made(leads: Leads) -> Leads
+    ensures { result ≡ record { step = leads.step; target = made leads.step leads.target } }
 {
     match leads.step {
-        Move::Make => leads.target,
-        Move::Stay | Move::Enter(_) | Move::Fail => None,
+        Move::Make => leads,
+        Move::Stay | Move::Enter(_) | Move::Fail => Leads {
+            step: leads.step,
+            target: None,
+        },
     }
 }
 
 // Granted or asked, with where it leads.
-fn moving(mode: Mode, reason: Reason, leads: Leads) -> Verdict
-    ensures { result ≡ moving (Some mode) reason leads.step leads.target }
+fn moving(mode: Mode, reason: Reason, leads: Leads) -> Short
+    ensures { result ≡ short_of (moving (Some mode) reason leads.step leads.target) }
 {
-    Verdict {
+    Short {
         mode: Some(mode),
         reason,
         name: NamePlace::Own,
-        step: leads.step,
-        target: made(leads),
-        line: None,
+        leads: made(leads),
     }
 }
 
 // Granted by an entry, with where it leads.
-fn by_entry(mode: Option<Mode>, granting: &Granting<'_>, leads: Leads) -> Verdict
-    ensures { result ≡ by_entry mode granting.now leads.step leads.target }
+fn by_entry(mode: Option<Mode>, granting: &Granting<'_>, leads: Leads) -> Short
+    ensures { result ≡ short_of (by_entry mode granting.now leads.step leads.target) }
 {
     let found = granting.found();
-    Verdict {
+    Short {
         mode,
         reason: Reason::Entry(found.place),
         name: found.name,
-        step: leads.step,
-        target: made(leads),
-        line: None,
+        leads: made(leads),
     }
 }
 
 // Denied: the process stays.
-fn denied(mode: Option<Mode>, reason: Reason) -> Verdict
-    ensures { result ≡ denied mode reason }
+fn denied(mode: Option<Mode>, reason: Reason) -> Short
+    ensures { result ≡ short_of (denied mode reason) }
 {
-    Verdict {
+    Short {
         mode,
         reason,
         name: NamePlace::Own,
-        step: Move::Stay,
-        target: None,
-        line: None,
+        leads: Leads {
+            step: Move::Stay,
+            target: None,
+        },
     }
 }
 
-// With the line to be learned or asked for.
-fn with_line(verdict: Verdict, line: Entry) -> Verdict
-    ensures { result ≡ with_line verdict line }
-{
-    Verdict {
-        line: Some(line),
-        ..verdict
-    }
-}
-
-// What the mode says where no entry grants. `name` stands for the path of an execute in the line to be learned or asked for.
+// What the mode says where no entry grants.
 #[tactic(auto, unfolding(tm_legal::specs::Verdict::by_mode))]
-fn without_entry(
-    alloc: Global,
-    access: &Access<'_>,
-    mode: Mode,
-    name: &Word,
-    leads: Leads,
-) -> Result<Verdict, NoMemory>
-    requires { access.now.request.now.perm < 16 }
-    ensures { IfOk result (λ v. v
-        ≡ by_mode mode access.now.attached access.now.domain.now None
-        (learned_line access.now.request.now name.now) leads.step leads.target) }
+fn without_entry(access: &Access<'_>, mode: Mode, leads: Leads) -> Short
+    ensures { (line : Entry) → completed result line
+        ≡ by_mode mode access.now.attached access.now.domain.now None line leads.step leads.target }
 {
     match mode {
-        Mode::Disabled => Ok(moving(mode, Reason::Disabled, leads)),
+        Mode::Disabled => moving(mode, Reason::Disabled, leads),
         Mode::Learning => {
             if access.domain.quota_exceeded {
-                Ok(moving(mode, Reason::Quota, leads))
+                moving(mode, Reason::Quota, leads)
             } else {
-                let line = learned_line(alloc, access.request, name)?;
-                Ok(with_line(moving(mode, Reason::Learn, leads), line))
+                moving(mode, Reason::Learn, leads)
             }
         }
-        Mode::Permissive => Ok(moving(mode, Reason::Permissive, leads)),
+        Mode::Permissive => moving(mode, Reason::Permissive, leads),
         Mode::Enforcing => {
             if access.attached {
-                let line = learned_line(alloc, access.request, name)?;
-                Ok(with_line(moving(mode, Reason::Ask, leads), line))
+                moving(mode, Reason::Ask, leads)
             } else {
-                Ok(denied(Some(mode), Reason::NoEntry))
+                denied(Some(mode), Reason::NoEntry)
             }
         }
     }
@@ -133,40 +114,33 @@ fn without_entry(
 
 // From the mode on: disabled grants, then the entry that was found, then what the mode says.
 #[tactic(auto, unfolding(tm_legal::specs::Verdict::by_mode))]
-fn by_mode(
-    alloc: Global,
-    access: &Access<'_>,
-    mode: Mode,
-    name: &Word,
-    leads: Leads,
-) -> Result<Verdict, NoMemory>
-    requires { access.now.request.now.perm < 16 }
-    ensures { IfOk result (λ v. v
-        ≡ by_mode mode access.now.attached access.now.domain.now access.now.found
-        (learned_line access.now.request.now name.now) leads.step leads.target) }
+fn by_mode(access: &Access<'_>, mode: Mode, leads: Leads) -> Short
+    ensures { (line : Entry) → completed result line
+        ≡ by_mode mode access.now.attached access.now.domain.now access.now.found line leads.step leads.target }
 {
     match &access.found {
-        None => without_entry(alloc, access, mode, name, leads),
+        None => without_entry(access, mode, leads),
         Some(found) => match mode {
-            Mode::Disabled => Ok(moving(mode, Reason::Disabled, leads)),
-            Mode::Learning => Ok(by_entry(Some(mode), found, leads)),
-            Mode::Permissive => Ok(by_entry(Some(mode), found, leads)),
-            Mode::Enforcing => Ok(by_entry(Some(mode), found, leads)),
+            Mode::Disabled => moving(mode, Reason::Disabled, leads),
+            Mode::Learning => by_entry(Some(mode), found, leads),
+            Mode::Permissive => by_entry(Some(mode), found, leads),
+            Mode::Enforcing => by_entry(Some(mode), found, leads),
         },
     }
 }
 
 // A manual transition wants an entry and a target that can be entered.
+#[inline(never)]
 #[tactic(auto, using(crate::proofs::VerdictLaws::manual_entered, crate::proofs::VerdictLaws::manual_barred), unfolding(tm_legal::specs::Verdict::manual_verdict))]
 fn manual<R: Rep>(
     alloc: Global,
     rep: &R,
     access: &Access<'_>,
     name: &DomainName,
-) -> Result<Verdict, NoMemory>
+) -> Result<Short, NoMemory>
     requires few { IsFew (R.policy rep.now) }
     requires right { is_domain_name is_path name.now ≡ true }
-    ensures { IfOk result (λ v. v
+    ensures { IfOk result (λ v. (line : Entry) → completed v line
         ≡ manual_verdict is_path (R.policy rep.now) access.now.domain.now name.now access.now.found) }
 {
     let Some(found) = &access.found else {
@@ -196,17 +170,17 @@ fn is_barred(mode: Mode, way: &Way) -> bool
 }
 
 // An execute is denied where its target can't be entered and has to be; else it is as the mode says.
+#[inline(never)]
 fn execute<R: Rep>(
     alloc: Global,
     rep: &R,
     access: &Access<'_>,
     mode: Mode,
-) -> Result<Verdict, NoMemory>
+) -> Result<Short, NoMemory>
     requires few { IsFew (R.policy rep.now) }
     requires named { IsNamed is_path (R.policy rep.now) }
     requires execute { is_execute access.now.request.now ≡ true }
-    requires perm { access.now.request.now.perm < 16 }
-    ensures { IfOk result (λ v. v
+    ensures { IfOk result (λ v. completed v (line_of access.now.namespace.now access.now.request.now)
         ≡ execute_verdict is_path (R.policy rep.now) access.now.attached access.now.domain.now
         access.now.namespace.now mode access.now.found access.now.request.now) }
 {
@@ -214,22 +188,19 @@ fn execute<R: Rep>(
     if is_barred(mode, &way) {
         return Ok(denied(Some(mode), Reason::NotReady));
     }
-    let name = executed_name(access.namespace, access.request);
-    by_mode(alloc, access, mode, name, way.leads)
+    Ok(by_mode(access, mode, way.leads))
 }
 
 // The verdict in a mode: an execute goes by its target, and every other request stays in its domain.
-#[tactic(auto, using(crate::proofs::VerdictLaws::line_any))]
 fn in_mode<R: Rep>(
     alloc: Global,
     rep: &R,
     access: &Access<'_>,
     mode: Mode,
-) -> Result<Verdict, NoMemory>
+) -> Result<Short, NoMemory>
     requires few { IsFew (R.policy rep.now) }
     requires named { IsNamed is_path (R.policy rep.now) }
-    requires perm { access.now.request.now.perm < 16 }
-    ensures { IfOk result (λ v. v
+    ensures { IfOk result (λ v. completed v (line_of access.now.namespace.now access.now.request.now)
         ≡ in_mode is_path (R.policy rep.now) access.now.attached access.now.domain.now
         access.now.namespace.now access.now.request.now access.now.found mode) }
 {
@@ -240,21 +211,20 @@ fn in_mode<R: Rep>(
         step: Move::Stay,
         target: None,
     };
-    let name = Seq::new(alloc);
-    by_mode(alloc, access, mode, &name, leads)
+    Ok(by_mode(access, mode, leads))
 }
 
 // The verdict on a request that is no manual transition: in the mode of its function. None where it has no such permission.
-#[tactic(auto, using(crate::proofs::VerdictLaws::perm_below))]
 fn by_function<R: Rep>(
     alloc: Global,
     rep: &R,
     access: &Access<'_>,
     profile: &Profile,
-) -> Result<Option<Verdict>, NoMemory>
+) -> Result<Option<Short>, NoMemory>
     requires few { IsFew (R.policy rep.now) }
     requires named { IsNamed is_path (R.policy rep.now) }
-    ensures { IfOk result (λ v. v ≡ option_map (λ function.
+    ensures { IfOk result (λ v. option_map (with_line_of access.now.namespace.now access.now.request.now) v
+        ≡ option_map (λ function.
         in_mode is_path (R.policy rep.now) access.now.attached access.now.domain.now access.now.namespace.now
         access.now.request.now access.now.found (mode_of profile.now function))
         (function_of access.now.request.now.args access.now.request.now.perm)) }
@@ -274,14 +244,15 @@ fn judged<R: Rep>(
     rep: &R,
     access: &Access<'_>,
     profile: &Profile,
-) -> Result<Option<Verdict>, NoMemory>
+) -> Result<Option<Short>, NoMemory>
     requires few { IsFew (R.policy rep.now) }
     requires named { IsNamed is_path (R.policy rep.now) }
     requires asked { is_request is_path access.now.request.now ≡ true }
     ensures { IfOk result (λ v. (process : Proc) →
         namespace_of (R.policy rep.now) access.now.domain.now ≡ access.now.namespace.now →
         first access.now.namespace.now access.now.domain.now process access.now.request.now ≡ access.now.found →
-        v ≡ verdict_in is_path (R.policy rep.now) access.now.attached process access.now.request.now
+        option_map (with_line_of access.now.namespace.now access.now.request.now) v
+        ≡ verdict_in is_path (R.policy rep.now) access.now.attached process access.now.request.now
         access.now.domain.now profile.now) }
 {
     match access.request.args() {
@@ -298,6 +269,94 @@ fn judged<R: Rep>(
     }
 }
 
+// The line to be learned or asked for. Of an execute it has the aggregated name.
+#[inline(never)]
+#[tactic(auto, using(crate::proofs::VerdictLaws::line_any))]
+fn line_of(alloc: Global, access: &Access<'_>) -> Result<Entry, NoMemory>
+    requires { access.now.request.now.perm < 16 }
+    ensures { IfOk result (λ line. line ≡ line_of access.now.namespace.now access.now.request.now) }
+{
+    if is_execute(access.request) {
+        let name = executed_name(access.namespace, access.request);
+        return learned_line(alloc, access.request, name);
+    }
+    let name = Seq::new(alloc);
+    learned_line(alloc, access.request, &name)
+}
+
+// A verdict with its line, where it has one.
+fn completed(short: Short, line: Option<Entry>) -> Verdict
+    ensures { result ≡ record {
+      mode = short.mode;
+      reason = short.reason;
+      name = short.name;
+      step = short.leads.step;
+      target = short.leads.target;
+      line = line;
+    } }
+{
+    let Short {
+        mode,
+        reason,
+        name,
+        leads,
+    } = short;
+    Verdict {
+        mode,
+        reason,
+        name,
+        step: leads.step,
+        target: leads.target,
+        line,
+    }
+}
+
+// A verdict with the line that is to be learned or asked for.
+#[inline(never)]
+fn with_line(alloc: Global, access: &Access<'_>, short: Short) -> Result<Option<Verdict>, NoMemory>
+    requires { access.now.request.now.perm < 16 }
+    ensures { IfOk result (λ v. v ≡ Some (record {
+      mode = short.mode;
+      reason = short.reason;
+      name = short.name;
+      step = short.leads.step;
+      target = short.leads.target;
+      line = Some (line_of access.now.namespace.now access.now.request.now);
+    })) }
+{
+    match line_of(alloc, access) {
+        Ok(line) => Ok(Some(completed(short, Some(line)))),
+        Err(fault) => {
+            drop(short);
+            Err(fault)
+        }
+    }
+}
+
+// The verdict, with the line that is to be learned or asked for, where its reason wants one.
+fn finished(
+    alloc: Global,
+    access: &Access<'_>,
+    short: Option<Short>,
+) -> Result<Option<Verdict>, NoMemory>
+    requires { access.now.request.now.perm < 16 }
+    ensures { IfOk result (λ v. v ≡ option_map (with_line_of access.now.namespace.now access.now.request.now) short) }
+{
+    let Some(short) = short else {
+        return Ok(None);
+    };
+    match short.reason {
+        Reason::Learn | Reason::Ask => with_line(alloc, access, short),
+        Reason::Entry(_)
+        | Reason::Disabled
+        | Reason::Permissive
+        | Reason::Quota
+        | Reason::NoEntry
+        | Reason::NotReady
+        | Reason::NoManual => Ok(Some(completed(short, None))),
+    }
+}
+
 /// The verdict on a request of a process in the domain of this number, with a supervisor attached or not. A manual transition wants an
 /// entry and a target that can be entered. An execute whose target can't be entered is denied where a preference or a reset chose it,
 /// or in mode enforcing. Every request else goes by its mode: disabled grants, then the first entry that grants, then learning (up to
@@ -305,6 +364,7 @@ fn judged<R: Rep>(
 /// (stay, enter a live domain, make one, or fail), the domain to be made, and the line to be learned or asked for.
 ///
 /// None where the domain or its profile isn't there. Errors: want of memory.
+#[tactic(auto, using(crate::proofs::VerdictLaws::asked_below))]
 pub fn verdict_of<R: Rep>(
     alloc: Global,
     rep: &R,
@@ -337,5 +397,6 @@ pub fn verdict_of<R: Rep>(
         found: found_entry(namespace, place, rep.search(domain, process, request)),
         request,
     };
-    judged(alloc, rep, &access, profile)
+    let short = judged(alloc, rep, &access, profile)?;
+    finished(alloc, &access, short)
 }
