@@ -1,5 +1,6 @@
 //! A play from its first turn to its end, and what it leaves.
 ghost use Rattle.std.specs.Prelude.{◌≡◌, ◌++◌, IfOk, OnOk, flat_map, length, map};
+ghost use Rattle.tm_rules.specs.Few.{IsFew};
 ghost use Rattle.tm_rules.specs.Words.{Trace};
 ghost use Rattle.tm_desk.specs.Desks.{desk_book, IsDesk};
 ghost use Rattle.tm_types.specs.declared.step.Take.{Take};
@@ -15,10 +16,9 @@ use crate::rounds::{editor_turns, play_rounds, play_turns};
 use std::alloc::{AllocError, Global};
 use tm_desk::Desk;
 use tm_list::{NoMemory, Seq};
-use tm_machine::Machine;
 use tm_policy::Rep;
 use tm_take::TreeOnWay;
-use tm_types::step::{Query, Run, Take, Turn};
+use tm_types::step::{Query, Run, Start, Take, Turn};
 
 /// Plays the schedule, and then the default order, round and round, until nobody can move. The desk is asked where the machine was started
 /// for a supervisor.
@@ -55,10 +55,14 @@ pub fn play_out<R: Rep, F: Fn(&Query) -> u64>(
     Ok(player)
 }
 
-// Puts these takes last.
+// Puts these takes last; the first ones are taken over as they are.
 fn append(out: &mut Seq<Take>, takes: Seq<Take>) -> Result<(), NoMemory>
     ensures { OnOk result (out.new ≡ out.old ++ takes) }
 {
+    if out.is_empty() {
+        *out = takes;
+        return Ok(());
+    }
     for take in takes.into_vec() {
         out.push(take)?;
     }
@@ -76,15 +80,17 @@ fn all_takes(alloc: Global, trees: Vec<TreeOnWay>) -> Result<Seq<Take>, NoMemory
     Ok(all)
 }
 
-/// The run of a play that is over, and the machine at its last version.
+/// The run of a play that is over, the opening, and the representation of the policy at the last version. The run has the machine's steps.
 ///
 /// Errors: want of memory.
-pub fn end_play<R: Rep>(alloc: Global, player: Player<R>) -> Result<(Run, Machine<R>), NoMemory>
+pub fn end_play<R: Rep>(alloc: Global, player: Player<R>) -> Result<(Run, Start, R), NoMemory>
     ensures run { IfOk result (λ ended. ended.0 ≡ run_of (player_of player)) }
-    ensures machine { IfOk result (λ ended. ended.1 ≡ course_of player) }
+    ensures opening { IfOk result (λ ended. ended.1 ≡ (course_of player).start) }
+    ensures policy { IfOk result (λ ended. R.policy ended.2 ≡ (course_of player).state.policy) }
+    ensures few { IfOk result (λ ended. IsFew (R.policy ended.2)) }
 {
     let Player { machine, trees, .. } = player;
-    let steps = machine.history(alloc)?;
     let takes = all_takes(alloc, trees)?;
-    Ok((Run { steps, takes }, machine))
+    let (steps, opening, rep) = machine.into_history();
+    Ok((Run { steps, takes }, opening, rep))
 }

@@ -103,6 +103,16 @@ impl<R: Rep> Current<R> {
         })
     }
 
+    /// The opening, and the representation at the newest version.
+    pub(crate) fn into_ends(self) -> (Start, R)
+        ensures start { result.0 ≡ self.start }
+        ensures policy { R.policy result.1 ≡ self.state.policy }
+        ensures few { IsFew (R.policy result.1) }
+    {
+        let Current { start, rep, .. } = self;
+        (start, rep)
+    }
+
     /// Lends the opening.
     pub(crate) fn start(&self) -> &Start
         ensures { result.now ≡ self.now.start }

@@ -5,5 +5,6 @@
 
 mod current;
 mod machine;
+mod notes;
 
 pub use machine::Machine;

@@ -27,11 +27,11 @@ unfolding turns
 reached loaded book course player same by can starts = record { trees = rw same refl; can = rw (same, by) can; schedule = []; led = starts }
 
 -- the run of a player that was played out from its start
-pub play-of : {E : Type 0} (loaded : Loaded) (start : Start) (book : Book) (schedule : List Turn) (player : Player) (course : Course) (result : Result (Run × Course) E) → start ≡ start_of loaded → book ≡ loaded.book → schedule ≡ loaded.schedule
+pub play-of : {E : Type 0} (loaded : Loaded) (start : Start) (book : Book) (schedule : List Turn) (player : Player) (course : Course) (result : Result (Run × Start × Policy) E) → start ≡ start_of loaded → book ≡ loaded.book → schedule ≡ loaded.schedule
     → core.Plays (scenes.scene_of start loaded.trace book) schedule (run_of player) → Legal (scenes.scene_of start loaded.trace book) (run_of player) → final_policy (scenes.scene_of start loaded.trace book) (run_of player) ≡ course.state.policy
-    → IfOk result (λ ended. ended.0 ≡ run_of player) → IfOk result (λ ended. ended.1 ≡ course) → IfOk result (λ ended. IsPlayOf loaded ended.0 ended.1.state.policy)
-play-of loaded start book schedule player course (Ok ended) same by turned plays legal ends run_is course_is =
-    record { plays = rw run_is (move_plays plays); is_legal = rw run_is (move_legal legal); ends = rw (run_is, course_is) (move_ends ends) }
+    → IfOk result (λ ended. ended.0 ≡ run_of player) → IfOk result (λ ended. ended.2 ≡ course.state.policy) → IfOk result (λ ended. IsPlayOf loaded ended.0 ended.2)
+play-of loaded start book schedule player course (Ok ended) same by turned plays legal ends run_is policy_is =
+    record { plays = rw run_is (move_plays plays); is_legal = rw run_is (move_legal legal); ends = rw (run_is, policy_is) (move_ends ends) }
   where
     move_plays : core.Plays (scenes.scene_of start loaded.trace book) schedule (run_of player) → core.Plays (scene_of loaded) loaded.schedule (run_of player)
     move_plays h = subst (λ (s : List Turn). core.Plays (scene_of loaded) s (run_of player)) turned (subst (λ (b : Book). core.Plays (scenes.scene_of (start_of loaded) loaded.trace b) schedule (run_of player)) by (subst (λ (s : Start). core.Plays (scenes.scene_of s loaded.trace book) schedule (run_of player)) same h))
@@ -41,7 +41,7 @@ play-of loaded start book schedule player course (Ok ended) same by turned plays
 
     move_ends : final_policy (scenes.scene_of start loaded.trace book) (run_of player) ≡ course.state.policy → final_policy (scene_of loaded) (run_of player) ≡ course.state.policy
     move_ends h = subst (λ (b : Book). final_policy (scenes.scene_of (start_of loaded) loaded.trace b) (run_of player) ≡ course.state.policy) by (subst (λ (s : Start). final_policy (scenes.scene_of s loaded.trace book) (run_of player) ≡ course.state.policy) same h)
-play-of loaded start book schedule player course (Err error) same by turned plays legal ends run_is course_is = tt
+play-of loaded start book schedule player course (Err error) same by turned plays legal ends run_is policy_is = tt
 
 -- the texts of a run that what was read plays
 pub printed-so : {E : Type 0} (loaded : Loaded) (run : Run) (last opening : Policy) (result : Result Played E) → IsPlayOf loaded run last → opening ≡ loaded.policy → IfOk result (IsPrinted run opening last) → IfOk result (PlaysLoaded loaded)

@@ -1,6 +1,6 @@
 -- A run is played again: what its rerun needs, what it gives, and why a clean run from a plain opening is repeated.
 use Rattle.std.proofs.Common.{◌≡◌, ◌∙◌, ◌≤◌, ℕ, ◌+◌, true, not, ◌&&◌, List, [], ◌∷◌, length, refl, sym, ap, subst, arith}
-use Rattle.std.specs.Prelude.{map, Option, Some, None, Result, Ok, Err, IfOk, IsSome, IsTrue, is_some}
+use Rattle.std.specs.Prelude.{map, Option, Some, None, IsSome, IsTrue, is_some}
 use Rattle.std.specs.List.{AllByRecursion, position_from}
 use Rattle.tm_word.specs.Texts.{texts_equal}
 use Rattle.tm_rules.specs.Words.{DomainName, Trace}
@@ -24,7 +24,6 @@ use Rattle.tm_legal.proofs.Kept.{some_of, position_holds}
 use Rattle.tm_legal.proofs.Opened.{position-none, final_is_opened}
 use Rattle.tm_legal.proofs.Named.{final_is_named}
 use Rattle.tm_legal.proofs.Histories.{state_at-newest}
-use Rattle.tm_machine.specs.Machine.{Course}
 use Rattle.tm_rerun.specs.Rerun.{rerun_text}
 use Rattle.tomoyo.specs.declared.play.Played.{Played}
 use Rattle.tomoyo.specs.declared.reading.Loaded.{Loaded}
@@ -74,12 +73,10 @@ rerun-needs loaded run last can plays =
 -- What a rerun gives
 
 -- what is played with nobody else is played alone
-pub alone-so : {E : Type 0} (policy : Policy) (trace : Trace) (loaded : Loaded) (result : Result (Run × Course) E) → loaded ≡ nobody_else policy trace → IfOk result (λ ended. IsPlayOf loaded ended.0 ended.1.state.policy)
-    → IfOk result (λ ended. IsPlayAlone (alone tomoyo_grammar policy trace) ended.0 ended.1.state.policy)
-alone-so policy trace loaded (Ok ended) is h =
-    let plays : IsPlayOf (nobody_else policy trace) ended.0 ended.1.state.policy = subst (λ (l : Loaded). IsPlayOf l ended.0 ended.1.state.policy) is h in
+pub alone-so : (policy : Policy) (trace : Trace) (loaded : Loaded) (run : Run) (last : Policy) → loaded ≡ nobody_else policy trace → IsPlayOf loaded run last → IsPlayAlone (alone tomoyo_grammar policy trace) run last
+alone-so policy trace loaded run last is h =
+    let plays : IsPlayOf (nobody_else policy trace) run last = subst (λ (l : Loaded). IsPlayOf l run last) is h in
     record { plays = plays.plays; is_legal = plays.is_legal; ends = plays.ends }
-alone-so policy trace loaded (Err error) is h = tt
 
 pub can-alone : (policy : Policy) (trace : Trace) (loaded : Loaded) → loaded ≡ nobody_else policy trace → CanPlay (alone tomoyo_grammar policy trace) → CanPlay (scene_of loaded)
 can-alone policy trace loaded is can = subst (λ (l : Loaded). CanPlay (scene_of l)) (sym is) can

@@ -20,12 +20,13 @@ use tm_index::Indexed;
 use tm_io::FileList;
 use tm_list::NoMemory;
 use tm_machine::Machine;
+use tm_policy::Rep;
 use tm_rerun::summary_line;
 use tm_run::print_run;
 use tm_script::has_supervisor;
 use tm_text::{print_domain, print_exception, print_manager, print_profile};
 use tm_types::policy::Policy;
-use tm_types::step::{Query, Run, Take};
+use tm_types::step::{Query, Run, Start, Take};
 use tm_word::Text;
 
 /// The printed files of a policy.
@@ -47,12 +48,13 @@ pub struct Played {
     pub summary: Text,
 }
 
-// The run that is played of what was read, and the machine at its last version.
-pub(crate) fn run_of(alloc: Global, loaded: Loaded) -> Result<(Run, Machine<Indexed>), NoMemory>
+// The run that is played of what was read, its opening, and the policy at its last version with its index.
+pub(crate) fn run_of(alloc: Global, loaded: Loaded) -> Result<(Run, Start, Indexed), NoMemory>
     requires few { IsFew loaded.policy }
     requires can { CanPlay (scene_of loaded) }
-    ensures plays { IfOk result (λ ended. IsPlayOf loaded ended.0 ended.1.state.policy) }
-    ensures opening { IfOk result (λ ended. ended.1.start ≡ start_of loaded) }
+    ensures plays { IfOk result (λ ended. IsPlayOf loaded ended.0 ended.2) }
+    ensures opening { IfOk result (λ ended. ended.1 ≡ start_of loaded) }
+    ensures few { IfOk result (λ ended. IsFew ended.2) }
 {
     let Loaded {
         policy,
@@ -141,8 +143,8 @@ fn play_loaded(alloc: Global, loaded: Loaded) -> Result<Played, NoMemory>
     requires can { CanPlay (scene_of loaded) }
     ensures { IfOk result (PlaysLoaded loaded) }
 {
-    let (run, machine) = run_of(alloc, loaded)?;
-    texts_of(alloc, &run, &machine.opening().policy, machine.policy())
+    let (run, opening, last) = run_of(alloc, loaded)?;
+    texts_of(alloc, &run, &opening.policy, last.policy())
 }
 
 /// Plays what the files hold, or refuses it.

@@ -14,7 +14,6 @@ use std::alloc::Global;
 use tm_index::Indexed;
 use tm_io::FileList;
 use tm_list::{Copied, NoMemory, Seq};
-use tm_machine::Machine;
 use tm_policy::Rep;
 use tm_repeat::{clean_runs_grow, learned_runs_repeat, switched_domains, switched_stays_opened};
 use tm_rerun::{has_same_domains, rerun_line, switched};
@@ -56,21 +55,18 @@ fn nobody_else(alloc: Global, policy: Indexed, trace: Trace) -> Loaded
 }
 
 /// Plays a trace under a policy with nobody else: without editors, without a supervisor, and in the default order from the first turn on.
-/// Gives the run, and the machine at its last version.
+/// Gives the run, and the policy at its last version with its index.
 ///
 /// Errors: want of memory.
-pub fn rerun(
-    alloc: Global,
-    policy: Policy,
-    trace: Trace,
-) -> Result<(Run, Machine<Indexed>), NoMemory>
+pub fn rerun(alloc: Global, policy: Policy, trace: Trace) -> Result<(Run, Indexed), NoMemory>
     requires few { IsFew policy }
     requires can { CanPlay (alone tomoyo_grammar policy trace) }
-    ensures { IfOk result (λ ended. IsPlayAlone (alone tomoyo_grammar policy trace) ended.0 ended.1.state.policy) }
+    ensures { IfOk result (λ ended. IsPlayAlone (alone tomoyo_grammar policy trace) ended.0 ended.1) }
 {
     let rep = Indexed::new(alloc, policy)?;
     let loaded = nobody_else(alloc, rep, trace);
-    run_of(alloc, loaded)
+    let (run, _, last) = run_of(alloc, loaded)?;
+    Ok((run, last))
 }
 
 // The texts of a rerun, and whether it is in the domains of the first run.
@@ -95,19 +91,19 @@ fn print_rerun(
     })
 }
 
-// The rerun of a run that has led a machine to its last version; None where some tree has no live domain to start in.
+// The rerun of a run that has led to this policy; None where some tree has no live domain to start in.
 fn rerun_of(
     alloc: Global,
     run: &Run,
-    machine: &Machine<Indexed>,
+    rep: &Indexed,
     trace: Trace,
 ) -> Result<Option<RerunTexts>, NoMemory>
-    requires { CanRerun machine.now.state.policy trace }
-    ensures { IfOk result (Reruns machine.now.state.policy trace run.now) }
+    requires few { IsFew rep.now }
+    requires can { CanRerun rep.now trace }
+    ensures { IfOk result (Reruns rep.now trace run.now) }
 {
     switched_domains();
     switched_stays_opened();
-    let rep = machine.rep();
     if homeless(rep, trace.as_slice()).is_some() {
         return Ok(None);
     }
@@ -128,9 +124,9 @@ fn learn_loaded(alloc: Global, loaded: Loaded) -> Result<Learned, NoMemory>
     learned_runs_repeat();
     // A play takes its trace apart, tree by tree, so that the second play has a copy: its text isn't read again.
     let trace = loaded.trace.copy(alloc)?;
-    let (run, machine) = run_of(alloc, loaded)?;
-    let played = texts_of(alloc, &run, &machine.opening().policy, machine.policy())?;
-    let rerun = rerun_of(alloc, &run, &machine, trace)?;
+    let (run, opening, last) = run_of(alloc, loaded)?;
+    let played = texts_of(alloc, &run, &opening.policy, last.policy())?;
+    let rerun = rerun_of(alloc, &run, &last, trace)?;
     Ok(Learned { played, rerun })
 }
 

@@ -12,4 +12,4 @@ run_of-requires-clause-can c =
 pub returns : goal.returns
 returns c =
     let nobody : c.nobody_else-loaded.result ≡ nobody_else c.args.policy c.args.trace = c.nobody_else-loaded.ensures ∙ ap (λ (policy : Policy). nobody_else policy c.args.trace) c.in_ok-rep.ensures in
-    alone-so c.args.policy c.args.trace c.nobody_else-loaded.result c.run_of.result nobody c.run_of.ensures.plays
+    alone-so c.args.policy c.args.trace c.nobody_else-loaded.result c.in_ok-run.run' c.in_ok-run.last nobody c.in_ok-run.ensures.plays
