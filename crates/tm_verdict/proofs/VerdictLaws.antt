@@ -33,7 +33,7 @@ use Rattle.tm_rules.specs.Transition.{candidate, decision, is_domain_name, can_e
 use Rattle.tm_legal.specs.Verdict.{is_enforcing, made, denied, by_entry, by_mode, move_to, manual_verdict, execute_verdict, verdict_in, verdict}
 use Rattle.tm_verdict.specs.declared.targets.Way.{Way}
 use Rattle.tm_verdict.specs.Leading.{granting_at, way_to, way_by}
-use Rattle.tm_verdict.specs.Short.{short_of, completed}
+use Rattle.tm_verdict.specs.Outcomes.{outcome_of, completed}
 use Rattle.tm_verdict.proofs.Firsts.{told}
 
 -- a target is told once
@@ -63,13 +63,13 @@ line_any request x y other = rw other refl
 
 module _ (is_path : Text → Bool) (policy : Policy) (domain : Domain) where
   -- a manual transition by where its name leads
-  pub manual_entered : (name : DomainName) (found : Granting) (way : Way) → way ≡ way_to is_path policy domain true (Some name) → way.ready ≡ true → (line : Entry) → completed (short_of (by_entry None found way.leads.step way.leads.target)) line ≡ manual_verdict is_path policy domain name (Some found)
+  pub manual_entered : (name : DomainName) (found : Granting) (way : Way) → way ≡ way_to is_path policy domain true (Some name) → way.ready ≡ true → (line : Entry) → completed (outcome_of (by_entry None found way.leads.step way.leads.target)) line ≡ manual_verdict is_path policy domain name (Some found)
   unfolding manual_verdict
   manual_entered name found way is ready line =
       let can : can_enter is_path policy domain.name name ≡ true = sym (ap (λ (w : Way). w.ready) is) ∙ ready in
       rw (can, is) (by_entry-made None found (move_to is_path policy domain (Some name)) (Some name))
 
-  pub manual_barred : (name : DomainName) (found : Granting) (way : Way) → way ≡ way_to is_path policy domain true (Some name) → way.ready ≡ false → (line : Entry) → completed (short_of (denied None Reason.NotReady)) line ≡ manual_verdict is_path policy domain name (Some found)
+  pub manual_barred : (name : DomainName) (found : Granting) (way : Way) → way ≡ way_to is_path policy domain true (Some name) → way.ready ≡ false → (line : Entry) → completed (outcome_of (denied None Reason.NotReady)) line ≡ manual_verdict is_path policy domain name (Some found)
   unfolding manual_verdict
   manual_barred name found way is ready line =
       let can : can_enter is_path policy domain.name name ≡ false = sym (ap (λ (w : Way). w.ready) is) ∙ ready in

@@ -28,9 +28,9 @@ pub(crate) struct Leads {
     pub target: Option<DomainName>,
 }
 
-// A verdict without the line that is to be learned or asked for, which its reason tells.
+// What a verdict is but for its line: its reason tells whether it has the one that is to be learned or asked for.
 #[derive(Drop)]
-pub(crate) struct Short {
+pub(crate) struct Outcome {
     pub mode: Option<Mode>,
     pub reason: Reason,
     pub name: NamePlace,

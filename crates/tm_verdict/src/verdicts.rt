@@ -15,10 +15,10 @@ ghost use Rattle.tm_rules.specs.Search.{first};
 ghost use Rattle.tm_rules.specs.Transition.{is_domain_name};
 ghost use Rattle.tm_legal.specs.Play.{IsNamed};
 ghost use Rattle.tm_legal.specs.Verdict.{is_enforcing, made, moving, denied, by_entry, by_mode, in_mode, manual_verdict, execute_verdict, verdict_in, verdict};
-ghost use Rattle.tm_verdict.specs.Short.{short_of, completed, with_line_of};
+ghost use Rattle.tm_verdict.specs.Outcomes.{outcome_of, completed, with_line_of};
 
 use crate::candidates::{Access, Granting, executed_name, found_entry};
-use crate::targets::{Leads, Short, Way, execute_way, way_to};
+use crate::targets::{Leads, Outcome, Way, execute_way, way_to};
 use std::alloc::Global;
 use tm_domain::namespace as namespace_word;
 use tm_learn::learned_line;
@@ -47,10 +47,10 @@ fn made(leads: Leads) -> Leads
 }
 
 // Granted or asked, with where it leads.
-fn moving(mode: Mode, reason: Reason, leads: Leads) -> Short
-    ensures { result ≡ short_of (moving (Some mode) reason leads.step leads.target) }
+fn moving(mode: Mode, reason: Reason, leads: Leads) -> Outcome
+    ensures { result ≡ outcome_of (moving (Some mode) reason leads.step leads.target) }
 {
-    Short {
+    Outcome {
         mode: Some(mode),
         reason,
         name: NamePlace::Own,
@@ -59,11 +59,11 @@ fn moving(mode: Mode, reason: Reason, leads: Leads) -> Short
 }
 
 // Granted by an entry, with where it leads.
-fn by_entry(mode: Option<Mode>, granting: &Granting<'_>, leads: Leads) -> Short
-    ensures { result ≡ short_of (by_entry mode granting.now leads.step leads.target) }
+fn by_entry(mode: Option<Mode>, granting: &Granting<'_>, leads: Leads) -> Outcome
+    ensures { result ≡ outcome_of (by_entry mode granting.now leads.step leads.target) }
 {
     let found = granting.found();
-    Short {
+    Outcome {
         mode,
         reason: Reason::Entry(found.place),
         name: found.name,
@@ -72,10 +72,10 @@ fn by_entry(mode: Option<Mode>, granting: &Granting<'_>, leads: Leads) -> Short
 }
 
 // Denied: the process stays.
-fn denied(mode: Option<Mode>, reason: Reason) -> Short
-    ensures { result ≡ short_of (denied mode reason) }
+fn denied(mode: Option<Mode>, reason: Reason) -> Outcome
+    ensures { result ≡ outcome_of (denied mode reason) }
 {
-    Short {
+    Outcome {
         mode,
         reason,
         name: NamePlace::Own,
@@ -88,7 +88,7 @@ fn denied(mode: Option<Mode>, reason: Reason) -> Short
 
 // What the mode says where no entry grants.
 #[tactic(auto, unfolding(tm_legal::specs::Verdict::by_mode))]
-fn without_entry(access: &Access<'_>, mode: Mode, leads: Leads) -> Short
+fn without_entry(access: &Access<'_>, mode: Mode, leads: Leads) -> Outcome
     ensures { (line : Entry) → completed result line
         ≡ by_mode mode access.now.attached access.now.domain.now None line leads.step leads.target }
 {
@@ -114,7 +114,7 @@ fn without_entry(access: &Access<'_>, mode: Mode, leads: Leads) -> Short
 
 // From the mode on: disabled grants, then the entry that was found, then what the mode says.
 #[tactic(auto, unfolding(tm_legal::specs::Verdict::by_mode))]
-fn by_mode(access: &Access<'_>, mode: Mode, leads: Leads) -> Short
+fn by_mode(access: &Access<'_>, mode: Mode, leads: Leads) -> Outcome
     ensures { (line : Entry) → completed result line
         ≡ by_mode mode access.now.attached access.now.domain.now access.now.found line leads.step leads.target }
 {
@@ -137,7 +137,7 @@ fn manual<R: Rep>(
     rep: &R,
     access: &Access<'_>,
     name: &DomainName,
-) -> Result<Short, NoMemory>
+) -> Result<Outcome, NoMemory>
     requires few { IsFew (R.policy rep.now) }
     requires right { is_domain_name is_path name.now ≡ true }
     ensures { IfOk result (λ v. (line : Entry) → completed v line
@@ -176,7 +176,7 @@ fn execute<R: Rep>(
     rep: &R,
     access: &Access<'_>,
     mode: Mode,
-) -> Result<Short, NoMemory>
+) -> Result<Outcome, NoMemory>
     requires few { IsFew (R.policy rep.now) }
     requires named { IsNamed is_path (R.policy rep.now) }
     requires execute { is_execute access.now.request.now ≡ true }
@@ -197,7 +197,7 @@ fn in_mode<R: Rep>(
     rep: &R,
     access: &Access<'_>,
     mode: Mode,
-) -> Result<Short, NoMemory>
+) -> Result<Outcome, NoMemory>
     requires few { IsFew (R.policy rep.now) }
     requires named { IsNamed is_path (R.policy rep.now) }
     ensures { IfOk result (λ v. completed v (line_of access.now.namespace.now access.now.request.now)
@@ -220,7 +220,7 @@ fn by_function<R: Rep>(
     rep: &R,
     access: &Access<'_>,
     profile: &Profile,
-) -> Result<Option<Short>, NoMemory>
+) -> Result<Option<Outcome>, NoMemory>
     requires few { IsFew (R.policy rep.now) }
     requires named { IsNamed is_path (R.policy rep.now) }
     ensures { IfOk result (λ v. option_map (with_line_of access.now.namespace.now access.now.request.now) v
@@ -244,7 +244,7 @@ fn judged<R: Rep>(
     rep: &R,
     access: &Access<'_>,
     profile: &Profile,
-) -> Result<Option<Short>, NoMemory>
+) -> Result<Option<Outcome>, NoMemory>
     requires few { IsFew (R.policy rep.now) }
     requires named { IsNamed is_path (R.policy rep.now) }
     requires asked { is_request is_path access.now.request.now ≡ true }
@@ -284,23 +284,23 @@ fn line_of(alloc: Global, access: &Access<'_>) -> Result<Entry, NoMemory>
     learned_line(alloc, access.request, &name)
 }
 
-// A verdict with its line, where it has one.
-fn completed(short: Short, line: Option<Entry>) -> Verdict
+// A verdict of this outcome, with this line.
+fn verdict_with(outcome: Outcome, line: Option<Entry>) -> Verdict
     ensures { result ≡ record {
-      mode = short.mode;
-      reason = short.reason;
-      name = short.name;
-      step = short.leads.step;
-      target = short.leads.target;
+      mode = outcome.mode;
+      reason = outcome.reason;
+      name = outcome.name;
+      step = outcome.leads.step;
+      target = outcome.leads.target;
       line = line;
     } }
 {
-    let Short {
+    let Outcome {
         mode,
         reason,
         name,
         leads,
-    } = short;
+    } = outcome;
     Verdict {
         mode,
         reason,
@@ -311,23 +311,27 @@ fn completed(short: Short, line: Option<Entry>) -> Verdict
     }
 }
 
-// A verdict with the line that is to be learned or asked for.
+// The verdict of an outcome that wants a line: with the one that is to be learned or asked for.
 #[inline(never)]
-fn with_line(alloc: Global, access: &Access<'_>, short: Short) -> Result<Option<Verdict>, NoMemory>
+fn with_line(
+    alloc: Global,
+    access: &Access<'_>,
+    outcome: Outcome,
+) -> Result<Option<Verdict>, NoMemory>
     requires { access.now.request.now.perm < 16 }
     ensures { IfOk result (λ v. v ≡ Some (record {
-      mode = short.mode;
-      reason = short.reason;
-      name = short.name;
-      step = short.leads.step;
-      target = short.leads.target;
+      mode = outcome.mode;
+      reason = outcome.reason;
+      name = outcome.name;
+      step = outcome.leads.step;
+      target = outcome.leads.target;
       line = Some (line_of access.now.namespace.now access.now.request.now);
     })) }
 {
     match line_of(alloc, access) {
-        Ok(line) => Ok(Some(completed(short, Some(line)))),
+        Ok(line) => Ok(Some(verdict_with(outcome, Some(line)))),
         Err(fault) => {
-            drop(short);
+            drop(outcome);
             Err(fault)
         }
     }
@@ -337,23 +341,23 @@ fn with_line(alloc: Global, access: &Access<'_>, short: Short) -> Result<Option<
 fn finished(
     alloc: Global,
     access: &Access<'_>,
-    short: Option<Short>,
+    outcome: Option<Outcome>,
 ) -> Result<Option<Verdict>, NoMemory>
     requires { access.now.request.now.perm < 16 }
-    ensures { IfOk result (λ v. v ≡ option_map (with_line_of access.now.namespace.now access.now.request.now) short) }
+    ensures { IfOk result (λ v. v ≡ option_map (with_line_of access.now.namespace.now access.now.request.now) outcome) }
 {
-    let Some(short) = short else {
+    let Some(outcome) = outcome else {
         return Ok(None);
     };
-    match short.reason {
-        Reason::Learn | Reason::Ask => with_line(alloc, access, short),
+    match outcome.reason {
+        Reason::Learn | Reason::Ask => with_line(alloc, access, outcome),
         Reason::Entry(_)
         | Reason::Disabled
         | Reason::Permissive
         | Reason::Quota
         | Reason::NoEntry
         | Reason::NotReady
-        | Reason::NoManual => Ok(Some(completed(short, None))),
+        | Reason::NoManual => Ok(Some(verdict_with(outcome, None))),
     }
 }
 
@@ -397,6 +401,6 @@ pub fn verdict_of<R: Rep>(
         found: found_entry(namespace, place, rep.search(domain, process, request)),
         request,
     };
-    let short = judged(alloc, rep, &access, profile)?;
-    finished(alloc, &access, short)
+    let outcome = judged(alloc, rep, &access, profile)?;
+    finished(alloc, &access, outcome)
 }
