@@ -1,10 +1,6 @@
 //! By what an entry is found in an index.
-ghost use Rattle.std.specs.Prelude.{◌≡◌, ◌++◌, ◌∷◌, IfOk, OnOk};
+ghost use Rattle.std.specs.Prelude.{◌≡◌, ◌++◌, IfOk, OnOk};
 ghost use Rattle.std.specs.Option.{option_copied};
-ghost use Rattle.std.specs.List.{flat_map};
-ghost use Rattle.tm_word.specs.declared.Component.{Component};
-ghost use Rattle.tm_word.specs.Printing.{element_bytes, literal_word};
-ghost use Rattle.tm_types.specs.Request.{joined_bytes};
 ghost use Rattle.tm_index.specs.Names.{pattern_of, first_pattern, literal_name, literal_of};
 ghost use Rattle.tm_index.specs.Labels.{args_key, line_key, label_of};
 
@@ -16,7 +12,7 @@ use tm_line::print_name;
 use tm_list::{NoMemory, Seq};
 use tm_types::entry::{Args, Entry, Perms};
 use tm_types::unions::NameUnion;
-use tm_word::{Component, Element, Pattern, Text, Word};
+use tm_word::{Pattern, Text, Word};
 
 // Most keys have no more bytes than this.
 const KEY_ROOM: usize = 32;
@@ -56,64 +52,6 @@ pub(crate) fn first_pattern(args: &Args) -> Option<&Pattern>
         Args::Env(pattern) => Some(pattern),
         Args::Manual(_) => None,
     }
-}
-
-// Appends the byte that an element stands for.
-fn push_element(element: Element, out: &mut Vec<u8>) -> Result<(), NoMemory>
-    ensures { OnOk result (out.new.items ≡ out.old.items ++ element_bytes element) }
-{
-    match element {
-        Element::Byte(byte) => {
-            out.push(byte)?;
-            Ok(())
-        }
-        _ => Ok(()),
-    }
-}
-
-// Appends the bytes of a part of a literal.
-fn push_bytes(part: &[Element], out: &mut Vec<u8>) -> Result<(), NoMemory>
-    ensures { OnOk result (out.new.items ≡ out.old.items ++ flat_map element_bytes part.now) }
-{
-    for element in part {
-        push_element(*element, out)?;
-    }
-    Ok(())
-}
-
-// Appends the components after the first, each behind its slash.
-fn push_components(components: &[Component], out: &mut Vec<u8>) -> Result<(), NoMemory>
-    ensures { OnOk result (out.new.items ≡ out.old.items ++
-        flat_map (λ (c : Component). 47 ∷ flat_map element_bytes c.first) components.now) }
-{
-    for component in components {
-        out.push(b'/')?;
-        push_bytes(component.first.as_slice(), out)?;
-    }
-    Ok(())
-}
-
-// The bytes of a literal, component by component.
-fn literal_bytes(alloc: Global, pattern: &[Component]) -> Result<Vec<u8>, NoMemory>
-    ensures { IfOk result (λ bytes. bytes.items ≡ joined_bytes pattern.now) }
-{
-    let mut bytes = Vec::new(alloc);
-    match pattern {
-        [] => Ok(bytes),
-        [first, others @ ..] => {
-            push_bytes(first.first.as_slice(), &mut bytes)?;
-            push_components(others, &mut bytes)?;
-            Ok(bytes)
-        }
-    }
-}
-
-/// The name that these components would be, were they a literal. Errors: want of memory.
-#[tactic(auto, using(tm_types::proofs::Literals::literal_components))]
-pub(crate) fn literal_word(alloc: Global, pattern: &[Component]) -> Result<Word, NoMemory>
-    ensures { IfOk result (λ word. word ≡ literal_word pattern.now) }
-{
-    Ok(Seq::from_vec(literal_bytes(alloc, pattern)?))
 }
 
 // The name of a literal; None for any other pattern.

@@ -18,10 +18,11 @@ ghost use Rattle.tm_index.specs.Known.{list_in, list_of, known, found_in_list};
 
 use crate::index::Index;
 use crate::list::ListIndex;
-use crate::stems::{STEM_ROOM, addr_of, addr_value};
+use crate::stems::{STEM_ROOM, addr_of};
 use tm_domain::namespace;
 use tm_list::Map;
 use tm_namespaces::namespace_place;
+use tm_net::addr_value;
 use tm_number::Addr;
 use tm_policy::{ListSearch, entry_grants, place_in, search_domain};
 use tm_types::entry::Entry;

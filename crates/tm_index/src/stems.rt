@@ -1,21 +1,19 @@
 //! Stems: by what an entry without a literal name is found.
 ghost use Rattle.std.specs.Prelude.{◌≡◌, IfOk, is_some};
 ghost use Rattle.std.specs.Option.{option_copied};
-ghost use Rattle.std.specs.List.{list_all};
-ghost use Rattle.tm_word.specs.Matching.{is_once};
-ghost use Rattle.tm_word.specs.Printing.{is_byte, is_plain};
 ghost use Rattle.tm_rules.specs.Equality.{addrs_equal};
-ghost use Rattle.tm_rules.specs.Search.{addr_value};
 ghost use Rattle.tm_index.specs.Names.{first_pattern, literal_of};
 ghost use Rattle.tm_index.specs.Stems.{addr_stem, union_stem, plain_front, short_stem, pattern_stem, addr_of, stem_by, stem_of};
 
-use crate::label::{first_pattern, literal_word};
+use crate::label::first_pattern;
 use std::alloc::Global;
 use tm_list::NoMemory;
 use tm_number::Addr;
+use tm_pattern::is_plain;
 use tm_types::entry::Args;
+use tm_types::request::components_word;
 use tm_types::unions::AddrUnion;
-use tm_word::{Component, Element, Pattern, Repeat, Text};
+use tm_word::{Component, Pattern, Text};
 
 /// A stem has fewer bytes than this, so that the stems of a name are few and short however long it is.
 pub(crate) const STEM_ROOM: usize = 256;
@@ -58,53 +56,6 @@ fn union_stem(alloc: Global, addr: &AddrUnion) -> Result<Option<Text>, NoMemory>
     }
 }
 
-// Whether an element stands for its own byte.
-fn is_byte(element: Element) -> bool
-    ensures { result ≡ is_byte element }
-{
-    match element {
-        Element::Byte(_) => true,
-        Element::Star
-        | Element::NoDot
-        | Element::One
-        | Element::Digits
-        | Element::Digit
-        | Element::Hexes
-        | Element::Hex
-        | Element::Letters
-        | Element::Letter => false,
-    }
-}
-
-// Whether all elements do.
-fn are_bytes(part: &[Element]) -> bool
-    ensures { result ≡ list_all is_byte part.now }
-{
-    for element in part {
-        if !is_byte(*element) {
-            return false;
-        }
-    }
-    true
-}
-
-// Whether a component stands for one component.
-fn is_once(repeat: Repeat) -> bool
-    ensures { result ≡ is_once repeat }
-{
-    match repeat {
-        Repeat::Once => true,
-        Repeat::OneOrMore | Repeat::ZeroOrMore => false,
-    }
-}
-
-// Whether a component stands for its own bytes.
-fn is_plain(component: &Component) -> bool
-    ensures { result ≡ is_plain component.now }
-{
-    is_once(component.repeat) && component.minus.is_empty() && are_bytes(component.first.as_slice())
-}
-
 // The components before the first that stands for other bytes than its own.
 fn plain_front(pattern: &[Component]) -> &[Component]
     ensures { result.now ≡ plain_front pattern.now }
@@ -136,7 +87,7 @@ fn front_stem(alloc: Global, components: &[Component]) -> Result<Option<Text>, N
     if front.is_empty() {
         Ok(None)
     } else {
-        Ok(short_stem(literal_word(alloc, front)?))
+        Ok(short_stem(components_word(alloc, front)?))
     }
 }
 
@@ -165,16 +116,6 @@ pub(crate) fn addr_of(args: &Args) -> Option<&AddrUnion>
         | Args::Unix(_, _)
         | Args::Env(_)
         | Args::Manual(_) => None,
-    }
-}
-
-/// The address of an argument of a request.
-pub(crate) fn addr_value(addr: &AddrUnion) -> Addr
-    ensures { result ≡ addr_value addr.now }
-{
-    match addr {
-        AddrUnion::One(range) => range.low,
-        AddrUnion::Group(_) => Addr::V4(0),
     }
 }
 

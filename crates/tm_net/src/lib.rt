@@ -54,8 +54,8 @@ fn number_value(union: &NumberUnion) -> u64
     }
 }
 
-// The address of a request.
-fn addr_value(union: &AddrUnion) -> Addr
+/// The address of a request, whose argument is a single address. Takes no memory.
+pub fn addr_value(union: &AddrUnion) -> Addr
     ensures { result ≡ addr_value union.now }
 {
     match union {

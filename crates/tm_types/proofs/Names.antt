@@ -41,6 +41,10 @@ no_group n group is lit = absurd (never (sym is ∙ lit))
 pub variable : (pattern : Pattern) (word : Word) → pattern ≡ literal word → word ≡ literal_word pattern
 variable pattern word is = sym (literal-name word) ∙ ap literal_word (sym is)
 
+-- the literal of a name is one
+pub literal_variable : (pattern : Pattern) (word : Word) → pattern ≡ literal word → IsLiteral (NameUnion.One pattern)
+literal_variable pattern word is = literal_name (NameUnion.One pattern) word (ap NameUnion.One is)
+
 -- what is no name's literal is no variable
 pub no_variable : (pattern : Pattern) → IsNoLiteral pattern → IsLiteral (NameUnion.One pattern) → ⊥
 no_variable pattern never lit = no_literal_name (NameUnion.One pattern) pattern refl never lit
