@@ -16,8 +16,10 @@ use crate::rounds::{editor_turns, play_rounds, play_turns};
 use std::alloc::{AllocError, Global};
 use tm_desk::Desk;
 use tm_list::{NoMemory, Seq};
+use tm_machine::Machine;
 use tm_policy::Rep;
 use tm_take::TreeOnWay;
+use tm_types::policy::Policy;
 use tm_types::step::{Query, Run, Start, Take, Turn};
 
 /// Plays the schedule, and then the default order, round and round, until nobody can move. The desk is asked where the machine was started
@@ -80,17 +82,31 @@ fn all_takes(alloc: Global, trees: Vec<TreeOnWay>) -> Result<Seq<Take>, NoMemory
     Ok(all)
 }
 
-/// The run of a play that is over, the opening, and the representation of the policy at the last version. The run has the machine's steps.
+/// The run of a play that is over, and the machine at its last version.
 ///
 /// Errors: want of memory.
-pub fn end_play<R: Rep>(alloc: Global, player: Player<R>) -> Result<(Run, Start, R), NoMemory>
+pub fn end_play<R: Rep>(alloc: Global, player: Player<R>) -> Result<(Run, Machine<R>), NoMemory>
+    ensures run { IfOk result (λ ended. ended.0 ≡ run_of (player_of player)) }
+    ensures machine { IfOk result (λ ended. ended.1 ≡ course_of player) }
+{
+    let Player { machine, trees, .. } = player;
+    let steps = machine.history(alloc)?;
+    let takes = all_takes(alloc, trees)?;
+    Ok((Run { steps, takes }, machine))
+}
+
+/// The run of a play that is over, its opening, and the policy at its last version. The machine is given up, so that the run has its steps
+/// without a copy, and what its policy was represented by is dropped.
+///
+/// Errors: want of memory.
+pub fn into_run<R: Rep>(alloc: Global, player: Player<R>) -> Result<(Run, Start, Policy), NoMemory>
     ensures run { IfOk result (λ ended. ended.0 ≡ run_of (player_of player)) }
     ensures opening { IfOk result (λ ended. ended.1 ≡ (course_of player).start) }
-    ensures policy { IfOk result (λ ended. R.policy ended.2 ≡ (course_of player).state.policy) }
-    ensures few { IfOk result (λ ended. IsFew (R.policy ended.2)) }
+    ensures policy { IfOk result (λ ended. ended.2 ≡ (course_of player).state.policy) }
+    ensures few { IfOk result (λ ended. IsFew ended.2) }
 {
     let Player { machine, trees, .. } = player;
     let takes = all_takes(alloc, trees)?;
-    let (steps, opening, rep) = machine.into_history();
-    Ok((Run { steps, takes }, opening, rep))
+    let (steps, opening, last) = machine.into_history(alloc)?;
+    Ok((Run { steps, takes }, opening, last))
 }

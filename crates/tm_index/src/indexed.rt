@@ -57,14 +57,6 @@ impl Indexed {
         Ok(Indexed { policy, index })
     }
 
-    /// Gives the policy back, without taking memory.
-    pub fn into_policy(self) -> Policy
-        ensures { result ≡ self }
-    {
-        let Indexed { policy, .. } = self;
-        policy
-    }
-
     /// Opens the policy, in which each live domain has its profile. Nothing of that is noted. Takes no memory.
     #[tactic(auto, unfolding(crate::specs::Index::telling))]
     pub fn set_opened(&mut self)
@@ -144,6 +136,11 @@ impl Rep for Indexed {
 
     fn apply_fail(&mut self, domain: u32) -> bool {
         mark_failed(&mut self.policy, &self.index, domain)
+    }
+
+    fn into_policy(self) -> Policy {
+        let Indexed { policy, .. } = self;
+        policy
     }
 
     fn copy(&self, alloc: Global) -> Result<Self, NoMemory> {

@@ -103,14 +103,14 @@ impl<R: Rep> Current<R> {
         })
     }
 
-    /// The opening, and the representation at the newest version.
-    pub(crate) fn into_ends(self) -> (Start, R)
+    /// The opening, and the policy at the newest version.
+    pub(crate) fn into_ends(self) -> (Start, Policy)
         ensures start { result.0 ≡ self.start }
-        ensures policy { R.policy result.1 ≡ self.state.policy }
-        ensures few { IsFew (R.policy result.1) }
+        ensures policy { result.1 ≡ self.state.policy }
+        ensures few { IsFew result.1 }
     {
         let Current { start, rep, .. } = self;
-        (start, rep)
+        (start, rep.into_policy())
     }
 
     /// Lends the opening.

@@ -5,6 +5,5 @@
 
 mod current;
 mod machine;
-mod notes;
 
 pub use machine::Machine;

@@ -1,7 +1,9 @@
 //! The machine: a state on its way from an opening, with the steps that were made.
-ghost use Rattle.std.specs.Prelude.{◌≡◌, [], ◌∷◌, ◌++◌, ◌||◌, ◌==◌, IsSome, IfOk, OnErr, length, option_map, if◌then◌else◌};
+ghost use Rattle.std.specs.Prelude.{◌≡◌, [], ◌∷◌, ◌++◌, ◌||◌, ◌==◌, IsSome, IfOk, OnErr, length, map, if◌then◌else◌};
 ghost use Rattle.std.specs.List.{list_any};
 ghost use Rattle.std.specs.Option.{option_copied};
+ghost use Rattle.tm_types.specs.declared.step.Made.{Made};
+ghost use Rattle.tm_types.specs.declared.step.Reply.{Reply};
 ghost use Rattle.tm_rules.specs.Few.{IsFew};
 ghost use Rattle.tm_rules.specs.Queries.{numbered, answer_of, first_query};
 ghost use Rattle.tm_grammar.specs.Tomoyo.{tomoyo_grammar};
@@ -9,47 +11,44 @@ ghost use Rattle.tm_legal.specs.Steps.{opening, apply, after};
 ghost use Rattle.tm_legal.specs.Run.{reply_at};
 ghost use Rattle.tm_legal.specs.Legal.{Replies, is_attach, is_answer};
 ghost use Rattle.tm_legal.specs.Play.{all_ended};
-ghost use Rattle.tm_machine.specs.Machine.{course_from, history_of, steps_made, made_by, made_at, has_come, answers_given};
+ghost use Rattle.tm_machine.specs.Machine.{course_from, history_of, steps_made, made_at, has_come, answers_given};
 
 use crate::current::Current;
-use crate::notes::Notes;
 use std::alloc::Global;
 use std::marker::Model;
-use tm_list::{NoMemory, Seq};
+use tm_list::{Copied, NoMemory, Seq};
 use tm_policy::Rep;
 use tm_types::policy::Policy;
-use tm_types::step::{Answered, Editor, Made, Maker, Query, Reply, Start, Step};
+use tm_types::step::{Answered, Editor, Made, Query, Reply, Start, Step};
 
 /// A machine: an opening, and the steps that were made since, each with its maker and its reply. The step of number n leads from
 /// version n - 1 to version n. Contracts see the opening, the state at the newest version, and the steps.
 #[derive(Drop)]
 pub struct Machine<R: Rep> {
     current: Current<R>,
-    notes: Notes,
+    made: Vec<(Made, Reply)>,
     came: bool,
     answers: u64,
 }
 
 impl<R: Rep> Model for Machine<R> {
-    ghost use Rattle.std.specs.Prelude.{◌≡◌, length};
-    ghost use Rattle.tm_machine.specs.Machine.{Course, made_of, IsKept};
+    ghost use Rattle.tm_machine.specs.Machine.{Course, IsKept};
 
     ghost Value = { Course };
 
-    ghost view = { λ m. record { start = m.current.start; state = m.current.state; made = made_of m.notes.makers.items m.notes.steps.items } };
+    ghost view = { λ m. record { start = m.current.start; state = m.current.state; made = m.made.items } };
 
-    ghost invariant = { λ m. IsKept (record { start = m.current.start; state = m.current.state; made = made_of m.notes.makers.items m.notes.steps.items }) m.came m.answers
-        × (length m.notes.makers.items ≡ length m.notes.steps.items) };
+    ghost invariant = { λ m. IsKept (record { start = m.current.start; state = m.current.state; made = m.made.items }) m.came m.answers };
 }
 
-// What the number of a step, from 1, names in a list.
-fn numbered<T>(list: &[T], number: u64) -> Option<&T>
-    ensures { option_copied result ≡ numbered list.now number }
+// What the number of a step, from 1, names among the steps made.
+fn numbered(made: &[(Made, Reply)], number: u64) -> Option<&(Made, Reply)>
+    ensures { option_copied result ≡ numbered made.now number }
 {
     if number == 0 {
         return None;
     }
-    list.get((number - 1) as usize)
+    made.get((number - 1) as usize)
 }
 
 // Whether the supervisor has come, with this step.
@@ -72,6 +71,18 @@ fn count_answer(step: &Step) -> u64
     }
 }
 
+// The steps with their replies, moved out of these, whose makers are dropped.
+fn without_makers(alloc: Global, made: Vec<(Made, Reply)>) -> Result<Vec<(Step, Reply)>, NoMemory>
+    ensures { IfOk result (λ steps. steps.items ≡ map (λ (pair : Made × Reply). (pair.0.step, pair.1)) made.items) }
+{
+    let mut steps = Vec::with_capacity(alloc, made.len())?;
+    for (noted, reply) in made {
+        let Made { step, .. } = noted;
+        steps.push((step, reply))?;
+    }
+    Ok(steps)
+}
+
 impl<R: Rep> Machine<R> {
     /// A machine at version 0: its opening is the representation's policy, with these editors, so many trees, and a supervisor or none.
     ///
@@ -88,10 +99,10 @@ impl<R: Rep> Machine<R> {
             course_from (record { policy = R.policy rep; editors = editors.items; trees = trees; desk = desk })) }
     {
         let current = Current::open(alloc, rep, editors, trees, desk)?;
-        let notes = Notes::new(alloc);
+        let made = Vec::new(alloc);
         Ok(Machine {
             current,
-            notes,
+            made,
             came: false,
             answers: 0,
         })
@@ -123,18 +134,15 @@ impl<R: Rep> Machine<R> {
     pub fn version(&self) -> u64
         ensures { result ≡ length self.now.made }
     {
-        self.notes.len()
+        self.made.len() as u64
     }
 
-    /// The maker of the step of that number, and the step, lent; the first has number 1; None exactly outside the steps. Takes no memory.
-    pub fn step_at(&self, number: u64) -> Option<(Maker, &Step)>
-        ensures { option_map (λ found. made_by found.0 found.1.now) result ≡ made_at self.now number }
+    /// The step of that number with its maker, the first has number 1; None exactly outside the steps. Takes no memory.
+    pub fn step_at(&self, number: u64) -> Option<&Made>
+        ensures { option_copied result ≡ made_at self.now number }
     {
-        match numbered(self.notes.makers.as_slice(), number) {
-            Some(maker) => match numbered(self.notes.steps.as_slice(), number) {
-                Some((step, _)) => Some((*maker, step)),
-                None => None,
-            },
+        match numbered(self.made.as_slice(), number) {
+            Some((made, _)) => Some(made),
             None => None,
         }
     }
@@ -143,7 +151,7 @@ impl<R: Rep> Machine<R> {
     pub fn reply(&self, number: u64) -> Option<Reply>
         ensures { result ≡ reply_at (history_of self.now) number }
     {
-        match numbered(self.notes.steps.as_slice(), number) {
+        match numbered(self.made.as_slice(), number) {
             Some((_, reply)) => Some(*reply),
             None => None,
         }
@@ -221,27 +229,45 @@ impl<R: Rep> Machine<R> {
         ensures start { self.new.start ≡ self.old.start }
         ensures kept { OnErr result (self.new ≡ self.old) }
     {
-        self.notes.make_room()?;
+        self.made.reserve(1)?;
         let reply = self.current.apply(alloc, &made.step)?;
         let came = comes(self.came, &made.step);
         let answers = count_answer(&made.step);
-        self.notes.note(made, reply);
+        self.made.push((made, reply))?;
         self.came = came;
         self.answers += answers;
         Ok(reply)
     }
 
-    /// Gives up the machine: the steps with their replies, the opening, and the representation of the policy at the newest version. Takes
-    /// no memory.
-    pub fn into_history(self) -> (Seq<(Step, Reply)>, Start, R)
-        ensures steps { result.0 ≡ history_of self }
-        ensures start { result.1 ≡ self.start }
-        ensures policy { R.policy result.2 ≡ self.state.policy }
-        ensures few { IsFew (R.policy result.2) }
+    /// The steps with their replies, copied, so that the machine can go on.
+    ///
+    /// Errors: want of memory.
+    pub fn history(&self, alloc: Global) -> Result<Seq<(Step, Reply)>, NoMemory>
+        ensures { IfOk result (λ steps. steps ≡ history_of self.now) }
     {
-        let Machine { current, notes, .. } = self;
-        let Notes { steps, .. } = notes;
-        let (start, rep) = current.into_ends();
-        (Seq::from_vec(steps), start, rep)
+        let mut steps = Seq::new(alloc);
+        for (made, reply) in &self.made {
+            steps.push((made.step.copy(alloc)?, *reply))?;
+        }
+        Ok(steps)
+    }
+
+    /// Gives up the machine: its steps with their replies, none of which is copied, its opening, and the policy at the newest version,
+    /// whose representation is dropped.
+    ///
+    /// Errors: want of memory.
+    pub fn into_history(
+        self,
+        alloc: Global,
+    ) -> Result<(Seq<(Step, Reply)>, Start, Policy), NoMemory>
+        ensures steps { IfOk result (λ ended. ended.0 ≡ history_of self) }
+        ensures start { IfOk result (λ ended. ended.1 ≡ self.start) }
+        ensures policy { IfOk result (λ ended. ended.2 ≡ self.state.policy) }
+        ensures few { IfOk result (λ ended. IsFew ended.2) }
+    {
+        let Machine { current, made, .. } = self;
+        let (start, policy) = current.into_ends();
+        let steps = without_makers(alloc, made)?;
+        Ok((Seq::from_vec(steps), start, policy))
     }
 }

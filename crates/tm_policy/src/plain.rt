@@ -37,14 +37,6 @@ impl Plain {
     {
         Plain { policy }
     }
-
-    /// Gives the policy back, without taking memory.
-    pub fn into_policy(self) -> Policy
-        ensures { result ≡ self }
-    {
-        let Plain { policy } = self;
-        policy
-    }
 }
 
 impl Rep for Plain {
@@ -92,6 +84,11 @@ impl Rep for Plain {
 
     fn apply_fail(&mut self, domain: u32) -> bool {
         apply_fail(&mut self.policy, domain)
+    }
+
+    fn into_policy(self) -> Policy {
+        let Plain { policy } = self;
+        policy
     }
 
     fn copy(&self, alloc: Global) -> Result<Self, NoMemory> {

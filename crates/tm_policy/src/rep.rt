@@ -93,6 +93,10 @@ pub trait Rep: Sized + Drop {
         ensures done { fail (policy self.old) domain ≡ Some (policy self.new, result) }
         ensures few { IsFew (policy self.new) };
 
+    /// Gives up the representation for its policy. Takes no memory.
+    fn into_policy(self) -> Policy
+        ensures { result ≡ policy self };
+
     /// A representation with the equal policy.
     fn copy(&self, alloc: Global) -> Result<Self, NoMemory>
         ensures { IfOk result (λ made. policy made ≡ policy self.now) };

@@ -48,6 +48,15 @@ homes-moved : (one other : Policy) (trees : Trace) → ((name : DomainName) → 
 homes-moved one other [] same h = tt
 homes-moved one other (tree ∷ trees) same h = (rw (same tree.start) h.0, homes-moved one other trees same h.1)
 
+homes-same : (one other : Policy) (n : ℕ) (trees : Trace) → ((name : DomainName) → live_domain other name ≡ live_domain one name)
+    → position_from (λ (tree : Tree). not (is_some (live_domain other tree.start))) n trees ≡ position_from (λ (tree : Tree). not (is_some (live_domain one tree.start))) n trees
+homes-same one other n [] same = refl
+homes-same one other n (tree ∷ trees) same = rw (same tree.start, homes-same one other (n + 1) trees same) refl
+
+-- the switched policy has a home for the same trees
+pub homes-kept : (last enforcing : Policy) (trace : Trace) → ((policy : Policy) (name : DomainName) → live_domain (switched policy) name ≡ live_domain policy name) → enforcing ≡ switched last → homeless enforcing trace ≡ homeless last trace
+homes-kept last enforcing trace live is = ap (λ (p : Policy). homeless p trace) is ∙ homes-same last (switched last) 0 trace (live last)
+
 -- the trace can be played again under the switched policy
 pub can-rerun : (last : Policy) (trace : Trace) → ((policy : Policy) → IsOpened policy → IsOpened (switched policy)) → ((policy : Policy) → (switched policy).domains ≡ policy.domains)
     → ((policy : Policy) (name : DomainName) → live_domain (switched policy) name ≡ live_domain policy name) → CanRerun last trace → homeless last trace ≡ None → CanPlay (again last trace)

@@ -14,13 +14,12 @@ ghost use Rattle.tomoyo.specs.Play.{PlaysLoaded, Plays, audit_word, audits_of, I
 use crate::reading::{Loaded, read_step};
 use crate::status::Status;
 use std::alloc::{AllocError, Global};
-use tm_core::{end_play, play_out, start_play};
+use tm_core::{into_run, play_out, start_play};
 use tm_desk::{Desk, book_code};
 use tm_index::Indexed;
 use tm_io::FileList;
 use tm_list::NoMemory;
 use tm_machine::Machine;
-use tm_policy::Rep;
 use tm_rerun::summary_line;
 use tm_run::print_run;
 use tm_script::has_supervisor;
@@ -48,8 +47,8 @@ pub struct Played {
     pub summary: Text,
 }
 
-// The run that is played of what was read, its opening, and the policy at its last version with its index.
-pub(crate) fn run_of(alloc: Global, loaded: Loaded) -> Result<(Run, Start, Indexed), NoMemory>
+// The run that is played of what was read, its opening, and the policy at its last version.
+pub(crate) fn run_of(alloc: Global, loaded: Loaded) -> Result<(Run, Start, Policy), NoMemory>
     requires few { IsFew loaded.policy }
     requires can { CanPlay (scene_of loaded) }
     ensures plays { IfOk result (λ ended. IsPlayOf loaded ended.0 ended.2) }
@@ -71,7 +70,7 @@ pub(crate) fn run_of(alloc: Global, loaded: Loaded) -> Result<(Run, Start, Index
     let player = start_play(alloc, machine, trace)?;
     let desk = Desk::new(&book, |query: &Query| book_code(&book, query));
     let played = play_out(alloc, player, &desk, schedule.as_slice())?;
-    end_play(alloc, played)
+    into_run(alloc, played)
 }
 
 // Appends the audit text of a take, where it has one.
@@ -144,7 +143,7 @@ fn play_loaded(alloc: Global, loaded: Loaded) -> Result<Played, NoMemory>
     ensures { IfOk result (PlaysLoaded loaded) }
 {
     let (run, opening, last) = run_of(alloc, loaded)?;
-    texts_of(alloc, &run, &opening.policy, last.policy())
+    texts_of(alloc, &run, &opening.policy, &last)
 }
 
 /// Plays what the files hold, or refuses it.

@@ -12,6 +12,7 @@ use tm_io::{FileList, FileName};
 use tm_list::NoMemory;
 use tm_load::{count_live, load_indexed};
 use tm_number::{Base, Number, write_number};
+use tm_policy::Rep;
 use tm_types::policy::Policy;
 use tm_types::step::{LoadFault, PolicyFiles};
 use tm_word::Text;

@@ -14,7 +14,6 @@ use std::alloc::Global;
 use tm_index::Indexed;
 use tm_io::FileList;
 use tm_list::{Copied, NoMemory, Seq};
-use tm_policy::Rep;
 use tm_repeat::{clean_runs_grow, learned_runs_repeat, switched_domains, switched_stays_opened};
 use tm_rerun::{has_same_domains, rerun_line, switched};
 use tm_run::print_run;
@@ -55,16 +54,15 @@ fn nobody_else(alloc: Global, policy: Indexed, trace: Trace) -> Loaded
 }
 
 /// Plays a trace under a policy with nobody else: without editors, without a supervisor, and in the default order from the first turn on.
-/// Gives the run, and the policy at its last version with its index.
+/// Gives the run, and the policy at its last version.
 ///
 /// Errors: want of memory.
-pub fn rerun(alloc: Global, policy: Policy, trace: Trace) -> Result<(Run, Indexed), NoMemory>
+pub fn rerun(alloc: Global, policy: Indexed, trace: Trace) -> Result<(Run, Policy), NoMemory>
     requires few { IsFew policy }
     requires can { CanPlay (alone tomoyo_grammar policy trace) }
     ensures { IfOk result (λ ended. IsPlayAlone (alone tomoyo_grammar policy trace) ended.0 ended.1) }
 {
-    let rep = Indexed::new(alloc, policy)?;
-    let loaded = nobody_else(alloc, rep, trace);
+    let loaded = nobody_else(alloc, policy, trace);
     let (run, _, last) = run_of(alloc, loaded)?;
     Ok((run, last))
 }
@@ -91,26 +89,27 @@ fn print_rerun(
     })
 }
 
-// The rerun of a run that has led to this policy; None where some tree has no live domain to start in.
+// The rerun of a run that has led to this policy; None where some tree has no live domain to start in. The domains of the switched policy
+// are those of this one.
 fn rerun_of(
     alloc: Global,
     run: &Run,
-    rep: &Indexed,
+    last: &Policy,
     trace: Trace,
 ) -> Result<Option<RerunTexts>, NoMemory>
-    requires few { IsFew rep.now }
-    requires can { CanRerun rep.now trace }
-    ensures { IfOk result (Reruns rep.now trace run.now) }
+    requires few { IsFew last.now }
+    requires can { CanRerun last.now trace }
+    ensures { IfOk result (Reruns last.now trace run.now) }
 {
     switched_domains();
     switched_stays_opened();
-    if homeless(rep, trace.as_slice()).is_some() {
+    let policy = switched(alloc, last)?;
+    let enforcing = Indexed::new(alloc, policy)?;
+    if homeless(&enforcing, trace.as_slice()).is_some() {
         return Ok(None);
     }
-    let last = rep.policy();
-    let policy = switched(alloc, last)?;
-    let (again, ended) = rerun(alloc, policy, trace)?;
-    let texts = print_rerun(alloc, last, run, ended.policy(), &again)?;
+    let (again, ended) = rerun(alloc, enforcing, trace)?;
+    let texts = print_rerun(alloc, last, run, &ended, &again)?;
     Ok(Some(texts))
 }
 
@@ -125,7 +124,7 @@ fn learn_loaded(alloc: Global, loaded: Loaded) -> Result<Learned, NoMemory>
     // A play takes its trace apart, tree by tree, so that the second play has a copy: its text isn't read again.
     let trace = loaded.trace.copy(alloc)?;
     let (run, opening, last) = run_of(alloc, loaded)?;
-    let played = texts_of(alloc, &run, &opening.policy, last.policy())?;
+    let played = texts_of(alloc, &run, &opening.policy, &last)?;
     let rerun = rerun_of(alloc, &run, &last, trace)?;
     Ok(Learned { played, rerun })
 }

@@ -4,12 +4,8 @@ use Rattle.tm_core.proofs.play.end_play.Goals as goal
 
 pub returns-clause-run : goal.returns-clause-run
 unfolding course_of player_of
-returns-clause-run g c = rw (c.into_history-steps.ensures.steps, c.in_ok-takes.ensures) refl
+returns-clause-run g c = rw (c.in_ok-steps.ensures, c.in_ok-takes.ensures) refl
 
-pub returns-clause-opening : goal.returns-clause-opening
+pub returns-clause-machine : goal.returns-clause-machine
 unfolding course_of
-returns-clause-opening g c = c.into_history-steps.ensures.start
-
-pub returns-clause-policy : goal.returns-clause-policy
-unfolding course_of
-returns-clause-policy g c = c.into_history-steps.ensures.policy
+returns-clause-machine g c = refl

@@ -30,5 +30,5 @@ returns-clause-plays c =
     let same : course.start ≡ start_of c.args.loaded = ap (λ (m : Course). m.start) c.in_ok-player.ensures.machine ∙ start_is in
     let starts : player ≡ core.start_of (scenes.scene_of course.start c.args.loaded.trace book) = subst (λ (m : Course). player ≡ core.start_of (scenes.scene_of m.start c.args.loaded.trace book)) (sym c.in_ok-player.ensures.machine) (c.in_ok-player.ensures.starts book) in
     let h : IsReached c.args.loaded.trace book course player = reached c.args.loaded book course player same c.new-desk.ensures.book c.requires.can starts in
-    play-of c.args.loaded course.start book c.as_slice.result.now (player_of c.in_ok-played.played) (course_of c.in_ok-played.played) c.end_play.result same c.new-desk.ensures.book c.as_slice.ensures
-    (c.in_ok-played.ensures.plays c.args.loaded.trace h starts) (c.in_ok-played.ensures.legal c.args.loaded.trace h starts) (c.in_ok-played.ensures.ends c.args.loaded.trace h starts) c.end_play.ensures.run c.end_play.ensures.policy
+    play-of c.args.loaded course.start book c.as_slice.result.now (player_of c.in_ok-played.played) (course_of c.in_ok-played.played) c.into_run.result same c.new-desk.ensures.book c.as_slice.ensures
+    (c.in_ok-played.ensures.plays c.args.loaded.trace h starts) (c.in_ok-played.ensures.legal c.args.loaded.trace h starts) (c.in_ok-played.ensures.ends c.args.loaded.trace h starts) c.into_run.ensures.run c.into_run.ensures.policy

@@ -1,8 +1,6 @@
 use Rattle.std.proofs.Common.{◌≡◌, sym, ap, subst}
 use Rattle.tm_rules.specs.Words.{Trace}
-use Rattle.tm_types.specs.declared.policy.Policy.{Policy}
 use Rattle.tm_types.specs.declared.step.Start.{Start}
-use Rattle.tomoyo.specs.Play.{IsPlayOf}
 use Rattle.tomoyo.specs.Rerun.{CanRerun, Reruns}
 use Rattle.tomoyo.proofs.Rerunning.{rerun-needs, learned-so}
 use Rattle.tomoyo.proofs.rerun.learn_loaded.Goals as goal
@@ -14,9 +12,7 @@ rerun_of-requires-clause-can c =
 
 pub returns : goal.returns
 returns c =
-    let plays : IsPlayOf c.args.loaded c.in_ok-run.run' c.policy.result.now = subst (λ (last : Policy). IsPlayOf c.args.loaded c.in_ok-run.run' last) (sym c.policy.ensures) c.in_ok-run.ensures.plays in
     let opening : c.in_ok-run.opening.policy ≡ c.args.loaded.policy = ap (λ (start : Start). start.policy) c.in_ok-run.ensures.opening in
-    let reruns : Reruns c.policy.result.now c.args.loaded.trace c.in_ok-run.run' c.in_ok-rerun.rerun =
-    subst (λ (last : Policy). Reruns last c.args.loaded.trace c.in_ok-run.run' c.in_ok-rerun.rerun) (sym c.policy.ensures)
-    (subst (λ (trace : Trace). Reruns c.in_ok-run.last trace c.in_ok-run.run' c.in_ok-rerun.rerun) c.in_ok-trace.ensures c.in_ok-rerun.ensures) in
-    learned-so c.args.loaded c.in_ok-run.run' c.policy.result.now c.in_ok-run.opening.policy c.in_ok-played.played c.in_ok-rerun.rerun c.clean_runs_grow.ensures c.learned_runs_repeat.ensures c.requires.can plays opening c.in_ok-played.ensures reruns
+    let reruns : Reruns c.in_ok-run.last c.args.loaded.trace c.in_ok-run.run' c.in_ok-rerun.rerun =
+    subst (λ (trace : Trace). Reruns c.in_ok-run.last trace c.in_ok-run.run' c.in_ok-rerun.rerun) c.in_ok-trace.ensures c.in_ok-rerun.ensures in
+    learned-so c.args.loaded c.in_ok-run.run' c.in_ok-run.last c.in_ok-run.opening.policy c.in_ok-played.played c.in_ok-rerun.rerun c.clean_runs_grow.ensures c.learned_runs_repeat.ensures c.requires.can c.in_ok-run.ensures.plays opening c.in_ok-played.ensures reruns
