@@ -55,7 +55,8 @@ grammar =
 prints : PrintsRequests grammar
 prints = record { request = λ r. refl; attributes = λ r. refl }
 
--- profile 0 is disabled, 1 is enforcing, 2 is learning, each with both logs; 3 is enforcing without grant log, 4 without reject log
+-- profile 0 is disabled, 1 is enforcing, 2 is learning, each with both logs; 3 is enforcing without
+-- grant log, 4 without reject log
 abbrev profile : Mode → Bool → Bool → Profile
 profile mode grant reject = record { comment = []; max_audit_log = 1024; max_learning_entry = 2048; config = record { mode = mode; logs = record { grant = grant; reject = reject } }; slots = [] }
 

@@ -1,12 +1,9 @@
 -- The parts of an audit text: where one is made, and its lines.
-use Rattle.std.specs.Prelude.{◌≡◌, ℕ, Bool, true, false, ◌&&◌, [], ◌∷◌, ◌++◌, Option, Some, None, option_map, if◌then◌else◌, decimal, codes}
+use Rattle.std.specs.Prelude.{◌≡◌, Bool, true, false, ◌&&◌, [], ◌∷◌, ◌++◌, Option, Some, None, if◌then◌else◌, decimal, codes}
 use Rattle.std.specs.Option.{option_and_then}
 use Rattle.tm_word.specs.Words.{Text}
 use Rattle.tm_types.specs.declared.policy.Mode.{Mode}
-use Rattle.tm_types.specs.declared.policy.Namespace.{Namespace}
-use Rattle.tm_types.specs.declared.policy.Profile.{Profile}
 use Rattle.tm_types.specs.declared.policy.Domain.{Domain}
-use Rattle.tm_types.specs.declared.policy.Policy.{Policy}
 use Rattle.tm_types.specs.declared.request.Proc.{Proc}
 use Rattle.tm_types.specs.declared.request.Request.{Request}
 use Rattle.tm_types.specs.declared.verdict.Reason.{Reason}
@@ -14,7 +11,7 @@ use Rattle.tm_types.specs.declared.verdict.Verdict.{Verdict}
 use Rattle.tm_types.specs.Functions.{function_of}
 use Rattle.tm_rules.specs.Grammar.{Grammar}
 use Rattle.tm_rules.specs.Mode.{logs_of}
-use Rattle.tm_rules.specs.Policy.{domain_at, namespace_of, profile_of}
+use Rattle.tm_change_domains.specs.Standing.{Standing}
 use Rattle.tm_types.specs.Texts.{mode_text}
 use Rattle.tm_rules.specs.Audit.{is_logged, granted_text, reason_text, ids_text}
 use Rattle.tm_trace.specs.Printing.{request_text, attributes_text}
@@ -24,33 +21,25 @@ pub record PrintsRequests (g : Grammar) : Type 0 where
   pub request : (r : Request) → g.print_request r ≡ request_text r
   pub attributes : (r : Request) → g.print_attributes r ≡ attributes_text r
 
--- the namespace and the profile of a domain, where that profile is defined
-abbrev pub profile_in : Policy → Domain → Option (Namespace × Profile)
-profile_in policy domain = option_map (λ profile. (namespace_of policy domain, profile)) (profile_of policy domain)
-
 -- none is made in mode disabled
 abbrev pub is_audited : Mode → Bool
 is_audited Mode.Disabled = false
-is_audited Mode.Learning = true
-is_audited Mode.Permissive = true
-is_audited Mode.Enforcing = true
+is_audited _ = true
 
--- the domain and the mode of an audit text, where one is made: where the log of its reason says so
-unfoldable pub logged : Policy → ℕ → Request → Verdict → Option (Domain × Mode)
-logged policy d request verdict =
+-- the mode of an audit text, where one is made: where the log of its reason says so
+unfoldable pub logged : Standing → Request → Verdict → Option Mode
+logged s request verdict =
     option_and_then
-    (λ domain. option_and_then
-    (λ profile. option_and_then
-    (λ function. option_and_then (λ mode. if is_audited mode && is_logged (namespace_of policy domain) domain (logs_of profile function) verdict.reason then Some (domain, mode) else None) verdict.mode)
-    (function_of request.args request.perm))
-    (profile_of policy domain))
-    (domain_at policy d)
+    (λ function. option_and_then (λ mode. if is_audited mode && is_logged s.namespace s.domain
+    (logs_of s.profile function) verdict.reason then Some mode else None) verdict.mode)
+    (function_of request.args request.perm)
 
 -- the header without the attributes
 abbrev pub header : Domain → Mode → Proc → Reason → Text
 header domain mode process reason =
     codes "profile=" ++ decimal domain.profile ++ codes " mode=" ++ mode_text mode
-    ++ codes " granted=" ++ granted_text reason ++ codes " verdict=" ++ reason_text reason ++ ids_text process
+    ++ codes " granted=" ++ granted_text reason ++ codes " verdict=" ++ reason_text reason
+    ++ ids_text process
 
 -- the header with the attributes, the domain, the request's line, an empty line
 abbrev pub lines : Domain → Mode → Proc → Request → Reason → Text

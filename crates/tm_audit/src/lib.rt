@@ -1,26 +1,25 @@
 //! Audit texts: what is written of a request once it is decided.
-//! Stands on tm_policy and tm_profile for where a text is made, on tm_trace for how a request is printed, and on the definition of audit texts.
+//! Stands on tm_change_domains for where a look stands, on tm_profile, and on tm_trace's printing.
 //! Promises that the text is the defined one, and that no memory is taken where there is none.
 #![tactic(auto)]
 
-ghost use Rattle.std.specs.Prelude.{◌≡◌, ◌<◌, ◌++◌, Ok, None, option_map, IfOk, OnOk, decimal};
+ghost use Rattle.std.specs.Prelude.{◌≡◌, ◌++◌, Ok, None, IfOk, OnOk, decimal};
 ghost use Rattle.std.specs.Option.{option_copied};
-ghost use Rattle.tm_types.specs.declared.policy.Domain.{Domain};
-ghost use Rattle.tm_types.specs.declared.policy.Mode.{Mode};
+ghost use Rattle.tm_types.specs.declared.policy.Policy.{Policy};
+ghost use Rattle.tm_change_domains.specs.Standing.{StandsIn};
 ghost use Rattle.tm_grammar.specs.Tomoyo.{tomoyo_grammar};
 ghost use Rattle.tm_rules.specs.Audit.{grant_logged, is_logged, granted_text, reason_text, ids_text, audit_text};
-ghost use Rattle.tm_audit.specs.Parts.{profile_in, is_audited, logged, header, lines};
+ghost use Rattle.tm_audit.specs.Parts.{is_audited, logged, header, lines};
 
 use std::alloc::Global;
-use tm_domain::namespace;
+use tm_change_domains::{Standing, entry_at, standing_at};
 use tm_list::{NoMemory, Seq};
 use tm_number::write_decimal;
-use tm_policy::{domain_at, entry_at, find_namespace};
 use tm_profile::config_of;
 use tm_trace::{print_attributes, print_request};
 use tm_types::entry::Entry;
 use tm_types::function_at;
-use tm_types::policy::{Domain, Logs, Mode, Namespace, Policy, Profile};
+use tm_types::policy::{Domain, Logs, Mode, Namespace, Policy};
 use tm_types::request::{Proc, Request};
 use tm_types::verdict::{Reason, Verdict};
 use tm_word::Text;
@@ -35,20 +34,14 @@ fn grant_logged(logs: Logs, entry: Option<&Entry>) -> bool
     }
 }
 
-/// Whether this reason is logged: a grant by an entry by the grant log, everything else by the reject log.
+/// Whether this reason is logged: a grant by an entry by the grant log, everything else by the
+/// reject log.
 fn is_logged(namespace: &Namespace, domain: &Domain, logs: Logs, reason: Reason) -> bool
     ensures { result ≡ is_logged namespace.now domain.now logs reason }
 {
     match reason {
         Reason::Entry(place) => grant_logged(logs, entry_at(namespace, domain, place)),
-        Reason::Disabled
-        | Reason::Permissive
-        | Reason::Quota
-        | Reason::Learn
-        | Reason::Ask
-        | Reason::NoEntry
-        | Reason::NotReady
-        | Reason::NoManual => logs.reject,
+        _ => logs.reject,
     }
 }
 
@@ -56,10 +49,7 @@ fn is_logged(namespace: &Namespace, domain: &Domain, logs: Logs, reason: Reason)
 fn is_audited(mode: Mode) -> bool
     ensures { result ≡ is_audited mode }
 {
-    match mode {
-        Mode::Disabled => false,
-        Mode::Learning | Mode::Permissive | Mode::Enforcing => true,
-    }
+    !matches!(mode, Mode::Disabled)
 }
 
 fn granted_text(reason: Reason) -> &'static [u8]
@@ -67,14 +57,7 @@ fn granted_text(reason: Reason) -> &'static [u8]
 {
     match reason {
         Reason::Entry(_) => b"yes",
-        Reason::Disabled
-        | Reason::Permissive
-        | Reason::Quota
-        | Reason::Learn
-        | Reason::Ask
-        | Reason::NoEntry
-        | Reason::NotReady
-        | Reason::NoManual => b"no",
+        _ => b"no",
     }
 }
 
@@ -162,46 +145,60 @@ fn lines(
     Ok(Seq::from_vec(text))
 }
 
-/// The namespace and the profile of a domain, where that profile is defined.
-#[tactic(auto, unfolding(tm_rules::specs::Policy::namespace_named))]
-fn profile_in<'a>(policy: &'a Policy, domain: &Domain) -> Option<(&'a Namespace, &'a Profile)>
-    ensures { option_map (λ x. (x.0.now, x.1.now)) result ≡ profile_in policy.now domain.now }
-{
-    match find_namespace(policy.namespaces.as_slice(), namespace(&domain.name)) {
-        Some(namespace) => match namespace.profiles.get(&domain.profile) {
-            Some(profile) => Some((namespace, profile)),
-            None => None,
-        },
-        None => None,
-    }
-}
-
-/// The domain and the mode of the text, where one is made. Takes no memory.
+/// The mode of the text of this verdict, where one is made. Takes no memory.
 #[tactic(auto, unfolding(crate::specs::Parts::logged))]
-fn logged<'a>(
-    policy: &'a Policy,
-    number: u32,
-    request: &Request,
-    verdict: &Verdict,
-) -> Option<(&'a Domain, Mode)>
-    ensures { option_map (λ x. (x.0.now, x.1)) result ≡ logged policy.now number request.now verdict.now }
+fn logged(standing: &Standing<'_>, request: &Request, verdict: &Verdict) -> Option<Mode>
+    ensures { result ≡ logged standing.now request.now verdict.now }
 {
-    let domain = domain_at(policy, number)?;
-    let (namespace, profile) = profile_in(policy, domain)?;
     let function = function_at(request.args(), request.perm())?;
     let mode = verdict.mode?;
-    let logs = config_of(profile, function).logs;
-    if is_audited(mode) && is_logged(namespace, domain, logs, verdict.reason) {
-        Some((domain, mode))
+    let logs = config_of(standing.profile, function).logs;
+    let reason = verdict.reason;
+    if is_audited(mode) && is_logged(standing.namespace, standing.domain, logs, reason) {
+        Some(mode)
     } else {
         None
     }
 }
 
-/// The audit text of a request of this process in the domain of this number, on which this is the verdict of this policy: the header
-/// with the attributes, the domain's name, the request's line, and an empty line. None for a manual transition, in mode disabled,
-/// and where the log of the verdict's reason is off: for a grant by an entry its own `grant_log` or else the profile's grant log, for
-/// every other reason the profile's reject log. Takes no memory where there is no text.
+/// The audit text of a request of this process where the look's standing is known, by which nothing
+/// is looked for again: as `audit_text` in the domain of its number.
+pub fn audit_in(
+    alloc: Global,
+    standing: &Standing<'_>,
+    process: &Proc,
+    request: &Request,
+    verdict: &Verdict,
+) -> Result<Option<Text>, NoMemory>
+    ensures exact { (policy : Policy) → StandsIn policy standing.now → IfOk result (λ text. text
+        ≡ audit_text tomoyo_grammar policy standing.now.number process.now request.now
+        verdict.now) }
+    ensures none { (policy : Policy) → StandsIn policy standing.now →
+        audit_text tomoyo_grammar policy standing.now.number process.now request.now verdict.now
+        ≡ None → result ≡ Ok None }
+{
+    match logged(standing, request, verdict) {
+        None => Ok(None),
+        Some(mode) => {
+            let text = lines(
+                alloc,
+                standing.domain,
+                mode,
+                process,
+                request,
+                verdict.reason,
+            )?;
+            Ok(Some(text))
+        }
+    }
+}
+
+/// The audit text of a request of this process in the domain of this number, on which this is the
+/// verdict of this policy: the header with the attributes, the domain's name, the request's line,
+/// and an empty line. None for a manual transition, in mode disabled, and where the log of the
+/// verdict's reason is off: for a grant by an entry its own `grant_log` or else the profile's grant
+/// log, for every other reason the profile's reject log. Takes no memory where there is no text.
+#[tactic(auto, using(crate::proofs::AuditLaws::audit_nowhere))]
 pub fn audit_text(
     alloc: Global,
     policy: &Policy,
@@ -210,14 +207,13 @@ pub fn audit_text(
     request: &Request,
     verdict: &Verdict,
 ) -> Result<Option<Text>, NoMemory>
-    ensures exact { IfOk result (λ text. text ≡ audit_text tomoyo_grammar policy.now domain process.now request.now verdict.now) }
-    ensures none { audit_text tomoyo_grammar policy.now domain process.now request.now verdict.now ≡ None → result ≡ Ok None }
+    ensures exact { IfOk result (λ text. text
+        ≡ audit_text tomoyo_grammar policy.now domain process.now request.now verdict.now) }
+    ensures none { audit_text tomoyo_grammar policy.now domain process.now request.now verdict.now
+        ≡ None → result ≡ Ok None }
 {
-    match logged(policy, domain, request, verdict) {
+    match standing_at(policy, domain) {
+        Some(standing) => audit_in(alloc, &standing, process, request, verdict),
         None => Ok(None),
-        Some((domain, mode)) => {
-            let text = lines(alloc, domain, mode, process, request, verdict.reason)?;
-            Ok(Some(text))
-        }
     }
 }

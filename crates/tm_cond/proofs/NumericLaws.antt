@@ -1,6 +1,7 @@
--- Numeric attributes: each word is read as its attribute, as a left word and as a right side, and what is read has a word.
+-- Numeric attributes: each word is read as its attribute, as a left word and as a right side, and
+-- what is read has a word.
 use Rattle.std.proofs.Common.{◌≡◌, ◌==◌, true, not, Option, Some, None, Ok, refl, subst}
-use Rattle.std.specs.Prelude.{codes, option_map}
+use Rattle.std.specs.Prelude.{map, codes, option_map}
 use Rattle.std.specs.Option.{option_or}
 use Rattle.std.specs.List.{list_all}
 use Rattle.tm_word.specs.Words.{Text}
@@ -11,7 +12,8 @@ use Rattle.tm_types.specs.declared.entry.StatField.{StatField}
 use Rattle.tm_types.specs.declared.entry.Attr.{Attr}
 use Rattle.tm_types.specs.declared.entry.Right.{Right}
 use Rattle.tm_line.specs.Arguments.{range_word, number_word}
-use Rattle.tm_cond.specs.Attributes.{without_last, named, id_word, field_word, parent_word, parent_table, place_text, attr_text, task_at, field_at, stat_at, count_table, numeric_word, attr_word}
+use Rattle.tm_cond.specs.Attributes.{without_last, id_word, field_word, parent_word, field_text, parent_fields, place_text, attr_text, task_at, field_at, stat_at, count_table, numeric_word, attr_word}
+use Rattle.tm_word.specs.Closed.{named, row_of}
 use Rattle.tm_word.specs.Texts.{after}
 use Rattle.tm_cond.specs.Reading.{or_numeric}
 use Rattle.tm_cond.specs.Written.{has_field, is_attr, is_numeric}
@@ -100,8 +102,8 @@ field_read : (place : StatPlace) (text : Text) (field : StatField) → field_at 
 unfolding parent_word
 field_read StatPlace.Path1 text field e = refl
 field_read StatPlace.Path2 text field e = refl
-field_read StatPlace.Path1Parent text field e = named_fits (λ t f. has_field StatPlace.Path1Parent f ≡ true) parent_table text field (refl, (refl, (refl, (refl, tt)))) e
-field_read StatPlace.Path2Parent text field e = named_fits (λ t f. has_field StatPlace.Path2Parent f ≡ true) parent_table text field (refl, (refl, (refl, (refl, tt)))) e
+field_read StatPlace.Path1Parent text field e = named_fits (λ t f. has_field StatPlace.Path1Parent f ≡ true) (map (row_of field_text) parent_fields) text field (refl, (refl, (refl, (refl, tt)))) e
+field_read StatPlace.Path2Parent text field e = named_fits (λ t f. has_field StatPlace.Path2Parent f ≡ true) (map (row_of field_text) parent_fields) text field (refl, (refl, (refl, (refl, tt)))) e
 
 stat_read : (place : StatPlace) (text : Text) (attr : Attr) → stat_at place text ≡ Some attr → IsRead attr
 unfolding is_attr

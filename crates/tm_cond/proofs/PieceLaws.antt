@@ -9,7 +9,8 @@ use Rattle.tm_word.specs.Words.{Text}
 use Rattle.tm_types.specs.declared.entry.LineKind.{LineKind}
 use Rattle.tm_word.specs.Texts.{texts_equal, after}
 use Rattle.tm_rules.proofs.EqualityLaws.{same_texts}
-use Rattle.tm_cond.specs.Attributes.{or_wrong, ends_in, without_last, quoted, named}
+use Rattle.tm_cond.specs.Attributes.{or_wrong, ends_in, without_last, quoted}
+use Rattle.tm_word.specs.Closed.{named}
 
 -- ---- options
 

@@ -11,7 +11,8 @@ use Rattle.tm_types.specs.declared.entry.StatPlace.{StatPlace}
 use Rattle.tm_types.specs.declared.entry.StatField.{StatField}
 use Rattle.tm_types.specs.declared.entry.FileKindWord.{FileKindWord}
 use Rattle.tm_types.specs.declared.entry.Attr.{Attr}
-use Rattle.tm_word.specs.Texts.{texts_equal, after}
+use Rattle.tm_word.specs.Closed.{named, of_word}
+use Rattle.tm_word.specs.Texts.{after}
 use Rattle.tm_word.specs.Gives.{◌>>=◌}
 use Rattle.tm_line.specs.Lines.{or_kind}
 
@@ -33,11 +34,6 @@ abbrev pub quoted : Text → Result Text LineKind
 quoted [] = Err LineKind.Condition
 quoted (b ∷ text) = if b == 34 then or_wrong (without_last 34 text) else Err LineKind.Condition
 
--- the value that a table has for this text
-abbrev pub named : {A : Type 0} → List (Text × A) → Text → Option A
-named [] text = None
-named (row ∷ table) text = if texts_equal text row.0 then Some row.1 else named table text
-
 -- Words of one table
 
 -- the ids of a process
@@ -53,16 +49,13 @@ id_text IdField.Fsgid = codes "fsgid"
 id_text IdField.Pid = codes "pid"
 id_text IdField.Ppid = codes "ppid"
 
--- a value beside its own text
-abbrev pub row_of : {A : Type 0} → (A → Text) → A → Text × A
-row_of text x = (text x, x)
-
-abbrev pub id_table : List (Text × IdField)
-id_table =
-    row_of id_text IdField.Uid ∷ row_of id_text IdField.Euid ∷ row_of id_text IdField.Suid ∷ row_of id_text IdField.Fsuid ∷ row_of id_text IdField.Gid ∷ row_of id_text IdField.Egid ∷ row_of id_text IdField.Sgid ∷ row_of id_text IdField.Fsgid ∷ row_of id_text IdField.Pid ∷ row_of id_text IdField.Ppid ∷ []
+abbrev pub ids : List IdField
+ids =
+    IdField.Uid ∷ IdField.Euid ∷ IdField.Suid ∷ IdField.Fsuid ∷ IdField.Gid ∷ IdField.Egid
+    ∷ IdField.Sgid ∷ IdField.Fsgid ∷ IdField.Pid ∷ IdField.Ppid ∷ []
 
 unfoldable pub id_word : Text → Option IdField
-id_word text = named id_table text
+id_word text = of_word id_text ids text
 
 -- the numbers of a file
 abbrev pub field_text : StatField → Text
@@ -75,19 +68,20 @@ field_text StatField.Minor = codes "minor"
 field_text StatField.DevMajor = codes "dev_major"
 field_text StatField.DevMinor = codes "dev_minor"
 
-abbrev pub field_table : List (Text × StatField)
-field_table =
-    row_of field_text StatField.Uid ∷ row_of field_text StatField.Gid ∷ row_of field_text StatField.Ino ∷ row_of field_text StatField.Perm ∷ row_of field_text StatField.Major ∷ row_of field_text StatField.Minor ∷ row_of field_text StatField.DevMajor ∷ row_of field_text StatField.DevMinor ∷ []
+abbrev pub fields : List StatField
+fields =
+    StatField.Uid ∷ StatField.Gid ∷ StatField.Ino ∷ StatField.Perm ∷ StatField.Major
+    ∷ StatField.Minor ∷ StatField.DevMajor ∷ StatField.DevMinor ∷ []
 
 unfoldable pub field_word : Text → Option StatField
-field_word text = named field_table text
+field_word text = of_word field_text fields text
 
 -- those of the folder that a file is in
-abbrev pub parent_table : List (Text × StatField)
-parent_table = row_of field_text StatField.Uid ∷ row_of field_text StatField.Gid ∷ row_of field_text StatField.Ino ∷ row_of field_text StatField.Perm ∷ []
+abbrev pub parent_fields : List StatField
+parent_fields = StatField.Uid ∷ StatField.Gid ∷ StatField.Ino ∷ StatField.Perm ∷ []
 
 unfoldable pub parent_word : Text → Option StatField
-parent_word text = named parent_table text
+parent_word text = of_word field_text parent_fields text
 
 -- the types of files
 abbrev pub kind_text : FileKindWord → Text
@@ -99,12 +93,13 @@ kind_text FileKindWord.Fifo = codes "fifo"
 kind_text FileKindWord.Char = codes "char"
 kind_text FileKindWord.Block = codes "block"
 
-abbrev pub kind_table : List (Text × FileKindWord)
-kind_table =
-    row_of kind_text FileKindWord.File ∷ row_of kind_text FileKindWord.Directory ∷ row_of kind_text FileKindWord.Symlink ∷ row_of kind_text FileKindWord.Socket ∷ row_of kind_text FileKindWord.Fifo ∷ row_of kind_text FileKindWord.Char ∷ row_of kind_text FileKindWord.Block ∷ []
+abbrev pub file_kinds : List FileKindWord
+file_kinds =
+    FileKindWord.File ∷ FileKindWord.Directory ∷ FileKindWord.Symlink ∷ FileKindWord.Socket
+    ∷ FileKindWord.Fifo ∷ FileKindWord.Char ∷ FileKindWord.Block ∷ []
 
 unfoldable pub kind_word : Text → Option FileKindWord
-kind_word text = named kind_table text
+kind_word text = of_word kind_text file_kinds text
 
 -- Attributes
 
@@ -129,7 +124,8 @@ attr_text Attr.Target = codes "symlink.target"
 
 -- an id of the process
 abbrev pub task_at : Text → Option Attr
-task_at text = option_and_then (λ rest. option_map Attr.Task (id_word rest)) (after (codes "task.") text)
+task_at text =
+    option_and_then (λ rest. option_map Attr.Task (id_word rest)) (after (codes "task.") text)
 
 -- a number of a file, or of the folder that it is in
 abbrev pub field_at : StatPlace → Text → Option StatField
@@ -139,7 +135,9 @@ field_at StatPlace.Path1Parent text = parent_word text
 field_at StatPlace.Path2Parent text = parent_word text
 
 abbrev pub stat_at : StatPlace → Text → Option Attr
-stat_at place text = option_and_then (λ rest. option_map (Attr.Stat place) (field_at place rest)) (after (place_text place) text)
+stat_at place text =
+    option_and_then (λ rest. option_map (Attr.Stat place) (field_at place rest))
+    (after (place_text place) text)
 
 -- how many arguments and environment names there are
 abbrev pub count_table : List (Text × Attr)
@@ -148,12 +146,17 @@ count_table = (codes "exec.argc", Attr.Argc) ∷ (codes "exec.envc", Attr.Envc) 
 -- a numeric attribute
 unfoldable pub numeric_word : Text → Option Attr
 numeric_word text =
-    option_or (task_at text) (option_or (named count_table text) (option_or (stat_at StatPlace.Path1 text) (option_or (stat_at StatPlace.Path2 text) (option_or (stat_at StatPlace.Path1Parent text) (stat_at StatPlace.Path2Parent text)))))
+    option_or (task_at text) (option_or (named count_table text)
+    (option_or (stat_at StatPlace.Path1 text)
+    (option_or (stat_at StatPlace.Path2 text)
+    (option_or (stat_at StatPlace.Path1Parent text) (stat_at StatPlace.Path2Parent text)))))
 
 -- the attributes without a number that are one word each
 abbrev pub other_table : List (Text × Attr)
 other_table =
-    (codes "path1.type", Attr.Kind StatPlace.Path1) ∷ (codes "path2.type", Attr.Kind StatPlace.Path2) ∷ (codes "exec.realpath", Attr.RealPath) ∷ (codes "symlink.target", Attr.Target) ∷ []
+    (codes "path1.type", Attr.Kind StatPlace.Path1)
+    ∷ (codes "path2.type", Attr.Kind StatPlace.Path2) ∷ (codes "exec.realpath", Attr.RealPath)
+    ∷ (codes "symlink.target", Attr.Target) ∷ []
 
 unfoldable pub other_word : Text → Option Attr
 other_word text = named other_table text
@@ -179,11 +182,14 @@ or_read (Some x) other = Ok x
 or_read None other = other
 
 -- what the rest of the text gives, or what the other gives
-abbrev pub or_rest : Option Text → (Text → Result Attr LineKind) → Result Attr LineKind → Result Attr LineKind
+abbrev pub or_rest : Option Text → (Text → Result Attr LineKind) → Result Attr LineKind
+    → Result Attr LineKind
 or_rest (Some rest) read other = read rest
 or_rest None read other = other
 
 -- a left word
 unfoldable pub attr_word : Text → Result Attr LineKind
 attr_word text =
-    or_read (numeric_word text) (or_read (other_word text) (or_rest (after (codes "exec.argv[") text) argv_word (or_rest (after (codes "exec.envp[") text) envp_word (Err LineKind.Condition))))
+    or_read (numeric_word text) (or_read (other_word text)
+    (or_rest (after (codes "exec.argv[") text) argv_word
+    (or_rest (after (codes "exec.envp[") text) envp_word (Err LineKind.Condition))))

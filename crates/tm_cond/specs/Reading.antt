@@ -11,11 +11,12 @@ use Rattle.tm_types.specs.declared.entry.Clause.{Clause}
 use Rattle.tm_types.specs.declared.entry.Cond.{Cond}
 use Rattle.tm_types.specs.declared.unions.NameUnion.{NameUnion}
 use Rattle.tm_types.specs.declared.unions.NumberUnion.{NumberUnion}
+use Rattle.tm_word.specs.Closed.{named}
 use Rattle.tm_word.specs.Texts.{texts_equal}
 use Rattle.tm_word.specs.Gives.{◌>>=◌}
 use Rattle.tm_line.specs.Arguments.{kinded, group_word, pattern_word, number_word}
 use Rattle.tm_line.specs.Printing.{number_spelling}
-use Rattle.tm_cond.specs.Attributes.{or_wrong, quoted, without_last, named, numeric_word, attr_word, attr_text, kind_word, kind_text}
+use Rattle.tm_cond.specs.Attributes.{or_wrong, quoted, without_last, numeric_word, attr_word, attr_text, kind_word, kind_text}
 
 -- Right sides
 
@@ -29,7 +30,10 @@ quoted_name text = do
 -- a pattern in double quotes, or `@GROUP`
 unfoldable pub name_or_group : Text → Result NameUnion LineKind
 name_or_group [] = Err LineKind.Condition
-name_or_group (b ∷ text) = if b == 64 then (kinded LineKind.Condition (group_word text) >>= λ group. Ok (NameUnion.Group group)) else quoted_name (b ∷ text)
+name_or_group (b ∷ text) =
+    if b == 64
+    then (kinded LineKind.Condition (group_word text) >>= λ group. Ok (NameUnion.Group group))
+    else quoted_name (b ∷ text)
 
 -- a number argument, or a numeric attribute
 abbrev pub or_numeric : Result NumberUnion LineKind → Text → Result Right LineKind
@@ -40,7 +44,9 @@ or_numeric (Err kind) text = or_wrong (numeric_word text) >>= λ attr. Ok (Right
 unfoldable pub right_word : Attr → Text → Result Right LineKind
 right_word (Attr.Kind place) text = or_wrong (kind_word text) >>= λ kind. Ok (Right.Kind kind)
 right_word (Attr.Argv n) text = quoted_name text >>= λ name. Ok (Right.Name name)
-right_word (Attr.Envp word) text = if texts_equal text (codes "NULL") then Ok Right.Null else (quoted_name text >>= λ name. Ok (Right.Name name))
+right_word (Attr.Envp word) text =
+    if texts_equal text (codes "NULL") then Ok Right.Null
+    else (quoted_name text >>= λ name. Ok (Right.Name name))
 right_word Attr.RealPath text = name_or_group text >>= λ name. Ok (Right.Name name)
 right_word Attr.Target text = name_or_group text >>= λ name. Ok (Right.Name name)
 right_word (Attr.Task field) text = or_numeric (number_word text) text
@@ -114,11 +120,13 @@ logged None clauses log = Ok (cond_with clauses (Some log))
 -- one more word, after the conditions before
 abbrev pub with_word : Option Bool → Cond → Text → Result Cond LineKind
 with_word (Some log) cond_ word = logged cond_.grant_log cond_.clauses log
-with_word None cond_ word = clause_word word >>= λ c. Ok (cond_with (cond_.clauses ++ c ∷ []) cond_.grant_log)
+with_word None cond_ word =
+    clause_word word >>= λ c. Ok (cond_with (cond_.clauses ++ c ∷ []) cond_.grant_log)
 
 unfoldable pub cond_from : Cond → List Text → Result Cond LineKind
 cond_from cond_ [] = Ok cond_
-cond_from cond_ (word ∷ words) = with_word (log_word word) cond_ word >>= λ next. cond_from next words
+cond_from cond_ (word ∷ words) =
+    with_word (log_word word) cond_ word >>= λ next. cond_from next words
 
 -- the conditions that these words are
 unfoldable pub cond_of : List Text → Result Cond LineKind

@@ -117,8 +117,9 @@ fn value_of<'a>(environment: &'a [(Word, Word)], name: &Word) -> Option<&'a Word
     None
 }
 
-/// The value of a numeric attribute, where the request has it: the ids of the process always, the numbers of arguments and
-/// environment names for an execute, a file's numbers where they are recorded.
+/// The value of a numeric attribute, where the request has it: the ids of the process always, the
+/// numbers of arguments and environment names for an execute, a file's numbers where they are
+/// recorded.
 #[tactic(auto, unfolding(tm_rules::specs::Condition::number_of))]
 pub fn number_of(attr: &Attr, process: &Proc, request: &Request) -> Option<u64>
     ensures { result ≡ number_of attr.now process.now request.now }
@@ -148,7 +149,8 @@ pub fn number_of(attr: &Attr, process: &Proc, request: &Request) -> Option<u64>
     }
 }
 
-/// The word of a named attribute, where the request has it: real path, arguments and environment for an execute alone.
+/// The word of a named attribute, where the request has it: real path, arguments and environment
+/// for an execute alone.
 #[tactic(auto, unfolding(tm_rules::specs::Condition::word_of))]
 pub fn word_of<'a>(attr: &Attr, request: &'a Request) -> Option<&'a Word>
     ensures { option_copied result ≡ word_of attr.now request.now }

@@ -7,6 +7,7 @@ ghost use Rattle.tm_cond.specs.Attributes.{id_text, field_text, kind_text, attr_
 ghost use Rattle.tm_cond.specs.Reading.{right_text, operator, clause_text, log_words, cond_words};
 
 use crate::left::place_text;
+use crate::words::{FIELDS, IDS, KINDS};
 use std::alloc::Global;
 use tm_line::print_number;
 use tm_list::NoMemory;
@@ -19,48 +20,20 @@ use tm_word::{Pattern, Word, write_word};
 fn id_text(field: IdField) -> &'static [u8]
     ensures { result.now ≡ id_text field }
 {
-    match field {
-        IdField::Uid => b"uid",
-        IdField::Euid => b"euid",
-        IdField::Suid => b"suid",
-        IdField::Fsuid => b"fsuid",
-        IdField::Gid => b"gid",
-        IdField::Egid => b"egid",
-        IdField::Sgid => b"sgid",
-        IdField::Fsgid => b"fsgid",
-        IdField::Pid => b"pid",
-        IdField::Ppid => b"ppid",
-    }
+    IDS[field as usize].0.as_bytes()
 }
 
 fn field_text(field: StatField) -> &'static [u8]
     ensures { result.now ≡ field_text field }
 {
-    match field {
-        StatField::Uid => b"uid",
-        StatField::Gid => b"gid",
-        StatField::Ino => b"ino",
-        StatField::Perm => b"perm",
-        StatField::Major => b"major",
-        StatField::Minor => b"minor",
-        StatField::DevMajor => b"dev_major",
-        StatField::DevMinor => b"dev_minor",
-    }
+    FIELDS[field as usize].0.as_bytes()
 }
 
 /// The name of a type of file.
 pub fn kind_text(kind: FileKindWord) -> &'static [u8]
     ensures { result.now ≡ kind_text kind }
 {
-    match kind {
-        FileKindWord::File => b"file",
-        FileKindWord::Directory => b"directory",
-        FileKindWord::Symlink => b"symlink",
-        FileKindWord::Socket => b"socket",
-        FileKindWord::Fifo => b"fifo",
-        FileKindWord::Char => b"char",
-        FileKindWord::Block => b"block",
-    }
+    KINDS[kind as usize].0.as_bytes()
 }
 
 // Appends a word between double quotes.
@@ -74,11 +47,40 @@ fn push_name(alloc: Global, name: &Word, out: &mut Vec<u8>) -> Result<(), NoMemo
 
 // Appends a pattern between double quotes.
 fn push_pattern(alloc: Global, pattern: &Pattern, out: &mut Vec<u8>) -> Result<(), NoMemory>
-    ensures { OnOk result (out.new.items ≡ out.old.items ++ 34 ∷ spelled_pattern pattern.now ++ 34 ∷ []) }
+    ensures { OnOk result
+        (out.new.items ≡ out.old.items ++ 34 ∷ spelled_pattern pattern.now ++ 34 ∷ []) }
 {
     out.push(b'"')?;
     print_pattern(alloc, pattern, out)?;
     out.extend_from_slice(b"\"")
+}
+
+// Appends two texts.
+fn push_both(first: &[u8], second: &[u8], out: &mut Vec<u8>) -> Result<(), NoMemory>
+    ensures { OnOk result (out.new.items ≡ out.old.items ++ (first.now ++ second.now)) }
+{
+    out.extend_from_slice(first)?;
+    out.extend_from_slice(second)
+}
+
+// Appends the attribute of an argument.
+#[tactic(auto, unfolding(crate::specs::Attributes::attr_text))]
+fn push_argv(alloc: Global, place: u32, out: &mut Vec<u8>) -> Result<(), NoMemory>
+    ensures { OnOk result (out.new.items ≡ out.old.items ++ attr_text (Attr.Argv place)) }
+{
+    out.extend_from_slice(b"exec.argv[")?;
+    write_decimal(alloc, u64::from(place), out)?;
+    out.extend_from_slice(b"]")
+}
+
+// Appends the attribute of an environment name.
+#[tactic(auto, unfolding(crate::specs::Attributes::attr_text))]
+fn push_envp(alloc: Global, name: &Word, out: &mut Vec<u8>) -> Result<(), NoMemory>
+    ensures { OnOk result (out.new.items ≡ out.old.items ++ attr_text (Attr.Envp name.now)) }
+{
+    out.extend_from_slice(b"exec.envp[")?;
+    push_name(alloc, name, out)?;
+    out.extend_from_slice(b"]")
 }
 
 // Appends an attribute.
@@ -87,30 +89,13 @@ fn push_attr(alloc: Global, attr: &Attr, out: &mut Vec<u8>) -> Result<(), NoMemo
     ensures { OnOk result (out.new.items ≡ out.old.items ++ attr_text attr.now) }
 {
     match attr {
-        Attr::Task(field) => {
-            out.extend_from_slice(b"task.")?;
-            out.extend_from_slice(id_text(*field))
-        }
+        Attr::Task(field) => push_both(b"task.", id_text(*field), out),
         Attr::Argc => out.extend_from_slice(b"exec.argc"),
         Attr::Envc => out.extend_from_slice(b"exec.envc"),
-        Attr::Stat(place, field) => {
-            out.extend_from_slice(place_text(*place))?;
-            out.extend_from_slice(field_text(*field))
-        }
-        Attr::Kind(place) => {
-            out.extend_from_slice(place_text(*place))?;
-            out.extend_from_slice(b"type")
-        }
-        Attr::Argv(place) => {
-            out.extend_from_slice(b"exec.argv[")?;
-            write_decimal(alloc, u64::from(*place), out)?;
-            out.extend_from_slice(b"]")
-        }
-        Attr::Envp(name) => {
-            out.extend_from_slice(b"exec.envp[")?;
-            push_name(alloc, name, out)?;
-            out.extend_from_slice(b"]")
-        }
+        Attr::Stat(place, field) => push_both(place_text(*place), field_text(*field), out),
+        Attr::Kind(place) => push_both(place_text(*place), b"type", out),
+        Attr::Argv(place) => push_argv(alloc, *place, out),
+        Attr::Envp(name) => push_envp(alloc, name, out),
         Attr::RealPath => out.extend_from_slice(b"exec.realpath"),
         Attr::Target => out.extend_from_slice(b"symlink.target"),
     }
@@ -206,8 +191,8 @@ fn cond_text(alloc: Global, cond: &Cond) -> Result<Vec<u8>, NoMemory>
     Ok(text)
 }
 
-/// Appends the conditions of a line, each after a space: the clauses in written order, and `grant_log` last. After want of memory
-/// `out` is as before.
+/// Appends the conditions of a line, each after a space: the clauses in written order, and
+/// `grant_log` last. After want of memory `out` is as before.
 pub fn print_cond(alloc: Global, cond: &Cond, out: &mut Vec<u8>) -> Result<(), NoMemory>
     ensures ok { OnOk result (out.new.items ≡ out.old.items ++ spaced (cond_words cond.now)) }
     ensures err { OnErr result (out.new.items ≡ out.old.items) }

@@ -52,7 +52,8 @@ fn name_or_group(alloc: Global, text: &[u8]) -> Result<NameUnion, LineFault>
 
 // A number argument, or a numeric attribute.
 fn number_or_attr(alloc: Global, text: &[u8]) -> Result<Right, LineFault>
-    ensures { Gives line_cause (λ right. right) result (or_numeric (number_word text.now) text.now) }
+    ensures { Gives line_cause (λ right. right) result
+        (or_numeric (number_word text.now) text.now) }
 {
     match number_word(alloc, text) {
         Ok(number) => Ok(Right::Numbers(number)),
@@ -82,12 +83,8 @@ fn right_word(alloc: Global, left: &Attr, text: &[u8]) -> Result<Right, LineFaul
                 Ok(Right::Name(quoted_name(alloc, text)?))
             }
         }
-        Attr::RealPath => Ok(Right::Name(name_or_group(alloc, text)?)),
-        Attr::Target => Ok(Right::Name(name_or_group(alloc, text)?)),
-        Attr::Task(_) => number_or_attr(alloc, text),
-        Attr::Argc => number_or_attr(alloc, text),
-        Attr::Envc => number_or_attr(alloc, text),
-        Attr::Stat(_, _) => number_or_attr(alloc, text),
+        Attr::RealPath | Attr::Target => Ok(Right::Name(name_or_group(alloc, text)?)),
+        Attr::Task(_) | Attr::Argc | Attr::Envc | Attr::Stat(_, _) => number_or_attr(alloc, text),
     }
 }
 
@@ -161,13 +158,16 @@ fn with_word(alloc: Global, cond: Cond, word: &[u8]) -> Result<Cond, LineFault>
     }
 }
 
-/// Reads the conditions of a line, one word each. `grant_log` may stand anywhere among them, at most once.
+/// Reads the conditions of a line, one word each. `grant_log` may stand anywhere among them, at
+/// most once.
 ///
-/// Errors: `Condition` exactly where a word isn't in the grammar or `grant_log` stands twice; or want of memory.
+/// Errors: `Condition` exactly where a word isn't in the grammar or `grant_log` stands twice; or
+/// want of memory.
 #[tactic(auto, unfolding(crate::specs::Reading::cond_of, crate::specs::Reading::cond_from))]
 pub fn read_cond(alloc: Global, words: &[Text]) -> Result<Cond, LineFault>
     ensures exact { Gives line_cause (λ cond. cond) result (cond_of words.now) }
-    ensures kind { IfErr result (λ fault. (fault ≡ LineFault.Kind LineKind.Condition) ⊎ (fault ≡ LineFault.NoMemory)) }
+    ensures kind { IfErr result
+        (λ fault. (fault ≡ LineFault.Kind LineKind.Condition) ⊎ (fault ≡ LineFault.NoMemory)) }
 {
     let mut cond = Cond {
         clauses: Seq::new(alloc),

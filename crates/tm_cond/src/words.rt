@@ -6,7 +6,44 @@ ghost use Rattle.tm_cond.specs.Attributes.{or_wrong, without_last, quoted, id_wo
 
 use tm_types::entry::{FileKindWord, IdField, LineKind, StatField};
 use tm_types::step::LineFault;
-use tm_word::bytes_equal;
+use tm_word::value_of;
+
+/// The ids of a process, by their names.
+pub(crate) const IDS: [(&str, IdField); 10] = [
+    ("uid", IdField::Uid),
+    ("euid", IdField::Euid),
+    ("suid", IdField::Suid),
+    ("fsuid", IdField::Fsuid),
+    ("gid", IdField::Gid),
+    ("egid", IdField::Egid),
+    ("sgid", IdField::Sgid),
+    ("fsgid", IdField::Fsgid),
+    ("pid", IdField::Pid),
+    ("ppid", IdField::Ppid),
+];
+
+/// The numbers of a file, by their names; the first four are those of its folder too.
+pub(crate) const FIELDS: [(&str, StatField); 8] = [
+    ("uid", StatField::Uid),
+    ("gid", StatField::Gid),
+    ("ino", StatField::Ino),
+    ("perm", StatField::Perm),
+    ("major", StatField::Major),
+    ("minor", StatField::Minor),
+    ("dev_major", StatField::DevMajor),
+    ("dev_minor", StatField::DevMinor),
+];
+
+/// The types of files, by their names.
+pub(crate) const KINDS: [(&str, FileKindWord); 7] = [
+    ("file", FileKindWord::File),
+    ("directory", FileKindWord::Directory),
+    ("symlink", FileKindWord::Symlink),
+    ("socket", FileKindWord::Socket),
+    ("fifo", FileKindWord::Fifo),
+    ("char", FileKindWord::Char),
+    ("block", FileKindWord::Block),
+];
 
 /// The text without its last byte, where that is this one.
 #[tactic(auto, unfolding(crate::specs::Attributes::without_last))]
@@ -24,7 +61,8 @@ pub fn without_last(byte: u8, text: &[u8]) -> Option<&[u8]>
 
 /// The text without its last byte, which has to be this one. Errors: `Condition`.
 pub fn closed(byte: u8, text: &[u8]) -> Result<&[u8], LineFault>
-    ensures { GivesNow line_cause (λ front. front.now) result (or_wrong (without_last byte text.now)) }
+    ensures { GivesNow line_cause (λ front. front.now) result
+        (or_wrong (without_last byte text.now)) }
 {
     match without_last(byte, text) {
         Some(front) => Ok(front),
@@ -47,37 +85,7 @@ pub fn quoted(text: &[u8]) -> Result<&[u8], LineFault>
 pub fn id_word(text: &[u8]) -> Option<IdField>
     ensures { result ≡ id_word text.now }
 {
-    if bytes_equal(text, b"uid") {
-        return Some(IdField::Uid);
-    }
-    if bytes_equal(text, b"euid") {
-        return Some(IdField::Euid);
-    }
-    if bytes_equal(text, b"suid") {
-        return Some(IdField::Suid);
-    }
-    if bytes_equal(text, b"fsuid") {
-        return Some(IdField::Fsuid);
-    }
-    if bytes_equal(text, b"gid") {
-        return Some(IdField::Gid);
-    }
-    if bytes_equal(text, b"egid") {
-        return Some(IdField::Egid);
-    }
-    if bytes_equal(text, b"sgid") {
-        return Some(IdField::Sgid);
-    }
-    if bytes_equal(text, b"fsgid") {
-        return Some(IdField::Fsgid);
-    }
-    if bytes_equal(text, b"pid") {
-        return Some(IdField::Pid);
-    }
-    if bytes_equal(text, b"ppid") {
-        return Some(IdField::Ppid);
-    }
-    None
+    value_of(&IDS, text)
 }
 
 /// The number of a file with this name.
@@ -85,31 +93,7 @@ pub fn id_word(text: &[u8]) -> Option<IdField>
 pub fn field_word(text: &[u8]) -> Option<StatField>
     ensures { result ≡ field_word text.now }
 {
-    if bytes_equal(text, b"uid") {
-        return Some(StatField::Uid);
-    }
-    if bytes_equal(text, b"gid") {
-        return Some(StatField::Gid);
-    }
-    if bytes_equal(text, b"ino") {
-        return Some(StatField::Ino);
-    }
-    if bytes_equal(text, b"perm") {
-        return Some(StatField::Perm);
-    }
-    if bytes_equal(text, b"major") {
-        return Some(StatField::Major);
-    }
-    if bytes_equal(text, b"minor") {
-        return Some(StatField::Minor);
-    }
-    if bytes_equal(text, b"dev_major") {
-        return Some(StatField::DevMajor);
-    }
-    if bytes_equal(text, b"dev_minor") {
-        return Some(StatField::DevMinor);
-    }
-    None
+    value_of(&FIELDS, text)
 }
 
 /// The number of a file's folder with this name.
@@ -117,19 +101,7 @@ pub fn field_word(text: &[u8]) -> Option<StatField>
 pub fn parent_word(text: &[u8]) -> Option<StatField>
     ensures { result ≡ parent_word text.now }
 {
-    if bytes_equal(text, b"uid") {
-        return Some(StatField::Uid);
-    }
-    if bytes_equal(text, b"gid") {
-        return Some(StatField::Gid);
-    }
-    if bytes_equal(text, b"ino") {
-        return Some(StatField::Ino);
-    }
-    if bytes_equal(text, b"perm") {
-        return Some(StatField::Perm);
-    }
-    None
+    value_of(&FIELDS[..4], text)
 }
 
 /// The type of a file with this name.
@@ -137,26 +109,5 @@ pub fn parent_word(text: &[u8]) -> Option<StatField>
 pub fn kind_word(text: &[u8]) -> Option<FileKindWord>
     ensures { result ≡ kind_word text.now }
 {
-    if bytes_equal(text, b"file") {
-        return Some(FileKindWord::File);
-    }
-    if bytes_equal(text, b"directory") {
-        return Some(FileKindWord::Directory);
-    }
-    if bytes_equal(text, b"symlink") {
-        return Some(FileKindWord::Symlink);
-    }
-    if bytes_equal(text, b"socket") {
-        return Some(FileKindWord::Socket);
-    }
-    if bytes_equal(text, b"fifo") {
-        return Some(FileKindWord::Fifo);
-    }
-    if bytes_equal(text, b"char") {
-        return Some(FileKindWord::Char);
-    }
-    if bytes_equal(text, b"block") {
-        return Some(FileKindWord::Block);
-    }
-    None
+    value_of(&KINDS, text)
 }

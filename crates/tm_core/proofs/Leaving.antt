@@ -96,7 +96,8 @@ abbrev pub Stays : Step → Type 0
 Stays Step.Detach = ⊥
 Stays _ = Unit {0}
 
--- a query but that of this serial has no more answer than before, and the trees that have ended have so
+-- a query but that of this serial has no more answer than before, and the trees that have ended
+-- have so
 pub record Calm (heard : Option ℕ) (s s' : State) : Type 0 where
   pub answers : (serial : ℕ) → (heard ≡ Some serial → ⊥) → answer_of s.queries serial ≡ None → answer_of s'.queries serial ≡ None
   pub ended : (t : ℕ) → list_any (λ n. n == t) s.ended ≡ true → list_any (λ n. n == t) s'.ended ≡ true
@@ -224,7 +225,8 @@ end-fits : (g : Grammar) (s : State) (t : ℕ) → suc t ≤ s.trees → IsSome 
 unfolding apply
 end-fits g s t within = rw (lt-ltb 0 (suc t) (omega arith), le-leb (suc t) s.trees within) refl
 
--- what others have left of a player to tree t, of which the supervisor has answered at most the query of another serial
+-- what others have left of a player to tree t, of which the supervisor has answered at most the
+-- query of another serial
 pub record Leaves (heard : Option ℕ) (t : ℕ) (p q : Player) : Type 0 where
   pub calm : Calm heard p.state q.state
   pub way : slice_get q.ways t ≡ slice_get p.ways t

@@ -72,7 +72,8 @@ unfolding turns
 turns-rest scene p tree_of number [] led no_desk rests = rests
 turns-rest scene p tree_of number (who ∷ list) led no_desk rests = turns-rest scene (turn scene p who) tree_of number list (led-turn scene p who led) no_desk.1 (turn-rests scene p tree_of number led rests who no_desk.0)
 
--- the supervisor's turn, where it doesn't leave and doesn't answer the query that the tree waits for
+-- the supervisor's turn, where it doesn't leave and doesn't answer the query that the tree waits
+-- for
 pub desk-rests-on : (scene : Scene) (p next : Player) (who : Turn) (tree_of : ℕ → Option ℕ) (number : ℕ) → Led scene p → StaysOn who → ((serial : ℕ) → answered_by who ≡ Some serial → tree_of serial ≡ Some number → ⊥)
     → option_and_then (λ step. option_map (λ (s : Settled). s.player) (settle scene.grammar p step)) (supervisor_step scene.grammar p (is_some scene.book) who) ≡ Some next
     → Rests scene.grammar (is_some scene.book) p tree_of number → Rests scene.grammar (is_some scene.book) next tree_of number

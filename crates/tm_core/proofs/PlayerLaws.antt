@@ -1,6 +1,6 @@
 -- What the events of the code's player are.
-use Rattle.std.proofs.Common.{◌≡◌, ℕ, zero, suc, ◌-◌, ◌<◌, ◌≤◌, Bool, true, false, not, List, [], ◌∷◌, length, map, refl, sym, ap, ◌∙◌, subst, inl, inr, arith}
-use Rattle.std.specs.Prelude.{Option, Some, None, Result, Ok, Err, IfOk, OnOk, IsSome, option_map, slice_get, slice_set, slice_index_or, unwrap_or, if◌then◌else◌}
+use Rattle.std.proofs.Common.{◌≡◌, ℕ, zero, suc, ◌-◌, ◌<◌, ◌≤◌, Bool, true, false, not, List, [], ◌∷◌, ◌++◌, length, map, refl, sym, ap, ◌∙◌, subst, inl, inr, arith}
+use Rattle.std.specs.Prelude.{Option, Some, None, Result, Ok, Err, IfOk, OnOk, IsSome, option_map, is_some, slice_get, slice_set, slice_index_or, unwrap_or, if◌then◌else◌}
 use Rattle.std.specs.Option.{option_and_then, option_map_or}
 use Rattle.tm_word.specs.Words.{Text}
 use Rattle.tm_rules.specs.Words.{Trace}
@@ -8,6 +8,7 @@ use Rattle.tm_types.specs.declared.step.FileKind.{FileKind}
 use Rattle.tm_types.specs.declared.step.Book.{Book}
 use Rattle.tm_types.specs.declared.step.Editor.{Editor}
 use Rattle.tm_types.specs.declared.step.Maker.{Maker}
+use Rattle.tm_types.specs.declared.step.Start.{Start}
 use Rattle.tm_types.specs.declared.step.Step.{Step}
 use Rattle.tm_types.specs.declared.step.Reply.{Reply}
 use Rattle.tm_types.specs.declared.step.Turn.{Turn}
@@ -17,12 +18,13 @@ use Rattle.tm_rules.specs.Changes.{is_manager}
 use Rattle.tm_rules.specs.Search.{when}
 use Rattle.tm_rules.specs.Queries.{numbered}
 use Rattle.tm_legal.specs.Steps.{State, Applied, unfit, edit_step, opening, apply}
-use Rattle.tm_legal.specs.Play.{Way, Player, tree_event, line_event, editor_event, supervisor_step, start_of}
+use Rattle.tm_legal.specs.Legal.{Scene}
+use Rattle.tm_legal.specs.Play.{Way, Player, CanPlay, tree_event, line_event, editor_event, supervisor_step, player_event, own_turn, own_turns, start_of}
 use Rattle.tm_legal.specs.Needs.{Needs, CanGoOn}
-use Rattle.tm_legal.proofs.NeedsLaws.{can-go-on}
+use Rattle.tm_legal.proofs.NeedsLaws.{can-go-on, own-turns-can}
 use Rattle.tm_machine.specs.Machine.{Course}
 use Rattle.tm_take.specs.Ways.{awaited}
-use Rattle.tm_core.specs.Scenes.{scene_of, IsReached, Answers}
+use Rattle.tm_core.specs.Scenes.{scene_of, IsReached, IsLed, Answers}
 use Rattle.tm_core.specs.Moves.{at_course, Makes, IsMadeByTree, AddsAtMost, IsMadeBy, TreeMoves}
 use Rattle.tm_core.specs.Players.{way_at_start, supervisor_event}
 use Rattle.tm_core.proofs.TreeLaws.{settled}
@@ -73,6 +75,50 @@ starts-so course trace book ways scripts made opened trees w s = rw (w, s, made,
 
 pub reached-goes : (trace : Trace) (book : Book) (course : Course) (player : Player) → IsReached trace book course player → CanGoOn tomoyo_grammar player
 reached-goes trace book course player h = subst (CanGoOn tomoyo_grammar) (sym h.led) (can-go-on (scene_of course.start trace book) h.schedule h.can)
+
+-- a supervisor stands where the scene has a book
+desk-stands : (desk : Bool) (book : Book) → is_some (if desk then Some book else None) ≡ desk
+desk-stands true book = refl
+desk-stands false book = refl
+
+-- the same whoever has answered
+pub led-goes : (trace : Trace) (book : Book) (course : Course) (player : Player) → IsLed trace book course player → CanGoOn tomoyo_grammar player
+led-goes trace book course player h =
+    let scene : Scene = scene_of course.start trace book in
+    let own : player ≡ own_turns tomoyo_grammar (is_some scene.book) (start_of scene) h.list = h.led ∙ ap (λ desk. own_turns tomoyo_grammar desk (start_of scene) h.list) (sym (desk-stands course.start.desk book)) in
+    subst (CanGoOn tomoyo_grammar) (sym own) (own-turns-can scene h.list h.can)
+
+-- one turn more, after others
+own-append : (desk : Bool) (player : Player) (list : List Turn) (who : Turn) → own_turns tomoyo_grammar desk player (list ++ who ∷ []) ≡ own_turn tomoyo_grammar desk (own_turns tomoyo_grammar desk player list) who
+unfolding own_turns
+own-append desk player [] who = refl
+own-append desk player (first ∷ rest) who = own-append desk (own_turn tomoyo_grammar desk player first) rest who
+
+-- where it has had its event, or had none
+own-turn-is : (desk : Bool) (player next : Player) (who : Turn) (moved : Bool) → Answers moved (player_event tomoyo_grammar player desk who) next player → next ≡ own_turn tomoyo_grammar desk player who
+unfolding own_turn
+own-turn-is desk player next who true had = rw had refl
+own-turn-is desk player next who false had = rw had.0 had.1
+
+led-on : (trace : Trace) (book : Book) (course later : Course) (player next : Player) (who : Turn) (moved : Bool) → later.start ≡ course.start → Answers moved (player_event tomoyo_grammar player course.start.desk who) next player
+    → IsLed trace book course player → IsLed trace book later next
+led-on trace book course later player next who moved same had h =
+    let scene : Start → Scene = λ start. scene_of start trace book in
+    let own : next ≡ own_turns tomoyo_grammar course.start.desk (start_of (scene course.start)) (h.list ++ who ∷ []) =
+    own-turn-is course.start.desk player next who moved had ∙ ap (λ p. own_turn tomoyo_grammar course.start.desk p who) h.led
+    ∙ sym (own-append course.start.desk (start_of (scene course.start)) h.list who) in
+    record {
+      trees = h.trees ∙ ap (λ (start : Start). start.trees) (sym same);
+      can = subst (λ (start : Start). CanPlay (scene start)) (sym same) h.can;
+      list = h.list ++ who ∷ [];
+      led = own ∙ ap (λ (start : Start). own_turns tomoyo_grammar start.desk (start_of (scene start)) (h.list ++ who ∷ [])) (sym same);
+    }
+
+-- further turns of its own lead to what is led to by such turns
+pub stays-led : {E : Type 0} (course later : Course) (player next : Player) (who : Turn) (r : Result Bool E) → OnOk r (later.start ≡ course.start) → IfOk r (λ moved. Answers moved (player_event tomoyo_grammar player course.start.desk who) next player)
+    → OnOk r ((trace : Trace) (book : Book) → IsLed trace book course player → IsLed trace book later next)
+stays-led course later player next who (Ok moved) same had = λ trace book h. led-on trace book course later player next who moved same had h
+stays-led course later player next who (Err fault) same had = tt
 
 -- Trees
 

@@ -23,13 +23,16 @@ player_of player = at_course player.machine (map way_of player.trees.items) play
 
 -- a tree at its beginning
 abbrev pub way_at_start : Policy → Tree → Way
-way_at_start policy tree = record { at = at_start policy tree; items = tree.records; begun = None; takes = [] }
+way_at_start policy tree =
+    record { at = at_start policy tree; items = tree.records; begun = None; takes = [] }
 
 -- the serial is that of the first query that is held
 abbrev pub first_is : Queries → ℕ → Bool
-first_is queries serial = option_map_or (λ query. query.serial == serial) (first_query queries) false
+first_is queries serial =
+    option_map_or (λ query. query.serial == serial) (first_query queries) false
 
 -- the event of a turn of the supervisor
 abbrev pub supervisor_event : Player → Bool → Turn → Option Player
 supervisor_event player desk turn =
-    option_and_then (λ step. option_map (λ (s : Settled). s.player) (settle tomoyo_grammar player step)) (supervisor_step tomoyo_grammar player desk turn)
+    option_and_then (λ step. option_map (λ (s : Settled). s.player)
+    (settle tomoyo_grammar player step)) (supervisor_step tomoyo_grammar player desk turn)

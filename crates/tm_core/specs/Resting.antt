@@ -1,4 +1,5 @@
--- Trees that rest in the default order: no turn of theirs has an event until the supervisor has moved.
+-- Trees that rest in the default order: no turn of theirs has an event until the supervisor has
+-- moved.
 use Rattle.std.specs.Prelude.{◌≡◌, ◌<◌, ◌≤◌, ℕ, Bool, true, false, ◌&&◌, ◌==◌, nat_lt, nat_le, is_none, if◌then◌else◌, Option, Some, None}
 use Rattle.std.specs.Option.{option_and_then, option_map_or}
 use Rattle.std.specs.Ordering.{nat_cmp}
@@ -17,8 +18,10 @@ use Rattle.tm_core.specs.declared.awake.Awake.{Awake}
 abbrev pub awaited_by : Player → ℕ → Option ℕ
 awaited_by player number = option_and_then awaited (numbered player.ways number)
 
--- the tree of this number can't move, and is found by the serial of the query whose answer it waits for
-pub record Rests (g : Grammar) (desk : Bool) (player : Player) (tree_of : ℕ → Option ℕ) (number : ℕ) : Type 0 where
+-- the tree of this number can't move, and is found by the serial of the query whose answer it waits
+-- for
+pub record Rests (g : Grammar) (desk : Bool) (player : Player) (tree_of : ℕ → Option ℕ)
+    (number : ℕ) : Type 0 where
   pub still : tree_event g player desk number ≡ None
   pub found : (serial : ℕ) → awaited_by player number ≡ Some serial → tree_of serial ≡ Some number
 
@@ -51,11 +54,15 @@ may_lie awake (Some serial) = is_none (tree_of awake serial)
 
 -- it lies down where it may, and is found by its serial from then on
 pub record LiesDown (number : ℕ) (serial : Option ℕ) (old new : Awake) : Type 0 where
-  pub awake : (t : ℕ) → is_awake new t ≡ (if may_lie old serial && number == t then false else is_awake old t)
-  pub found : (k : ℕ) → tree_of new k ≡ (if may_lie old serial && option_map_or (λ own. own == k) serial false then Some number else tree_of old k)
+  pub awake : (t : ℕ)
+      → is_awake new t ≡ (if may_lie old serial && number == t then false else is_awake old t)
+  pub found : (k : ℕ) → tree_of new k ≡ (if may_lie old serial
+      && option_map_or (λ own. own == k) serial false then Some number else tree_of old k)
 
--- each tree rests but for those that are awake; those and the trees that are found are trees of the play
+-- each tree rests but for those that are awake; those and the trees that are found are trees of the
+-- play
 pub record OthersRest (start : Start) (player : Player) (awake : Awake) : Type 0 where
-  pub rest : (t : ℕ) → 0 < t → t ≤ start.trees → is_awake awake t ≡ false → Rests tomoyo_grammar start.desk player (tree_of awake) t
+  pub rest : (t : ℕ) → 0 < t → t ≤ start.trees → is_awake awake t ≡ false
+      → Rests tomoyo_grammar start.desk player (tree_of awake) t
   pub awake_there : (t : ℕ) → is_awake awake t ≡ true → (0 < t) × (t ≤ start.trees)
   pub found_there : (serial t : ℕ) → tree_of awake serial ≡ Some t → (0 < t) × (t ≤ start.trees)

@@ -9,8 +9,9 @@ use std::collections::{BTreeMap, BTreeSet};
 use tm_list::NoMemory;
 use tm_types::step::Turn;
 
-/// The numbers of the trees that may move, in order, and the tree that waits for the answer of each query, by its serial. A serial stays
-/// with its tree when the answer is there: no other query has it.
+/// The numbers of the trees that may move, in order, and the tree that waits for the answer of each
+/// query, by its serial. A serial stays with its tree when the answer is there: no other query has
+/// it.
 #[derive(Drop)]
 pub(crate) struct Awake {
     trees: BTreeSet<u32>,
@@ -45,7 +46,8 @@ impl Awake {
 
     // Every one of so many trees may move again.
     fn wake_all(&mut self, trees: u32) -> Result<(), NoMemory>
-        ensures awake { OnOk result ((t : ℕ) → is_awake self.new t ≡ (is_awake self.old t || is_tree trees t)) }
+        ensures awake { OnOk result
+            ((t : ℕ) → is_awake self.new t ≡ (is_awake self.old t || is_tree trees t)) }
         ensures waiting { OnOk result (self.new.waiting ≡ self.old.waiting) }
     {
         for place in 0..trees {
@@ -56,7 +58,8 @@ impl Awake {
 
     // The tree that waits for the answer of this query may move again.
     fn wake_for(&mut self, serial: u64) -> Result<(), NoMemory>
-        ensures awake { OnOk result ((t : ℕ) → is_awake self.new t ≡ (is_awake self.old t || is_found self.old serial t)) }
+        ensures awake { OnOk result
+            ((t : ℕ) → is_awake self.new t ≡ (is_awake self.old t || is_found self.old serial t)) }
         ensures waiting { OnOk result (self.new.waiting ≡ self.old.waiting) }
     {
         if let Some(number) = self.waiting.get(&serial) {
@@ -65,10 +68,11 @@ impl Awake {
         Ok(())
     }
 
-    /// After this turn of the supervisor the tree that has waited for its answer may move again; so may each of so many trees where it
-    /// has left.
+    /// After this turn of the supervisor the tree that has waited for its answer may move again; so
+    /// may each of so many trees where it has left.
     pub(crate) fn wake_after(&mut self, turn: Turn, trees: u32) -> Result<(), NoMemory>
-        ensures awake { OnOk result ((t : ℕ) → is_awake self.new t ≡ (is_awake self.old t || wakes turn trees self.old t)) }
+        ensures awake { OnOk result ((t : ℕ) → is_awake self.new t
+            ≡ (is_awake self.old t || wakes turn trees self.old t)) }
         ensures waiting { OnOk result (self.new.waiting ≡ self.old.waiting) }
     {
         match turn {
@@ -84,7 +88,9 @@ impl Awake {
     // The tree of this number is found by this serial from now on; false where another one is.
     fn note(&mut self, serial: u64, number: u32) -> Result<bool, NoMemory>
         ensures noted { IfOk result (λ noted. noted ≡ is_none (tree_of self.old serial)) }
-        ensures found { OnOk result ((k : ℕ) → tree_of self.new k ≡ (if is_none (tree_of self.old serial) && serial == k then Some number else tree_of self.old k)) }
+        ensures found { OnOk result ((k : ℕ) → tree_of self.new k
+            ≡ (if is_none
+            (tree_of self.old serial) && serial == k then Some number else tree_of self.old k)) }
         ensures trees { OnOk result (self.new.trees ≡ self.old.trees) }
     {
         if self.waiting.contains_key(&serial) {
@@ -94,8 +100,8 @@ impl Awake {
         Ok(true)
     }
 
-    /// The tree of this number can't move until the query of this serial has an answer, or ever where there is none: it gets no turn
-    /// until it is woken.
+    /// The tree of this number can't move until the query of this serial has an answer, or ever
+    /// where there is none: it gets no turn until it is woken.
     pub(crate) fn lay_down(&mut self, number: u32, serial: Option<u64>) -> Result<(), NoMemory>
         ensures { OnOk result (LiesDown number serial self.old self.new) }
     {

@@ -7,7 +7,7 @@ ghost use Rattle.tm_core.specs.Players.{player_of};
 
 use crate::player::Player;
 use tm_desk::Desk;
-use tm_policy::Rep;
+use tm_rep::Rep;
 use tm_types::step::{Query, Turn};
 
 // Whether the supervisor has given as many answers as its book wants.
@@ -20,9 +20,10 @@ fn is_reached(stop: Option<u64>, answers: u64) -> bool
     }
 }
 
-/// The turn that the supervisor takes next, by its desk: it comes first; then it leaves where its book's number of answers is reached;
-/// then it answers the held query with the least serial by its book; then it leaves where all trees have ended. None where there is
-/// none of these. Takes no memory.
+/// The turn that the supervisor takes next, by its desk: it comes first; then it leaves where its
+/// book's number of answers is reached; then it answers the held query with the least serial by its
+/// book; then it leaves where all trees have ended. None where there is none of these. Takes no
+/// memory.
 #[tactic(auto, unfolding(tm_legal::specs::Play::desk_turn, crate::specs::Players::player_of, crate::specs::Players::course_of))]
 pub fn desk_turn<R: Rep, F: Fn(&Query) -> u64>(
     player: &Player<R>,

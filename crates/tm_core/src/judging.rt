@@ -1,30 +1,61 @@
 //! One look: the verdict on a request and its audit text.
 ghost use Rattle.std.specs.Prelude.{◌≡◌, true, Some, IsSome, IfOk};
+ghost use Rattle.tm_change_domains.specs.Standing.{StandsIn};
 ghost use Rattle.tm_rules.specs.Requests.{is_request};
 ghost use Rattle.tm_grammar.specs.Tomoyo.{tomoyo_grammar};
-ghost use Rattle.tm_legal.specs.Verdict.{verdict};
 ghost use Rattle.tm_legal.specs.Play.{IsNamed};
-ghost use Rattle.tm_core.specs.Judging.{judged};
+ghost use Rattle.tm_core.specs.Judging.{judged, verdict_at};
 
 use std::alloc::Global;
-use tm_audit::audit_text;
+use tm_audit::audit_in;
+use tm_change_domains::{Standing, standing_at};
 use tm_list::NoMemory;
 use tm_machine::Machine;
-use tm_policy::Rep;
+use tm_rep::Rep;
 use tm_types::request::{Proc, Request};
 use tm_types::verdict::Verdict;
-use tm_verdict::verdict_of;
+use tm_verdict::{verdict_in, verdict_of};
 use tm_word::Text;
 
-/// What a look shows: the verdict, and the audit text that is written of it if the take ends with this look.
+/// What a look shows: the verdict, and the audit text that is written of it if the take ends with
+/// this look.
 #[derive(Drop)]
 pub struct Judged {
     pub verdict: Verdict,
     pub audit: Option<Text>,
 }
 
-/// Judges a request of a process in the domain of this number at the machine's newest version, with its audit text. None where the
-/// domain or its profile isn't there.
+// Judges a request of a process where the look's standing is known.
+fn judge_in<R: Rep>(
+    alloc: Global,
+    machine: &Machine<R>,
+    standing: &Standing<'_>,
+    process: &Proc,
+    request: &Request,
+) -> Result<Option<Judged>, NoMemory>
+    requires named { IsNamed tomoyo_grammar.is_path machine.now.state.policy }
+    requires standing { StandsIn machine.now.state.policy standing.now }
+    requires asked { is_request tomoyo_grammar.is_path request.now ≡ true }
+    ensures { IfOk result (λ found. found
+        ≡ judged machine.now.state standing.now.number process.now request.now) }
+{
+    let attached = machine.attached();
+    match verdict_in(alloc, machine.rep(), attached, standing, process, request) {
+        Ok(Some(verdict)) => match audit_in(alloc, standing, process, request, &verdict) {
+            Ok(audit) => Ok(Some(Judged { verdict, audit })),
+            Err(fault) => {
+                drop(verdict);
+                Err(fault)
+            }
+        },
+        Ok(None) => Ok(None),
+        Err(fault) => Err(fault),
+    }
+}
+
+/// Judges a request of a process in the domain of this number at the machine's newest version, with
+/// its audit text. None where the domain or its profile isn't there.
+#[tactic(auto, using(tm_verdict::proofs::VerdictLaws::nowhere))]
 pub fn judge<R: Rep>(
     alloc: Global,
     machine: &Machine<R>,
@@ -34,26 +65,17 @@ pub fn judge<R: Rep>(
 ) -> Result<Option<Judged>, NoMemory>
     requires named { IsNamed tomoyo_grammar.is_path machine.now.state.policy }
     requires asked { is_request tomoyo_grammar.is_path request.now ≡ true }
-    ensures { IfOk result (λ found. found ≡ judged machine.now.state domain process.now request.now) }
+    ensures { IfOk result
+        (λ found. found ≡ judged machine.now.state domain process.now request.now) }
 {
-    let attached = machine.attached();
-    match verdict_of(alloc, machine.rep(), attached, domain, process, request) {
-        Ok(Some(verdict)) => {
-            match audit_text(alloc, machine.policy(), domain, process, request, &verdict) {
-                Ok(audit) => Ok(Some(Judged { verdict, audit })),
-                Err(fault) => {
-                    drop(verdict);
-                    Err(fault)
-                }
-            }
-        }
-        Ok(None) => Ok(None),
-        Err(fault) => Err(fault),
+    match standing_at(machine.policy(), domain) {
+        Some(standing) => judge_in(alloc, machine, &standing, process, request),
+        None => Ok(None),
     }
 }
 
-/// The verdict on a request of this process in the domain of this number, at the machine's newest version. The domain and its profile
-/// are there.
+/// The verdict on a request of this process in the domain of this number, at the machine's newest
+/// version. The domain and its profile are there.
 pub fn verdict<R: Rep>(
     alloc: Global,
     machine: &Machine<R>,
@@ -63,8 +85,9 @@ pub fn verdict<R: Rep>(
 ) -> Result<Verdict, NoMemory>
     requires named { IsNamed tomoyo_grammar.is_path machine.now.state.policy }
     requires asked { is_request tomoyo_grammar.is_path request.now ≡ true }
-    requires there { IsSome (verdict tomoyo_grammar.is_path machine.now.state.policy machine.now.state.queries.attached domain process.now request.now) }
-    ensures { IfOk result (λ v. verdict tomoyo_grammar.is_path machine.now.state.policy machine.now.state.queries.attached domain process.now request.now ≡ Some v) }
+    requires there { IsSome (verdict_at machine.now.state domain process.now request.now) }
+    ensures { IfOk result
+        (λ v. verdict_at machine.now.state domain process.now request.now ≡ Some v) }
 {
     let attached = machine.attached();
     match verdict_of(alloc, machine.rep(), attached, domain, process, request)? {

@@ -1,17 +1,16 @@
 //! A look of a tree: the take that it begins.
-ghost use Rattle.std.specs.Prelude.{◌≡◌, ◌++◌, ◌∷◌, true, suc, IsSome, Some, [], IfOk, OnOk};
+ghost use Rattle.std.specs.Prelude.{◌≡◌, true, IsSome, IfOk, OnOk};
 ghost use Rattle.tm_rules.specs.Requests.{is_request};
 ghost use Rattle.tm_grammar.specs.Tomoyo.{tomoyo_grammar};
-ghost use Rattle.tm_legal.specs.Play.{InProgress, IsNamed, going_on};
-ghost use Rattle.tm_take.specs.Situations.{situation_of};
+ghost use Rattle.tm_legal.specs.Play.{IsNamed};
 ghost use Rattle.tm_take.specs.Ways.{way_of};
-ghost use Rattle.tm_core.specs.Judging.{looked};
+ghost use Rattle.tm_core.specs.Judging.{begun_by, first_looked, looked_again, GoesOn};
 
 use crate::judging::{Judged, judge};
 use std::alloc::Global;
 use tm_list::NoMemory;
 use tm_machine::Machine;
-use tm_policy::Rep;
+use tm_rep::Rep;
 use tm_take::{PendingLook, RequestInProgress, TreeOnWay, begin};
 use tm_types::request::Request;
 
@@ -23,7 +22,7 @@ fn look<R: Rep>(
 ) -> Result<Option<RequestInProgress>, NoMemory>
     requires named { IsNamed tomoyo_grammar.is_path machine.now.state.policy }
     requires asked { is_request tomoyo_grammar.is_path pending.request ≡ true }
-    ensures { IfOk result (λ begun. begun ≡ looked machine.now (situation_of pending.now) pending.request pending.retry pending.looked) }
+    ensures { IfOk result (λ begun. begun ≡ begun_by machine.now pending) }
 {
     let Some(domain) = pending.now.domain else {
         drop(pending);
@@ -60,9 +59,9 @@ fn look_and_go<R: Rep>(
 ) -> Result<(), NoMemory>
     requires named { IsNamed tomoyo_grammar.is_path machine.now.state.policy }
     requires asked { is_request tomoyo_grammar.is_path pending.request ≡ true }
-    requires there { IsSome (looked machine.now (situation_of pending.now) pending.request pending.retry pending.looked) }
-    ensures { OnOk result ((b : InProgress) → looked machine.now (situation_of pending.now) pending.request pending.retry pending.looked ≡ Some b →
-        way_of tree.new ≡ going_on tomoyo_grammar (way_of tree.old) b) }
+    requires there { IsSome (begun_by machine.now pending) }
+    ensures { OnOk result
+        (GoesOn (begun_by machine.now pending) (way_of tree.old) (way_of tree.new)) }
 {
     match look(alloc, machine, pending)? {
         Some(begun) => tree.go_on(begun),
@@ -80,9 +79,10 @@ pub(crate) fn first_look<R: Rep>(
 ) -> Result<(), NoMemory>
     requires named { IsNamed tomoyo_grammar.is_path machine.now.state.policy }
     requires asked { is_request tomoyo_grammar.is_path request ≡ true }
-    requires there { IsSome (looked machine.now ((way_of tree.old).at pid) request 0 []) }
-    ensures { OnOk result ((b : InProgress) → looked machine.now ((way_of tree.old).at pid) request 0 [] ≡ Some b →
-        way_of tree.new ≡ going_on tomoyo_grammar (way_of tree.old) b) }
+    requires there { IsSome (first_looked machine.now ((way_of tree.old).at pid) request) }
+    ensures { OnOk result (GoesOn
+        (first_looked machine.now ((way_of tree.old).at pid) request)
+        (way_of tree.old) (way_of tree.new)) }
 {
     let now = tree.at(pid);
     look_and_go(
@@ -102,9 +102,9 @@ pub(crate) fn look_again<R: Rep>(
 ) -> Result<(), NoMemory>
     requires named { IsNamed tomoyo_grammar.is_path machine.now.state.policy }
     requires asked { is_request tomoyo_grammar.is_path attempt.request ≡ true }
-    requires there { IsSome (looked machine.now attempt.now attempt.request (suc attempt.retry) (attempt.looked ++ attempt.look ∷ [])) }
-    ensures { OnOk result ((b : InProgress) → looked machine.now attempt.now attempt.request (suc attempt.retry) (attempt.looked ++ attempt.look ∷ []) ≡ Some b →
-        way_of tree.new ≡ going_on tomoyo_grammar (way_of tree.old) b) }
+    requires there { IsSome (looked_again machine.now attempt) }
+    ensures { OnOk result
+        (GoesOn (looked_again machine.now attempt) (way_of tree.old) (way_of tree.new)) }
 {
     let pending = attempt.again()?;
     look_and_go(alloc, machine, tree, pending)

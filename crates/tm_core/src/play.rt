@@ -1,15 +1,12 @@
 //! A play from its first turn to its end, and what it leaves.
 ghost use Rattle.std.specs.Prelude.{◌≡◌, ◌++◌, IfOk, OnOk, flat_map, length, map};
 ghost use Rattle.tm_rules.specs.Few.{IsFew};
-ghost use Rattle.tm_rules.specs.Words.{Trace};
 ghost use Rattle.tm_desk.specs.Desks.{desk_book, IsDesk};
 ghost use Rattle.tm_types.specs.declared.step.Take.{Take};
-ghost use Rattle.tm_legal.specs.Legal.{Legal, final_policy};
-ghost use Rattle.tm_legal.specs.Play.{Way, CanPlay, start_of, run_of, turns, Plays};
+ghost use Rattle.tm_legal.specs.Play.{Way, run_of};
 ghost use Rattle.tm_take.specs.Ways.{way_of};
-ghost use Rattle.tm_core.specs.Scenes.{scene_of, IsReached};
-ghost use Rattle.tm_core.specs.Rounds.{IsOver};
 ghost use Rattle.tm_core.specs.Players.{course_of, player_of};
+ghost use Rattle.tm_core.specs.Playing.{SameStart, ReachedBy, PlayedOut, PlaysSchedule, PlaysLegally, EndsWithPolicy};
 
 use crate::player::Player;
 use crate::rounds::{editor_turns, play_rounds, play_turns};
@@ -17,13 +14,39 @@ use std::alloc::{AllocError, Global};
 use tm_desk::Desk;
 use tm_list::{NoMemory, Seq};
 use tm_machine::Machine;
-use tm_policy::Rep;
+use tm_rep::Rep;
 use tm_take::TreeOnWay;
 use tm_types::policy::Policy;
 use tm_types::step::{Query, Run, Start, Take, Turn};
 
-/// Plays the schedule, and then the default order, round and round, until nobody can move. The desk is asked where the machine was started
-/// for a supervisor.
+// The schedule, and then rounds until nobody can move.
+fn play_whole<R: Rep, F: Fn(&Query) -> u64>(
+    alloc: Global,
+    player: &mut Player<R>,
+    desk: &Desk<'_, F>,
+    schedule: &[Turn],
+) -> Result<(), NoMemory>
+    requires desk { IsDesk F.Fn desk.now }
+    requires reached { ReachedBy (desk_book desk.now) player.old }
+    ensures start { OnOk result (SameStart player.old player.new) }
+    ensures over { OnOk result
+        (PlayedOut (desk_book desk.now) schedule.now player.old player.new) }
+    ensures plays { OnOk result
+        (PlaysSchedule (desk_book desk.now) schedule.now player.old player.new) }
+    ensures legal { OnOk result (PlaysLegally (desk_book desk.now) player.old player.new) }
+    ensures ends { OnOk result (EndsWithPolicy (desk_book desk.now) player.old player.new) }
+{
+    let Ok(editors) = u32::try_from(player.machine().opening().editors.len()) else {
+        return Err(AllocError);
+    };
+    let editors = editor_turns(alloc, editors)?;
+    play_turns(alloc, player, desk, schedule)?;
+    play_rounds(alloc, player, desk, editors.as_slice())?;
+    Ok(())
+}
+
+/// Plays the schedule, and then the default order, round and round, until nobody can move. The desk
+/// is asked where the machine was started for a supervisor.
 ///
 /// Errors: want of memory.
 pub fn play_out<R: Rep, F: Fn(&Query) -> u64>(
@@ -33,28 +56,20 @@ pub fn play_out<R: Rep, F: Fn(&Query) -> u64>(
     schedule: &[Turn],
 ) -> Result<Player<R>, NoMemory>
     requires desk { IsDesk F.Fn desk.now }
-    requires reached { (trace : Trace) × IsReached trace (desk_book desk.now) (course_of player) (player_of player) }
-    ensures start { IfOk result (λ played. (course_of played).start ≡ (course_of player).start) }
-    ensures over { IfOk result (λ played. (trace : Trace) → IsReached trace (desk_book desk.now) (course_of player) (player_of player) →
-        IsOver (scene_of (course_of player).start trace (desk_book desk.now)) (turns (scene_of (course_of player).start trace (desk_book desk.now)) (player_of player) schedule.now) (player_of played)) }
-    ensures plays { IfOk result (λ played. (trace : Trace) → IsReached trace (desk_book desk.now) (course_of player) (player_of player) →
-        player_of player ≡ start_of (scene_of (course_of player).start trace (desk_book desk.now)) →
-        Plays (scene_of (course_of player).start trace (desk_book desk.now)) schedule.now (run_of (player_of played))) }
-    ensures legal { IfOk result (λ played. (trace : Trace) → IsReached trace (desk_book desk.now) (course_of player) (player_of player) →
-        player_of player ≡ start_of (scene_of (course_of player).start trace (desk_book desk.now)) →
-        Legal (scene_of (course_of player).start trace (desk_book desk.now)) (run_of (player_of played))) }
-    ensures ends { IfOk result (λ played. (trace : Trace) → IsReached trace (desk_book desk.now) (course_of player) (player_of player) →
-        player_of player ≡ start_of (scene_of (course_of player).start trace (desk_book desk.now)) →
-        final_policy (scene_of (course_of player).start trace (desk_book desk.now)) (run_of (player_of played)) ≡ (course_of played).state.policy) }
+    requires reached { ReachedBy (desk_book desk.now) player }
+    ensures start { IfOk result (SameStart player) }
+    ensures over { IfOk result (PlayedOut (desk_book desk.now) schedule.now player) }
+    ensures plays { IfOk result (PlaysSchedule (desk_book desk.now) schedule.now player) }
+    ensures legal { IfOk result (PlaysLegally (desk_book desk.now) player) }
+    ensures ends { IfOk result (EndsWithPolicy (desk_book desk.now) player) }
 {
-    let Ok(editors) = u32::try_from(player.machine().opening().editors.len()) else {
-        drop(player);
-        return Err(AllocError);
-    };
-    let editors = editor_turns(alloc, editors)?;
-    play_turns(alloc, &mut player, desk, schedule)?;
-    play_rounds(alloc, &mut player, desk, editors.as_slice())?;
-    Ok(player)
+    match play_whole(alloc, &mut player, desk, schedule) {
+        Ok(()) => Ok(player),
+        Err(fault) => {
+            drop(player);
+            Err(fault)
+        }
+    }
 }
 
 // Puts these takes last; the first ones are taken over as they are.
@@ -73,7 +88,8 @@ fn append(out: &mut Seq<Take>, takes: Seq<Take>) -> Result<(), NoMemory>
 
 // The takes of all trees, tree by tree.
 fn all_takes(alloc: Global, trees: Vec<TreeOnWay>) -> Result<Seq<Take>, NoMemory>
-    ensures { IfOk result (λ takes. takes ≡ flat_map (λ (way : Way). way.takes) (map way_of trees.items)) }
+    ensures { IfOk result
+        (λ takes. takes ≡ flat_map (λ (way : Way). way.takes) (map way_of trees.items)) }
 {
     let mut all = Seq::new(alloc);
     for tree in trees {
@@ -95,8 +111,9 @@ pub fn end_play<R: Rep>(alloc: Global, player: Player<R>) -> Result<(Run, Machin
     Ok((Run { steps, takes }, machine))
 }
 
-/// The run of a play that is over, its opening, and the policy at its last version. The machine is given up, so that the run has its steps
-/// without a copy, and what its policy was represented by is dropped.
+/// The run of a play that is over, its opening, and the policy at its last version. The machine is
+/// given up, so that the run has its steps without a copy, and what its policy was represented by
+/// is dropped.
 ///
 /// Errors: want of memory.
 pub fn into_run<R: Rep>(alloc: Global, player: Player<R>) -> Result<(Run, Start, Policy), NoMemory>

@@ -3,31 +3,32 @@ ghost use Rattle.std.specs.Prelude.{◌≡◌, List, [], length, IfOk, OnOk, map
 ghost use Rattle.tm_word.specs.Words.{Text};
 ghost use Rattle.tm_types.specs.declared.step.FileKind.{FileKind};
 ghost use Rattle.tm_types.specs.declared.step.Maker.{Maker};
-ghost use Rattle.tm_rules.specs.Words.{Trace};
 ghost use Rattle.tm_types.specs.declared.step.Book.{Book};
 ghost use Rattle.tm_grammar.specs.Tomoyo.{tomoyo_grammar};
 ghost use Rattle.tm_legal.specs.Steps.{opening};
 ghost use Rattle.tm_legal.specs.Needs.{CanGoOn};
-ghost use Rattle.tm_legal.specs.Play.{tree_event, editor_event, supervisor_step, player_event, start_of};
+ghost use Rattle.tm_legal.specs.Play.{tree_event, editor_event, supervisor_step, start_of};
 ghost use Rattle.tm_legal.specs.Play as play;
 ghost use Rattle.tm_take.specs.Ways.{way_of};
 ghost use Rattle.tm_types.specs.declared.step.Editor.{Editor};
-ghost use Rattle.tm_core.specs.Scenes.{scene_of, IsReached, Answers};
+ghost use Rattle.tm_core.specs.Scenes.{scene_of, Answers};
 ghost use Rattle.tm_core.specs.Resting.{awaited_by};
-ghost use Rattle.tm_core.specs.Moves.{at_course, AddsAtMost, IsMadeBy};
+ghost use Rattle.tm_core.specs.Moves.{at_course};
 ghost use Rattle.tm_core.specs.Players.{course_of, player_of, way_at_start, first_is, supervisor_event};
+ghost use Rattle.tm_core.specs.Playing.{SameStart, Led, StaysLed, OwnTurn, AddsStep, AddsStepOf};
 
 use crate::scripts::Script;
 use crate::trees::tree_event;
 use std::alloc::Global;
 use tm_list::NoMemory;
 use tm_machine::Machine;
-use tm_policy::Rep;
+use tm_rep::Rep;
 use tm_take::TreeOnWay;
 use tm_types::request::{Trace, Tree};
 use tm_types::step::{Editor, Made, Maker, Step, Turn};
 
-/// All activities of a play: the machine, each tree on its way, and the lines that each editor has left.
+/// All activities of a play: the machine, each tree on its way, and the lines that each editor has
+/// left.
 #[derive(Drop)]
 pub struct Player<R: Rep> {
     pub(crate) machine: Machine<R>,
@@ -35,7 +36,8 @@ pub struct Player<R: Rep> {
     pub(crate) scripts: Vec<Script>,
 }
 
-// A tree at its beginning: all its lines are left, and its processes stand in the live domain of its name.
+// A tree at its beginning: all its lines are left, and its processes stand in the live domain of
+// its name.
 fn begin_tree<R: Rep>(alloc: Global, machine: &Machine<R>, tree: Tree) -> TreeOnWay
     ensures { way_of result ≡ way_at_start machine.now.state.policy tree }
 {
@@ -49,7 +51,8 @@ fn begin_trees<R: Rep>(
     machine: &Machine<R>,
     trees: Vec<Tree>,
 ) -> Result<Vec<TreeOnWay>, NoMemory>
-    ensures { IfOk result (λ begun. map way_of begun.items ≡ map (way_at_start machine.now.state.policy) trees.items) }
+    ensures { IfOk result (λ begun. map way_of begun.items ≡ map
+        (way_at_start machine.now.state.policy) trees.items) }
 {
     let mut begun = Vec::new(alloc);
     for tree in trees {
@@ -60,7 +63,8 @@ fn begin_trees<R: Rep>(
 
 // The lines of every editor.
 fn begin_scripts(alloc: Global, editors: &[Editor]) -> Result<Vec<Script>, NoMemory>
-    ensures { IfOk result (λ scripts. scripts.items ≡ map (λ (editor : Editor). editor.lines) editors.now) }
+    ensures { IfOk result
+        (λ scripts. scripts.items ≡ map (λ (editor : Editor). editor.lines) editors.now) }
 {
     let mut scripts = Vec::new(alloc);
     for editor in editors {
@@ -69,8 +73,9 @@ fn begin_scripts(alloc: Global, editors: &[Editor]) -> Result<Vec<Script>, NoMem
     Ok(scripts)
 }
 
-/// Every activity at its beginning, of a machine at version 0 and of a trace with as many trees as the machine was started for: each tree
-/// stands in the live domain of its name, and each editor of the machine has all its lines left.
+/// Every activity at its beginning, of a machine at version 0 and of a trace with as many trees as
+/// the machine was started for: each tree stands in the live domain of its name, and each editor of
+/// the machine has all its lines left.
 ///
 /// Errors: want of memory.
 pub fn start_play<R: Rep>(
@@ -82,7 +87,8 @@ pub fn start_play<R: Rep>(
     requires opened { machine.state ≡ opening machine.start }
     requires trees { length trace ≡ machine.start.trees }
     ensures machine { IfOk result (λ player. course_of player ≡ machine) }
-    ensures starts { IfOk result (λ player. (book : Book) → player_of player ≡ start_of (scene_of machine.start trace book)) }
+    ensures starts { IfOk result (λ player. (book : Book) → player_of player
+        ≡ start_of (scene_of machine.start trace book)) }
 {
     let trees = begin_trees(alloc, &machine, trace.into_vec())?;
     let scripts = begin_scripts(alloc, machine.opening().editors.as_slice())?;
@@ -103,7 +109,8 @@ impl<R: Rep> Player<R> {
     }
 }
 
-/// The serial of the query whose answer the tree of this number, from 1, waits for; None where it waits for none.
+/// The serial of the query whose answer the tree of this number, from 1, waits for; None where it
+/// waits for none.
 #[tactic(auto, unfolding(crate::specs::Players::player_of))]
 pub(crate) fn awaited_by<R: Rep>(player: &Player<R>, number: u32) -> Option<u64>
     ensures { result ≡ awaited_by (player_of player.now) number }
@@ -117,12 +124,15 @@ pub(crate) fn awaited_by<R: Rep>(player: &Player<R>, number: u32) -> Option<u64>
     }
 }
 
-// One event of the tree of this number, from 1: true, or false with nothing changed where it can't move.
+// One event of the tree of this number, from 1: true, or false with nothing changed where it can't
+// move.
 fn step_tree<R: Rep>(alloc: Global, player: &mut Player<R>, number: u32) -> Result<bool, NoMemory>
     requires { CanGoOn tomoyo_grammar (player_of player.old) }
-    ensures event { IfOk result (λ moved. Answers moved (tree_event tomoyo_grammar (player_of player.old) (course_of player.old).start.desk number) (player_of player.new) (player_of player.old)) }
-    ensures start { OnOk result ((course_of player.new).start ≡ (course_of player.old).start) }
-    ensures makers { OnOk result (AddsAtMost (IsMadeBy (Turn.Tree number) (player_of player.old)) (course_of player.old) (course_of player.new)) }
+    ensures event { IfOk result (λ moved. Answers moved
+        (tree_event tomoyo_grammar (player_of player.old) (course_of player.old).start.desk number)
+        (player_of player.new) (player_of player.old)) }
+    ensures start { OnOk result (SameStart player.old player.new) }
+    ensures makers { OnOk result (AddsStepOf (Turn.Tree number) player.old player.new) }
 {
     if number == 0 {
         return Ok(false);
@@ -136,12 +146,15 @@ fn step_tree<R: Rep>(alloc: Global, player: &mut Player<R>, number: u32) -> Resu
     tree_event(alloc, &mut player.machine, tree, number, desk)
 }
 
-// The next line of the editor of this number, from 1, is done: true, or false with nothing changed where it has none left.
+// The next line of the editor of this number, from 1, is done: true, or false with nothing changed
+// where it has none left.
 fn step_editor<R: Rep>(alloc: Global, player: &mut Player<R>, number: u32) -> Result<bool, NoMemory>
     requires { CanGoOn tomoyo_grammar (player_of player.old) }
-    ensures event { IfOk result (λ moved. Answers moved (editor_event tomoyo_grammar (player_of player.old) number) (player_of player.new) (player_of player.old)) }
-    ensures start { OnOk result ((course_of player.new).start ≡ (course_of player.old).start) }
-    ensures makers { OnOk result (AddsAtMost (IsMadeBy (Turn.Editor number) (player_of player.old)) (course_of player.old) (course_of player.new)) }
+    ensures event { IfOk result (λ moved. Answers moved
+        (editor_event tomoyo_grammar (player_of player.old) number)
+        (player_of player.new) (player_of player.old)) }
+    ensures start { OnOk result (SameStart player.old player.new) }
+    ensures makers { OnOk result (AddsStepOf (Turn.Editor number) player.old player.new) }
 {
     if number == 0 {
         return Ok(false);
@@ -177,7 +190,9 @@ fn is_first<R: Rep>(machine: &Machine<R>, serial: u64) -> bool
 // The step that a turn of the supervisor makes; None where it can't be its turn.
 #[tactic(auto, unfolding(tm_legal::specs::Play::supervisor_step))]
 fn supervisor_step<R: Rep>(machine: &Machine<R>, turn: Turn) -> Option<Step>
-    ensures { (ways : List play.Way) (scripts : List (List (FileKind × Text))) → result ≡ supervisor_step tomoyo_grammar (at_course machine.now ways scripts) machine.now.start.desk turn }
+    ensures { (ways : List play.Way) (scripts : List (List (FileKind × Text))) → result
+        ≡ supervisor_step tomoyo_grammar (at_course machine.now ways scripts)
+        machine.now.start.desk turn }
 {
     match turn {
         Turn::Attach => {
@@ -201,21 +216,23 @@ fn supervisor_step<R: Rep>(machine: &Machine<R>, turn: Turn) -> Option<Step>
                 None
             }
         }
-        Turn::Tree(_) => None,
-        Turn::Editor(_) => None,
-        Turn::Desk => None,
+        _ => None,
     }
 }
 
-// The step of a turn of the supervisor: true, or false with nothing changed where it can't be its turn.
+// The step of a turn of the supervisor: true, or false with nothing changed where it can't be its
+// turn.
 fn step_supervisor<R: Rep>(
     alloc: Global,
     player: &mut Player<R>,
     turn: Turn,
 ) -> Result<bool, NoMemory>
-    ensures event { IfOk result (λ moved. Answers moved (supervisor_event (player_of player.old) (course_of player.old).start.desk turn) (player_of player.new) (player_of player.old)) }
-    ensures start { OnOk result ((course_of player.new).start ≡ (course_of player.old).start) }
-    ensures makers { OnOk result (AddsAtMost (λ made. made.maker ≡ Maker.Desk) (course_of player.old) (course_of player.new)) }
+    ensures event { IfOk result (λ moved. Answers moved
+        (supervisor_event (player_of player.old) (course_of player.old).start.desk turn)
+        (player_of player.new) (player_of player.old)) }
+    ensures start { OnOk result (SameStart player.old player.new) }
+    ensures makers { OnOk result
+        (AddsStep (λ made. made.maker ≡ Maker.Desk) player.old player.new) }
 {
     match supervisor_step(&player.machine, turn) {
         Some(step) => {
@@ -230,21 +247,16 @@ fn step_supervisor<R: Rep>(
     }
 }
 
-/// One event of the activity whose turn it is: true, or false with nothing changed where it can't move now. A tree's event is its next
-/// look, its next own step, the taking of its answer, or its end; an editor's is its next line; the supervisor's are `Attach`, an `Answer`
-/// to the held query with the least serial, and `Detach`. A turn `Desk` is none of the player's, and answers false. Each step is noted
-/// with its maker.
-///
-/// Errors: want of memory; the player isn't used again.
-pub fn step_alone<R: Rep>(
+/// One event of the activity whose turn it is, of a player that can go on, as `step_alone` has it.
+pub(crate) fn step<R: Rep>(
     alloc: Global,
     player: &mut Player<R>,
     turn: Turn,
 ) -> Result<bool, NoMemory>
-    requires { (trace : Trace) × (book : Book) × IsReached trace book (course_of player.old) (player_of player.old) }
-    ensures event { IfOk result (λ moved. Answers moved (player_event tomoyo_grammar (player_of player.old) (course_of player.old).start.desk turn) (player_of player.new) (player_of player.old)) }
-    ensures start { OnOk result ((course_of player.new).start ≡ (course_of player.old).start) }
-    ensures makers { OnOk result (AddsAtMost (IsMadeBy turn (player_of player.old)) (course_of player.old) (course_of player.new)) }
+    requires { CanGoOn tomoyo_grammar (player_of player.old) }
+    ensures event { IfOk result (λ moved. OwnTurn turn moved player.old player.new) }
+    ensures start { OnOk result (SameStart player.old player.new) }
+    ensures makers { OnOk result (AddsStepOf turn player.old player.new) }
 {
     match turn {
         Turn::Tree(number) => step_tree(alloc, player, number),
@@ -254,4 +266,25 @@ pub fn step_alone<R: Rep>(
         Turn::Answer(serial, code) => step_supervisor(alloc, player, Turn::Answer(serial, code)),
         Turn::Detach => step_supervisor(alloc, player, Turn::Detach),
     }
+}
+
+/// One event of the activity whose turn it is: true, or false with nothing changed where it can't
+/// move now. A tree's event is its next look, its next own step, the taking of its answer, or its
+/// end; an editor's is its next line; the supervisor's are `Attach`, an `Answer` to the held query
+/// with the least serial, and `Detach`, whether a book would have them or not. A turn `Desk` is
+/// none of the player's, and answers false. Each step is noted with its maker.
+///
+/// Errors: want of memory; the player isn't used again.
+pub fn step_alone<R: Rep>(
+    alloc: Global,
+    player: &mut Player<R>,
+    turn: Turn,
+) -> Result<bool, NoMemory>
+    requires { Led player.old }
+    ensures event { IfOk result (λ moved. OwnTurn turn moved player.old player.new) }
+    ensures led { OnOk result (StaysLed player.old player.new) }
+    ensures start { OnOk result (SameStart player.old player.new) }
+    ensures makers { OnOk result (AddsStepOf turn player.old player.new) }
+{
+    step(alloc, player, turn)
 }

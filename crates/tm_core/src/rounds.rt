@@ -1,37 +1,35 @@
 //! Turns one after another, and rounds of all activities until nobody can move.
-ghost use Rattle.std.specs.Prelude.{◌≡◌, ◌<◌, ◌≤◌, ◌++◌, ℕ, Some, is_some, length, IfOk, OnOk, IfSome, map};
-ghost use Rattle.tm_types.specs.declared.step.Book.{Book};
-ghost use Rattle.tm_rules.specs.Words.{Trace};
-ghost use Rattle.tm_grammar.specs.Tomoyo.{tomoyo_grammar};
+ghost use Rattle.std.specs.Prelude.{◌≡◌, ◌<◌, ◌≤◌, true, is_some, length, IfOk, OnOk, IfSome, map};
 ghost use Rattle.tm_desk.specs.Desks.{desk_book, IsDesk};
-ghost use Rattle.tm_legal.specs.Play.{event, player_event, numbers_to};
-ghost use Rattle.tm_core.specs.Scenes.{scene_of, IsReached, Answers};
-ghost use Rattle.tm_core.specs.Rounds.{HasPlayed, IsOver, one_round};
+ghost use Rattle.tm_legal.specs.Play.{numbers_to};
+ghost use Rattle.tm_core.specs.Rounds.{one_round};
 ghost use Rattle.tm_core.specs.Players.{course_of, player_of};
 ghost use Rattle.tm_core.specs.Resting.{OthersRest};
+ghost use Rattle.tm_core.specs.Playing.{SameStart, ReachedBy, ReachedSomehow, StaysReached, StaysReachedAnyhow, OwnTurn, ScheduledTurn, TreeTurn, TurnsPlayed, TurnsPlayedAnyhow, RoundsPlayed};
 
 use crate::awake::Awake;
 use crate::desk::desk_turn;
-use crate::player::{Player, awaited_by, step_alone};
+use crate::player::{Player, awaited_by, step};
 use std::alloc::Global;
 use tm_desk::Desk;
 use tm_list::NoMemory;
-use tm_policy::Rep;
+use tm_rep::Rep;
 use tm_types::step::{Query, Turn};
 
-// The supervisor's next turn, where one stands: the turn that it has had; None, and nothing changed, where it can't move.
+// The supervisor's next turn, where one stands: the turn that it has had; None, and nothing
+// changed, where it can't move.
 fn play_desk<R: Rep, F: Fn(&Query) -> u64>(
     alloc: Global,
     player: &mut Player<R>,
     desk: &Desk<'_, F>,
 ) -> Result<Option<Turn>, NoMemory>
     requires desk { IsDesk F.Fn desk.now }
-    requires reached { (trace : Trace) × IsReached trace (desk_book desk.now) (course_of player.old) (player_of player.old) }
-    ensures event { IfOk result (λ had. (trace : Trace) →
-        Answers (is_some had) (event (scene_of (course_of player.old).start trace (desk_book desk.now)) (player_of player.old) Turn.Desk) (player_of player.new) (player_of player.old)) }
-    ensures turn { IfOk result (λ had. IfSome had (λ turn.
-        player_event tomoyo_grammar (player_of player.old) (course_of player.old).start.desk turn ≡ Some (player_of player.new))) }
-    ensures start { OnOk result ((course_of player.new).start ≡ (course_of player.old).start) }
+    requires reached { ReachedBy (desk_book desk.now) player.old }
+    ensures event { IfOk result
+        (λ had. ScheduledTurn (desk_book desk.now) Turn.Desk (is_some had) player.old player.new) }
+    ensures turn { IfOk result
+        (λ had. IfSome had (λ turn. OwnTurn turn true player.old player.new)) }
+    ensures start { OnOk result (SameStart player.old player.new) }
 {
     if !player.machine().opening().desk {
         return Ok(None);
@@ -39,7 +37,7 @@ fn play_desk<R: Rep, F: Fn(&Query) -> u64>(
     let Some(turn) = desk_turn(player, desk) else {
         return Ok(None);
     };
-    if step_alone(alloc, player, turn)? {
+    if step(alloc, player, turn)? {
         Ok(Some(turn))
     } else {
         Ok(None)
@@ -54,14 +52,14 @@ fn play_turn<R: Rep, F: Fn(&Query) -> u64>(
     turn: Turn,
 ) -> Result<bool, NoMemory>
     requires desk { IsDesk F.Fn desk.now }
-    requires reached { (trace : Trace) × IsReached trace (desk_book desk.now) (course_of player.old) (player_of player.old) }
-    ensures event { IfOk result (λ moved. (trace : Trace) →
-        Answers moved (event (scene_of (course_of player.old).start trace (desk_book desk.now)) (player_of player.old) turn) (player_of player.new) (player_of player.old)) }
-    ensures start { OnOk result ((course_of player.new).start ≡ (course_of player.old).start) }
+    requires reached { ReachedBy (desk_book desk.now) player.old }
+    ensures event { IfOk result
+        (λ moved. ScheduledTurn (desk_book desk.now) turn moved player.old player.new) }
+    ensures start { OnOk result (SameStart player.old player.new) }
 {
     match turn {
-        Turn::Tree(_) => step_alone(alloc, player, turn),
-        Turn::Editor(_) => step_alone(alloc, player, turn),
+        Turn::Tree(_) => step(alloc, player, turn),
+        Turn::Editor(_) => step(alloc, player, turn),
         Turn::Desk => Ok(play_desk(alloc, player, desk)?.is_some()),
         Turn::Attach => Ok(false),
         Turn::Answer(_, _) => Ok(false),
@@ -69,7 +67,8 @@ fn play_turn<R: Rep, F: Fn(&Query) -> u64>(
     }
 }
 
-/// Some turns, one after another; an activity that can't move is passed over. Tells whether one of them had an event.
+/// Some turns, one after another; an activity that can't move is passed over. Tells whether one of
+/// them had an event.
 pub(crate) fn play_turns<R: Rep, F: Fn(&Query) -> u64>(
     alloc: Global,
     player: &mut Player<R>,
@@ -77,12 +76,11 @@ pub(crate) fn play_turns<R: Rep, F: Fn(&Query) -> u64>(
     turns: &[Turn],
 ) -> Result<bool, NoMemory>
     requires desk { IsDesk F.Fn desk.now }
-    requires reached { (trace : Trace) × IsReached trace (desk_book desk.now) (course_of player.old) (player_of player.old) }
-    ensures reached { OnOk result ((trace : Trace) → IsReached trace (desk_book desk.now) (course_of player.old) (player_of player.old) →
-        IsReached trace (desk_book desk.now) (course_of player.new) (player_of player.new)) }
-    ensures played { IfOk result (λ moved. (trace : Trace) → IsReached trace (desk_book desk.now) (course_of player.old) (player_of player.old) →
-        HasPlayed (scene_of (course_of player.old).start trace (desk_book desk.now)) (player_of player.old) (player_of player.new) turns.now moved) }
-    ensures start { OnOk result ((course_of player.new).start ≡ (course_of player.old).start) }
+    requires reached { ReachedBy (desk_book desk.now) player.old }
+    ensures reached { OnOk result (StaysReached (desk_book desk.now) player.old player.new) }
+    ensures played { IfOk result
+        (λ moved. TurnsPlayed (desk_book desk.now) turns.now moved player.old player.new) }
+    ensures start { OnOk result (SameStart player.old player.new) }
 {
     let mut moved = false;
     for turn in turns {
@@ -100,36 +98,38 @@ fn play_tree<R: Rep>(
     awake: &mut Awake,
     number: u32,
 ) -> Result<bool, NoMemory>
-    requires reached { (trace : Trace) × (book : Book) × IsReached trace book (course_of player.old) (player_of player.old) }
+    requires reached { ReachedSomehow player.old }
     requires some { 0 < number }
     requires there { number ≤ (course_of player.old).start.trees }
     requires rest { OthersRest (course_of player.old).start (player_of player.old) awake.old }
-    ensures event { IfOk result (λ moved. (trace : Trace) (book : Book) →
-        Answers moved (event (scene_of (course_of player.old).start trace book) (player_of player.old) (Turn.Tree number)) (player_of player.new) (player_of player.old)) }
-    ensures start { OnOk result ((course_of player.new).start ≡ (course_of player.old).start) }
-    ensures rest { OnOk result (OthersRest (course_of player.new).start (player_of player.new) awake.new) }
+    ensures event { IfOk result (λ moved. TreeTurn number moved player.old player.new) }
+    ensures start { OnOk result (SameStart player.old player.new) }
+    ensures rest { OnOk result
+        (OthersRest (course_of player.new).start (player_of player.new) awake.new) }
 {
-    if step_alone(alloc, player, Turn::Tree(number))? {
+    if step(alloc, player, Turn::Tree(number))? {
         return Ok(true);
     }
     awake.lay_down(number, awaited_by(player, number))?;
     Ok(false)
 }
 
-// The turns of all trees, by number: those that rest are passed over. Tells whether one of them had an event.
+// The turns of all trees, by number: those that rest are passed over. Tells whether one of them had
+// an event.
 fn play_trees<R: Rep>(
     alloc: Global,
     player: &mut Player<R>,
     awake: &mut Awake,
 ) -> Result<bool, NoMemory>
-    requires reached { (trace : Trace) × (book : Book) × IsReached trace book (course_of player.old) (player_of player.old) }
+    requires reached { ReachedSomehow player.old }
     requires rest { OthersRest (course_of player.old).start (player_of player.old) awake.old }
-    ensures reached { OnOk result ((trace : Trace) (book : Book) → IsReached trace book (course_of player.old) (player_of player.old) →
-        IsReached trace book (course_of player.new) (player_of player.new)) }
-    ensures played { IfOk result (λ moved. (trace : Trace) (book : Book) → IsReached trace book (course_of player.old) (player_of player.old) →
-        HasPlayed (scene_of (course_of player.old).start trace book) (player_of player.old) (player_of player.new) (map Turn.Tree (numbers_to (course_of player.old).start.trees)) moved) }
-    ensures start { OnOk result ((course_of player.new).start ≡ (course_of player.old).start) }
-    ensures rest { OnOk result (OthersRest (course_of player.new).start (player_of player.new) awake.new) }
+    ensures reached { OnOk result (StaysReachedAnyhow player.old player.new) }
+    ensures played { IfOk result (λ moved. TurnsPlayedAnyhow
+        (map Turn.Tree (numbers_to (course_of player.old).start.trees))
+        moved player.old player.new) }
+    ensures start { OnOk result (SameStart player.old player.new) }
+    ensures rest { OnOk result
+        (OthersRest (course_of player.new).start (player_of player.new) awake.new) }
 {
     let numbers = awake.numbers(alloc)?;
     let mut moved = false;
@@ -141,7 +141,8 @@ fn play_trees<R: Rep>(
     Ok(moved)
 }
 
-// One round of the default order: editors by number, trees by number, desk. Tells whether somebody had an event.
+// One round of the default order: editors by number, trees by number, desk. Tells whether somebody
+// had an event.
 fn play_round<R: Rep, F: Fn(&Query) -> u64>(
     alloc: Global,
     player: &mut Player<R>,
@@ -150,16 +151,17 @@ fn play_round<R: Rep, F: Fn(&Query) -> u64>(
     awake: &mut Awake,
 ) -> Result<bool, NoMemory>
     requires desk { IsDesk F.Fn desk.now }
-    requires reached { (trace : Trace) × IsReached trace (desk_book desk.now) (course_of player.old) (player_of player.old) }
-    requires editors { editors.now ≡ map Turn.Editor (numbers_to (length (course_of player.old).start.editors)) }
+    requires reached { ReachedBy (desk_book desk.now) player.old }
+    requires editors { editors.now
+        ≡ map Turn.Editor (numbers_to (length (course_of player.old).start.editors)) }
     requires rest { OthersRest (course_of player.old).start (player_of player.old) awake.old }
-    ensures reached { OnOk result ((trace : Trace) → IsReached trace (desk_book desk.now) (course_of player.old) (player_of player.old) →
-        IsReached trace (desk_book desk.now) (course_of player.new) (player_of player.new)) }
-    ensures played { IfOk result (λ moved. (trace : Trace) → IsReached trace (desk_book desk.now) (course_of player.old) (player_of player.old) →
-        HasPlayed (scene_of (course_of player.old).start trace (desk_book desk.now)) (player_of player.old) (player_of player.new)
-        (one_round (length (course_of player.old).start.editors) (course_of player.old).start.trees) moved) }
-    ensures start { OnOk result ((course_of player.new).start ≡ (course_of player.old).start) }
-    ensures rest { OnOk result (OthersRest (course_of player.new).start (player_of player.new) awake.new) }
+    ensures reached { OnOk result (StaysReached (desk_book desk.now) player.old player.new) }
+    ensures played { IfOk result (λ moved. TurnsPlayed (desk_book desk.now)
+        (one_round (length (course_of player.old).start.editors) (course_of player.old).start.trees)
+        moved player.old player.new) }
+    ensures start { OnOk result (SameStart player.old player.new) }
+    ensures rest { OnOk result
+        (OthersRest (course_of player.new).start (player_of player.new) awake.new) }
 {
     let edited = play_turns(alloc, player, desk, editors)?;
     let went = play_trees(alloc, player, awake)?;
@@ -172,7 +174,8 @@ fn play_round<R: Rep, F: Fn(&Query) -> u64>(
     }
 }
 
-/// Rounds of the default order, until nobody can move. A tree that can't move gets no turn until the supervisor wakes it.
+/// Rounds of the default order, until nobody can move. A tree that can't move gets no turn until
+/// the supervisor wakes it.
 pub(crate) fn play_rounds<R: Rep, F: Fn(&Query) -> u64>(
     alloc: Global,
     player: &mut Player<R>,
@@ -180,11 +183,11 @@ pub(crate) fn play_rounds<R: Rep, F: Fn(&Query) -> u64>(
     editors: &[Turn],
 ) -> Result<(), NoMemory>
     requires desk { IsDesk F.Fn desk.now }
-    requires reached { (trace : Trace) × IsReached trace (desk_book desk.now) (course_of player.old) (player_of player.old) }
-    requires editors { editors.now ≡ map Turn.Editor (numbers_to (length (course_of player.old).start.editors)) }
-    ensures over { OnOk result ((trace : Trace) → IsReached trace (desk_book desk.now) (course_of player.old) (player_of player.old) →
-        IsOver (scene_of (course_of player.old).start trace (desk_book desk.now)) (player_of player.old) (player_of player.new)) }
-    ensures start { OnOk result ((course_of player.new).start ≡ (course_of player.old).start) }
+    requires reached { ReachedBy (desk_book desk.now) player.old }
+    requires editors { editors.now
+        ≡ map Turn.Editor (numbers_to (length (course_of player.old).start.editors)) }
+    ensures over { OnOk result (RoundsPlayed (desk_book desk.now) player.old player.new) }
+    ensures start { OnOk result (SameStart player.old player.new) }
 {
     let mut awake = Awake::all(alloc, player.machine().opening().trees)?;
     loop {

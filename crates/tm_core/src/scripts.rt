@@ -37,7 +37,8 @@ impl Script {
 
     /// Takes the next line out; None where none is left.
     pub(crate) fn next(&mut self) -> Option<(FileKind, Text)>
-        ensures { MatchOption result ((self.old ≡ []) × (self.new ≡ [])) (λ line. self.old ≡ line ∷ self.new) }
+        ensures { MatchOption result ((self.old ≡ []) × (self.new ≡ []))
+            (λ line. self.old ≡ line ∷ self.new) }
     {
         self.lines.pop_front()
     }

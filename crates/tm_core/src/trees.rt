@@ -12,7 +12,7 @@ use crate::looks::{first_look, look_again};
 use std::alloc::Global;
 use tm_list::NoMemory;
 use tm_machine::Machine;
-use tm_policy::Rep;
+use tm_rep::Rep;
 use tm_take::{NextEvent, RequestInProgress, TreeOnWay};
 use tm_types::step::{Made, Maker, Step};
 
@@ -23,10 +23,12 @@ fn own_step<R: Rep>(
     tree: &mut TreeOnWay,
     attempt: RequestInProgress,
 ) -> Result<bool, NoMemory>
-    requires owes { (step : Step) × (rest : List Step) × (attempt.stage ≡ Stage.Owing (step ∷ rest)) }
+    requires owes { (step : Step) × (rest : List Step)
+        × (attempt.stage ≡ Stage.Owing (step ∷ rest)) }
     requires fits { StageFits tomoyo_grammar machine.old.state attempt attempt.stage }
     ensures moved { IfOk result (λ moved. moved ≡ true) }
-    ensures makes { OnOk result (MakesOwn machine.old attempt (way_of tree.old) machine.new (way_of tree.new)) }
+    ensures makes { OnOk result
+        (MakesOwn machine.old attempt (way_of tree.old) machine.new (way_of tree.new)) }
 {
     match attempt.next_owed() {
         Some((step, left)) => {
@@ -50,7 +52,8 @@ fn own_step<R: Rep>(
     }
 }
 
-// The taking of a query's answer, and the take goes on or ends; where there is no answer yet, the take waits on.
+// The taking of a query's answer, and the take goes on or ends; where there is no answer yet, the
+// take waits on.
 fn hear<R: Rep>(
     alloc: Global,
     machine: &Machine<R>,
@@ -58,7 +61,8 @@ fn hear<R: Rep>(
     attempt: RequestInProgress,
     serial: u64,
 ) -> Result<bool, NoMemory>
-    ensures { IfOk result (λ moved. Hears machine.now serial attempt (way_of tree.old) moved (way_of tree.new)) }
+    ensures { IfOk result
+        (λ moved. Hears machine.now serial attempt (way_of tree.old) moved (way_of tree.new)) }
 {
     match machine.answer_of(serial) {
         Some(answer) => {
@@ -116,8 +120,9 @@ fn take_event<R: Rep>(
     requires asked { is_request tomoyo_grammar.is_path attempt.request ≡ true }
     requires fits { StageFits tomoyo_grammar machine.old.state attempt attempt.stage }
     requires taken { (way_of tree.old).begun ≡ None }
-    ensures { IfOk result (λ moved. (desk : Bool) (t : ℕ) →
-        TreeMoves desk t moved machine.old (record (way_of tree.old) { begun = Some attempt }) machine.new (way_of tree.new)) }
+    ensures { IfOk result (λ moved. (desk : Bool) (t : ℕ) → TreeMoves desk t moved
+        machine.old (record (way_of tree.old) { begun = Some attempt })
+        machine.new (way_of tree.new)) }
 {
     match attempt.next_event() {
         NextEvent::OwnStep => own_step(alloc, machine, tree, attempt),
@@ -145,7 +150,8 @@ fn next_request<R: Rep>(
     requires there { number ≤ machine.old.state.trees }
     requires needs { Needs tomoyo_grammar machine.old.state (way_of tree.old) }
     requires idle { (way_of tree.old).begun ≡ None }
-    ensures { IfOk result (λ moved. TreeMoves desk (number - 1) moved machine.old (way_of tree.old) machine.new (way_of tree.new)) }
+    ensures { IfOk result (λ moved. TreeMoves desk (number - 1) moved
+        machine.old (way_of tree.old) machine.new (way_of tree.new)) }
 {
     match tree.pass()? {
         Some((pid, request)) => {
@@ -156,8 +162,8 @@ fn next_request<R: Rep>(
     }
 }
 
-/// The event of the tree of this number, from 1: true, or false with nothing changed where it can't move. After want of memory neither
-/// the machine nor the tree is used again.
+/// The event of the tree of this number, from 1: true, or false with nothing changed where it can't
+/// move. After want of memory neither the machine nor the tree is used again.
 pub(crate) fn tree_event<R: Rep>(
     alloc: Global,
     machine: &mut Machine<R>,
@@ -168,7 +174,8 @@ pub(crate) fn tree_event<R: Rep>(
     requires some { 0 < number }
     requires there { number ≤ machine.old.state.trees }
     requires needs { Needs tomoyo_grammar machine.old.state (way_of tree.old) }
-    ensures { IfOk result (λ moved. TreeMoves desk (number - 1) moved machine.old (way_of tree.old) machine.new (way_of tree.new)) }
+    ensures { IfOk result (λ moved. TreeMoves desk (number - 1) moved
+        machine.old (way_of tree.old) machine.new (way_of tree.new)) }
 {
     if is_waiting(machine, tree) {
         return Ok(false);

@@ -6,20 +6,8 @@
 ghost use Rattle.std.specs.Prelude.{◌≡◌};
 ghost use Rattle.tm_rules.specs.Book.{book_answer, code_of};
 
-use tm_script::book_answer;
-use tm_types::step::{Answer, Book, Query};
-
-/// The code of a book's answer to a query, as an Answer step has it: 1 is yes, 2 is no, 3 is retry. A closure that calls it makes a desk.
-/// Takes no memory.
-pub fn book_code(book: &Book, query: &Query) -> u64
-    ensures { result ≡ code_of (book_answer book.now query.now) }
-{
-    match book_answer(book, query) {
-        Answer::Yes => 1,
-        Answer::No => 2,
-        Answer::Retry => 3,
-    }
-}
+pub use tm_script::book_code;
+use tm_types::step::{Book, Query};
 
 /// A supervisor's desk: its book, and a closure that answers with the book's codes.
 #[derive(Drop)]

@@ -1,12 +1,11 @@
 -- texts of domain names: what reading gives, and the names that are made from names
-use Rattle.std.specs.Prelude.{◌≡◌, ℕ, ◌==◌, nat_le, Bool, true, false, ◌&&◌, not, if◌then◌else◌, List, [], ◌∷◌, length, Option, Some, None, unwrap_or, Result, Ok, Err}
+use Rattle.std.specs.Prelude.{◌≡◌, ℕ, ◌==◌, nat_le, Bool, true, false, ◌&&◌, ◌||◌, not, if◌then◌else◌, List, [], ◌∷◌, length, Option, Some, None, unwrap_or, Result, Ok, Err, codes}
 use Rattle.std.specs.List.{position_from, slice_split}
-use Rattle.tm_word.specs.declared.Component.{Component}
-use Rattle.tm_pattern.specs.declared.reading.PatternFault.{PatternFault}
+use Rattle.std.specs.Result.{is_ok}
 use Rattle.tm_pattern.specs.Reading.{pattern_of}
 use Rattle.tm_types.specs.declared.entry.Prefer.{Prefer}
 use Rattle.tm_word.specs.Words.{Text}
-use Rattle.tm_word.specs.Texts.{begins_with_byte}
+use Rattle.tm_word.specs.Texts.{begins_with_byte, texts_equal}
 use Rattle.tm_rules.specs.Words.{DomainName}
 use Rattle.tm_rules.specs.Transition.{By_preference, target_name, has_parent, parent_name, is_namespace_word}
 use Rattle.tm_domain.specs.declared.DomainFault.{DomainFault}
@@ -22,14 +21,19 @@ abbrev pub is_read : Result Text DomainFault → Bool
 is_read (Ok name) = true
 is_read (Err fault) = false
 
--- a pattern was read
-abbrev pub is_pattern : Result (List Component) PatternFault → Bool
-is_pattern (Ok pattern_) = true
-is_pattern (Err fault) = false
-
 -- a path is a pattern that begins with `/`
 unfoldable pub is_path : Text → Bool
-is_path text = begins_with_byte 47 text && is_pattern (pattern_of text)
+is_path text = begins_with_byte 47 text && is_ok (pattern_of text)
+
+-- a word that stands in no angle brackets is no namespace word, whatever a path is
+abbrev pub HasNoBrackets : Text → Type 0
+HasNoBrackets word = (is : Text → Bool) → is_namespace_word is word ≡ false
+
+-- a word with this in angle brackets is a namespace word where this is a path or `kernel`
+abbrev pub IsInBrackets : Text → Text → Type 0
+IsInBrackets word inner =
+    (is : Text → Bool)
+    → is_namespace_word is word ≡ (is inner || texts_equal inner (codes "kernel"))
 
 -- the place of the first word that is no path, counted from this number
 abbrev pub bad_path : ℕ → List Text → Option ℕ
@@ -43,10 +47,13 @@ abbrev pub paths_or_fault : Option ℕ → DomainName → Result DomainName Doma
 paths_or_fault (Some n) name = Err (BadPath n)
 paths_or_fault None name = short_name name
 
--- a namespace word and paths, joined by single spaces; the first fault of the words, then that of the length
+-- a namespace word and paths, joined by single spaces; the first fault of the words, then that of
+-- the length
 abbrev pub domain_at : List Text → Text → Result DomainName DomainFault
 domain_at [] text = Err NoNamespace
-domain_at (first ∷ paths) text = if is_namespace_word is_path first then paths_or_fault (bad_path 1 paths) text else Err NoNamespace
+domain_at (first ∷ paths) text =
+    if is_namespace_word is_path first then paths_or_fault (bad_path 1 paths) text
+    else Err NoNamespace
 
 unfoldable pub domain_of : Text → Result DomainName DomainFault
 domain_of text = domain_at (slice_split (λ b. b == 32) text) text
@@ -57,4 +64,5 @@ parent_of name = if has_parent name then Some (parent_name name) else None
 
 -- where a preference leads; keep leads to the domain itself
 unfoldable pub preferred_name : DomainName → Text → Prefer → DomainName
-preferred_name name candidate prefer = unwrap_or (target_name name candidate (By_preference prefer)) name
+preferred_name name candidate prefer =
+    unwrap_or (target_name name candidate (By_preference prefer)) name

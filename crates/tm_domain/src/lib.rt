@@ -1,6 +1,6 @@
 //! Domain names as text, and the names that transitions make from names.
-//! Stands on the list, word, pattern, types and rules crates, whose definitions of names from names it cites.
-//! Promises that reading is the grammar with the first fault, that each made name is the one of its rule or refused as a name that is read, and that the parts of a name are its words.
+//! It stands on the patterns of `tm_pattern` and on the rules of `tm_rules`, whose names it makes.
+//! It promises the grammar with the first fault, and for each made name the one of its rule.
 #![tactic(auto)]
 
 ghost use Rattle.std.specs.Prelude.{◌≡◌, ◌+◌, ◌-◌, ◌<◌, ◌≤◌, ◌==◌, ℕ, List, [], ◌∷◌, ◌++◌, length, Bool, true, not, ◌&&◌, ◌||◌, ◌↔◌, codes, false, Some, None, Ok, Err, MatchOption, IfOk, IsTrue};
@@ -9,14 +9,14 @@ ghost use Rattle.tm_word.specs.Words.{Text};
 ghost use Rattle.tm_word.specs.Texts.{texts_equal, begins_with_byte};
 ghost use Rattle.tm_rules.specs.Policy.{namespace_word, last_word};
 ghost use Rattle.tm_rules.specs.Transition.{child_name, initial_name, root_name, is_namespace_word, is_domain_name};
-ghost use Rattle.tm_word.specs.Gives.{Gives};
-ghost use Rattle.tm_domain.specs.Names.{domain_cause, is_read, short_name, is_path, bad_path, domain_of, parent_of, preferred_name};
+ghost use Rattle.tm_word.specs.Gives.{Gives, GivesNow};
+ghost use Rattle.tm_domain.specs.Names.{HasNoBrackets, IsInBrackets, domain_cause, is_read, short_name, is_path, bad_path, domain_of, parent_of, preferred_name};
 ghost use Rattle.tm_domain.specs.declared.DomainFault.TheVariants.{NoMemory};
 
 use std::alloc::{AllocError, AllocFailed, Global};
 use thiserror::Error;
-use tm_list::{Copied, NoMemory, Seq};
-use tm_pattern::{PatternFault, read_pattern};
+use tm_list::{NoMemory, Seq};
+use tm_pattern::is_pattern;
 use tm_types::entry::Prefer;
 use tm_types::unions::DomainName;
 use tm_word::{begins_with, bytes_equal, cut_at, place_of};
@@ -27,7 +27,8 @@ pub enum DomainFault {
     /// The first word is neither `<kernel>` nor a path in angle brackets.
     #[error("a domain name begins with <kernel> or a path in angle brackets")]
     NoNamespace,
-    /// The word with this number, counted from 1 after the namespace word, is the first that is no path.
+    /// The word with this number, counted from 1 after the namespace word, is the first that is no
+    /// path.
     #[error("word {0} after the namespace word is no path")]
     BadPath(usize),
     /// The name is over 4,085 bytes long.
@@ -54,26 +55,18 @@ impl<T: Drop> From<AllocFailed<T>> for DomainFault {
     }
 }
 
-/// Whether a word is a path: a pattern that begins with `/`.
+/// Whether a word is a path: a pattern that begins with `/`. Takes no memory.
 #[tactic(auto, unfolding(crate::specs::Names::is_path))]
-fn is_path(alloc: Global, word: &[u8]) -> Result<bool, NoMemory>
-    ensures { IfOk result (λ path. path ≡ is_path word.now) }
+pub fn is_path(word: &[u8]) -> bool
+    ensures { result ≡ is_path word.now }
 {
-    if !begins_with(b'/', word) {
-        return Ok(false);
-    }
-    match read_pattern(alloc, word) {
-        Ok(_) => Ok(true),
-        Err(PatternFault::NoMemory) => Err(AllocError),
-        Err(PatternFault::BadElement(_)) => Ok(false),
-        Err(PatternFault::LoneBrace(_)) => Ok(false),
-        Err(PatternFault::EmptyPart(_)) => Ok(false),
-    }
+    begins_with(b'/', word) && is_pattern(word)
 }
 
 /// What stands in angle brackets.
 fn in_brackets(word: &[u8]) -> Option<&[u8]>
-    ensures { MatchOption result ((is : Text → Bool) → is_namespace_word is word.now ≡ false) (λ inner. (is : Text → Bool) → is_namespace_word is word.now ≡ (is inner.now || texts_equal inner.now (codes "kernel"))) }
+    ensures { MatchOption result (HasNoBrackets word.now)
+        (λ inner. IsInBrackets word.now inner.now) }
 {
     if word.len() >= 2 && word[0] == b'<' && word[word.len() - 1] == b'>' {
         Some(&word[1..word.len() - 1])
@@ -83,44 +76,34 @@ fn in_brackets(word: &[u8]) -> Option<&[u8]>
 }
 
 /// Whether a word is `<kernel>` or a path in angle brackets.
-fn is_namespace_word(alloc: Global, word: &[u8]) -> Result<bool, NoMemory>
-    ensures { IfOk result (λ found. found ≡ is_namespace_word is_path word.now) }
+fn is_namespace_word(word: &[u8]) -> bool
+    ensures { result ≡ is_namespace_word is_path word.now }
 {
     match in_brackets(word) {
-        None => Ok(false),
-        Some(inner) => {
-            if is_path(alloc, inner)? {
-                Ok(true)
-            } else {
-                Ok(bytes_equal(inner, b"kernel"))
-            }
-        }
+        None => false,
+        Some(inner) => is_path(inner) || bytes_equal(inner, b"kernel"),
     }
 }
 
 /// The number of the first word that is no path, counted from 1.
-fn bad_path(alloc: Global, text: &[u8]) -> Result<Option<usize>, NoMemory>
-    ensures { IfOk result (λ found. found ≡ bad_path 1 (slice_split (λ b. b == 32) text.now)) }
+fn bad_path(text: &[u8]) -> Option<usize>
+    ensures { result ≡ bad_path 1 (slice_split (λ b. b == 32) text.now) }
 {
     let mut rest = text;
     let mut number = 1;
     while let Some((word, after)) = cut_at(b' ', rest) {
-        if !is_path(alloc, word)? {
-            return Ok(Some(number));
+        if !is_path(word) {
+            return Some(number);
         }
         rest = after;
         number += 1;
     }
-    if is_path(alloc, rest)? {
-        Ok(None)
-    } else {
-        Ok(Some(number))
-    }
+    if is_path(rest) { None } else { Some(number) }
 }
 
 /// Refuses a name that is too long.
 fn judge_length(text: &[u8]) -> Result<(), DomainFault>
-    ensures { Gives domain_cause (λ nothing. text.now) result (short_name text.now) }
+    ensures { GivesNow domain_cause (λ nothing. text.now) result (short_name text.now) }
 {
     if text.len() <= 4085 {
         Ok(())
@@ -131,22 +114,22 @@ fn judge_length(text: &[u8]) -> Result<(), DomainFault>
 
 /// Refuses a text that is no domain name.
 #[tactic(auto, unfolding(crate::specs::Names::domain_of))]
-fn judge(alloc: Global, text: &[u8]) -> Result<(), DomainFault>
-    ensures { Gives domain_cause (λ nothing. text.now) result (domain_of text.now) }
+fn judge(text: &[u8]) -> Result<(), DomainFault>
+    ensures { GivesNow domain_cause (λ nothing. text.now) result (domain_of text.now) }
 {
     match cut_at(b' ', text) {
         None => {
-            if is_namespace_word(alloc, text)? {
+            if is_namespace_word(text) {
                 judge_length(text)
             } else {
                 Err(DomainFault::NoNamespace)
             }
         }
         Some((first, paths)) => {
-            if !is_namespace_word(alloc, first)? {
+            if !is_namespace_word(first) {
                 return Err(DomainFault::NoNamespace);
             }
-            match bad_path(alloc, paths)? {
+            match bad_path(paths) {
                 Some(number) => Err(DomainFault::BadPath(number)),
                 None => judge_length(text),
             }
@@ -154,24 +137,33 @@ fn judge(alloc: Global, text: &[u8]) -> Result<(), DomainFault>
     }
 }
 
+/// Whether a text is a domain name, as `read_domain` reads it. Takes no memory.
+#[tactic(auto, using(crate::proofs::NameLaws::right_name))]
+pub fn is_domain_name(text: &[u8]) -> bool
+    ensures { result ≡ is_domain_name is_path text.now }
+{
+    judge(text).is_ok()
+}
+
 /// The text as a domain name, unless it is none.
-fn judged(alloc: Global, text: Seq<u8>) -> Result<DomainName, DomainFault>
+fn judged(text: Seq<u8>) -> Result<DomainName, DomainFault>
     ensures exact { Gives domain_cause (λ x. x) result (domain_of text) }
     ensures made { IfOk result (λ name. name ≡ text) }
 {
-    judge(alloc, text.bytes())?;
+    judge(text.bytes())?;
     Ok(text)
 }
 
-/// Reads a domain name: `<kernel>` or a path in angle brackets, and then paths, joined by single spaces.
+/// Reads a domain name: `<kernel>` or a path in angle brackets, and then paths, joined by single
+/// spaces.
 ///
-/// Errors: `NoNamespace` where the first word is no namespace word, else `BadPath(n)` where word n after it is the first that is no
-/// path, else `TooLong` over 4,085 bytes.
+/// Errors: `NoNamespace` where the first word is no namespace word, else `BadPath(n)` where word n
+/// after it is the first that is no path, else `TooLong` over 4,085 bytes.
 pub fn read_domain(alloc: Global, text: &[u8]) -> Result<DomainName, DomainFault>
     ensures exact { Gives domain_cause (λ x. x) result (domain_of text.now) }
     ensures made { IfOk result (λ name. name ≡ text.now) }
 {
-    judge(alloc, text)?;
+    judge(text)?;
     Ok(Seq::from_bytes(alloc, text)?)
 }
 
@@ -228,22 +220,25 @@ fn bracketed(alloc: Global, path: &[u8]) -> Result<Seq<u8>, NoMemory>
     Ok(Seq::from_vec(made))
 }
 
-/// The name below a domain: where an execute of the path leads by itself. Refused as by `read_domain`.
+/// The name below a domain: where an execute of the path leads by itself. Refused as by
+/// `read_domain`.
 pub fn child(alloc: Global, name: &DomainName, path: &[u8]) -> Result<DomainName, DomainFault>
     ensures exact { Gives domain_cause (λ x. x) result (domain_of (child_name name.now path.now)) }
     ensures made { IfOk result (λ made. made ≡ child_name name.now path.now) }
 {
     let made = joined(alloc, name.bytes(), path)?;
-    judged(alloc, made)
+    judged(made)
 }
 
-/// The name directly below the namespace word of a domain: where initialize leads. Refused as by `read_domain`.
+/// The name directly below the namespace word of a domain: where initialize leads. Refused as by
+/// `read_domain`.
 pub fn initial(alloc: Global, name: &DomainName, path: &[u8]) -> Result<DomainName, DomainFault>
-    ensures exact { Gives domain_cause (λ x. x) result (domain_of (initial_name name.now path.now)) }
+    ensures exact { Gives domain_cause (λ x. x) result
+        (domain_of (initial_name name.now path.now)) }
     ensures made { IfOk result (λ made. made ≡ initial_name name.now path.now) }
 {
     let made = joined(alloc, namespace(name), path)?;
-    judged(alloc, made)
+    judged(made)
 }
 
 /// The namespace word of a path: where reset leads. Refused as by `read_domain`.
@@ -252,7 +247,7 @@ pub fn root(alloc: Global, path: &[u8]) -> Result<DomainName, DomainFault>
     ensures made { IfOk result (λ made. made ≡ root_name path.now) }
 {
     let made = bracketed(alloc, path)?;
-    judged(alloc, made)
+    judged(made)
 }
 
 /// The name without its last word; `None` exactly for a namespace word alone.
@@ -267,9 +262,10 @@ pub fn parent(alloc: Global, name: &DomainName) -> Result<Option<DomainName>, No
     Ok(Some(Seq::from_bytes(alloc, &text[..start - 1])?))
 }
 
-/// Where a transition preference leads, for a domain and a candidate: keep to the domain itself, child and initialize and reset as the
-/// calls of these names, parent to the name without its last word (a namespace word alone is its own parent), a path to the name
-/// below the domain, a domain name to that domain. Refused as by `read_domain`.
+/// Where a transition preference leads, for a domain and a candidate: keep to the domain itself,
+/// child and initialize and reset as the calls of these names, parent to the name without its last
+/// word (a namespace word alone is its own parent), a path to the name below the domain, a domain
+/// name to that domain. Refused as by `read_domain`.
 #[tactic(auto, unfolding(crate::specs::Names::preferred_name, tm_rules::specs::Transition::target_name))]
 pub fn preferred(
     alloc: Global,
@@ -277,7 +273,8 @@ pub fn preferred(
     candidate: &[u8],
     prefer: &Prefer,
 ) -> Result<DomainName, DomainFault>
-    ensures exact { Gives domain_cause (λ x. x) result (domain_of (preferred_name name.now candidate.now prefer.now)) }
+    ensures exact { Gives domain_cause (λ x. x) result
+        (domain_of (preferred_name name.now candidate.now prefer.now)) }
     ensures made { IfOk result (λ made. made ≡ preferred_name name.now candidate.now prefer.now) }
 {
     match prefer {
@@ -286,7 +283,7 @@ pub fn preferred(
         Prefer::Initialize => initial(alloc, name, candidate),
         Prefer::Reset => root(alloc, candidate),
         Prefer::Parent => match parent(alloc, name)? {
-            Some(made) => judged(alloc, made),
+            Some(made) => judged(made),
             None => read_domain(alloc, name.bytes()),
         },
         Prefer::Path(path) => child(alloc, name, path.bytes()),
@@ -294,7 +291,8 @@ pub fn preferred(
     }
 }
 
-/// A law, nothing to run: what is read is the text itself, and a text is read exactly where it is a right domain name.
+/// A law, nothing to run: what is read is the text itself, and a text is read exactly where it is a
+/// right domain name.
 pub fn grammar()
     ensures same { (text name : List ℕ) → domain_of text ≡ Ok name → name ≡ text }
     ensures right { (text : List ℕ) → is_domain_name is_path text ≡ is_read (domain_of text) }

@@ -143,7 +143,8 @@ five a b c d e h i j k l = all (a && b && c && d) e (all (a && b && c) d (three 
 one_bit : (perm : ℕ) → (perm == 0) ≡ true → (2 ^ perm == 1) ≡ true
 one_bit perm h = ap (λ k. 2 ^ k == 1) (eqb-true perm 0 h)
 
--- literal arguments with one permission of their row are a line of a file, or a line of another kind
+-- literal arguments with one permission of their row are a line of a file, or a line of another
+-- kind
 args_line : (a : Args) (perm : ℕ) (at : Attributes) → are_literal is_path a ≡ true → (let r : Request = record { args = a; perm = perm; attributes = at } in (is_some (function_of a perm) || (is_manual r && perm == 0)) ≡ true → (is_file a (2 ^ perm) || is_net a (2 ^ perm)) ≡ true)
 unfolding is_file is_net function_of
 args_line (Args.Path n) perm at h p = rw (two (lines.is_set Row.Path (2 ^ perm)) (lines.is_name n) (set_at Row.Path perm (perm_low (row_functions (Args.Path n)) perm p)) (name_line n h)) refl

@@ -14,22 +14,25 @@ use Rattle.tm_net.specs.NetLines.{net_line, net_words, is_net}
 use Rattle.tm_cond.specs.Reading.{cond_of, cond_words}
 use Rattle.tm_cond.specs.Written.{is_cond}
 
--- a line of any row: its arguments, its permissions, and the words after them; an unfinished first word as the last word is a missing
--- word
+-- a line of any row: its arguments, its permissions, and the words after them; an unfinished first
+-- word as the last word is a missing word
 unfoldable pub acl_line : List Text → Result (Args × Perms × List Text) LineKind
 acl_line [] = Err LineKind.Arity
 acl_line (word ∷ words) =
-    if texts_equal word (codes "file") then file_line (word ∷ words) else (if is_last words && begins word (codes "file") then Err LineKind.Arity else net_line (word ∷ words))
+    if texts_equal word (codes "file") then file_line (word ∷ words)
+    else (if is_last words && begins word (codes "file") then Err LineKind.Arity
+    else net_line (word ∷ words))
 
 abbrev pub entry : Args → Perms → Cond → Entry
 entry args perms cond_ = record { args = args; perms = perms; cond = cond_ }
 
+-- the entry of a line with the conditions that these words are
+abbrev pub with_cond : Args → Perms → List Text → Result Entry LineKind
+with_cond args perms words = cond_of words >>= λ cond_. Ok (entry args perms cond_)
+
 -- a line, and every word after it as a condition
 unfoldable pub entry_of : List Text → Result Entry LineKind
-entry_of words = do
-  line ← acl_line words
-  cond_ ← cond_of line.2
-  Ok (entry line.0 line.1 cond_)
+entry_of words = acl_line words >>= λ line. with_cond line.0 line.1 line.2
 
 -- the arguments are those of a file line
 abbrev pub is_of_file : Args → Bool
@@ -46,7 +49,8 @@ is_of_file (Args.Manual domain) = false
 
 -- the words of a line
 unfoldable pub acl_words : Args → Perms → List Text
-acl_words args perms = if is_of_file args then file_words args perms.bits else net_words args perms.bits
+acl_words args perms =
+    if is_of_file args then file_words args perms.bits else net_words args perms.bits
 
 -- the words of an entry: its line, and its conditions
 unfoldable pub entry_words : Entry → List Text

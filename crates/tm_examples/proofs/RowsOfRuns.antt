@@ -385,7 +385,7 @@ twice_legal =
       );
       places = record { own = twice_own; edits = twice_edits; replies = (refl, (refl, tt)) };
       supervisor = refl;
-      answers = (record { learned = (refl, tt); follow = (tt, refl) }, (record { learned = (refl, tt); follow = (tt, refl) }, tt));
+      answers = (record { heard = (refl, tt); follow = (tt, refl) }, (record { heard = (refl, tt); follow = (tt, refl) }, tt));
       outcomes = (record { granted = refl; domain = refl; audit = refl }, (record { granted = refl; domain = refl; audit = refl }, tt));
     }
 
@@ -496,7 +496,7 @@ retried_legal =
         },
         retried_ends,
       );
-      answers = (record { learned = ((Answered.Retry, 5, refl, lit≤ tt, lit≤ tt, refl), (refl, tt)); follow = (refl, refl, (tt, refl)) }, tt);
+      answers = (record { heard = ((Answered.Retry, 5, refl, lit≤ tt, lit≤ tt, refl), (refl, tt)); follow = (refl, refl, (tt, refl)) }, tt);
       outcomes = (record { granted = refl; domain = refl; audit = refl }, tt);
     }
 

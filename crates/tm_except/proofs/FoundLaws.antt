@@ -1,7 +1,13 @@
 -- A rule that was read is one that a line can write.
 use Rattle.std.proofs.Common.{◌≡◌, ℕ, ◌<◌, ◌==◌, nat_lt, Bool, true, false, ◌&&◌, not, List, [], ◌∷◌, Some, None, Result, Ok, Err, refl, sym, ap, subst, ◌∙◌}
 use Rattle.std.specs.Prelude.{Option, codes, if◌then◌else◌}
+use Rattle.std.specs.Prelude.{map}
+use Rattle.std.specs.Option.{option_or}
 use Rattle.std.specs.List.{list_all}
+use Rattle.tm_word.specs.Closed.{row_of, named, or_else}
+use Rattle.tm_word.proofs.Named.{named_or}
+use Rattle.tm_except.specs.Printing.{kind_text}
+use Rattle.tm_except.specs.Reading.{controls, lists}
 use Rattle.std.proofs.lemmas.Bool.{lt-ltb}
 use Rattle.tm_word.specs.Words.{Text, Word, Pattern}
 use Rattle.tm_word.specs.Spelling.{spell, spelled_word}
@@ -239,30 +245,30 @@ abbrev HeadIs : Option Head → Type 0
 HeadIs (Some (Head.Control kind)) = is_kind kind ≡ true
 HeadIs _ = Unit {0}
 
-pick_kind : (b : Bool) (kind : ControlKind) (o : Option ControlKind) → is_kind kind ≡ true → HeadIs (control_head o) → HeadIs (control_head (if b then Some kind else o))
-pick_kind true kind o h k = h
-pick_kind false kind o h k = k
+kind_by : (o : Option ControlKind) → is_kind (or_else o ControlKind.Keep) ≡ true → HeadIs (control_head o)
+kind_by None h = tt
+kind_by (Some kind) h = h
 
 kind_ok : (word : Text) → HeadIs (control_head (control_word word))
 unfolding control_word
-kind_ok word =
-    pick_kind (texts_equal word (codes "no_reset_domain")) ControlKind.NoReset _ refl
-    (pick_kind (texts_equal word (codes "reset_domain")) ControlKind.Reset _ refl
-    (pick_kind (texts_equal word (codes "no_initialize_domain")) ControlKind.NoInitialize _ refl
-    (pick_kind (texts_equal word (codes "initialize_domain")) ControlKind.Initialize _ refl
-    (pick_kind (texts_equal word (codes "no_keep_domain")) ControlKind.NoKeep _ refl (pick_kind (texts_equal word (codes "keep_domain")) ControlKind.Keep None refl tt)))))
+kind_ok word = kind_by (control_word word) (named_or is_kind (map (row_of kind_text) controls) word ControlKind.Keep refl refl)
 
-pick_head : (b : Bool) (o p : Option Head) → HeadIs o → HeadIs p → HeadIs (if b then o else p)
-pick_head true o p h k = h
-pick_head false o p h k = k
+abbrev is_list : Head → Bool
+is_list (Head.Control kind) = false
+is_list _ = true
+
+head_by : (o p : Option Head) → is_list (or_else o Head.Acl) ≡ true → HeadIs p → HeadIs (option_or o p)
+head_by None p h k = k
+head_by (Some Head.PathGroup) p h k = tt
+head_by (Some Head.NumberGroup) p h k = tt
+head_by (Some Head.AddressGroup) p h k = tt
+head_by (Some Head.Aggregator) p h k = tt
+head_by (Some Head.Acl) p h k = tt
+head_by (Some (Head.Control kind)) p h k = absurd cc
 
 head_ok : (word : Text) → HeadIs (head_of word)
 unfolding head_of
-head_ok word =
-    pick_head (texts_equal word (codes "path_group")) (Some Head.PathGroup) _ tt
-    (pick_head (texts_equal word (codes "number_group")) (Some Head.NumberGroup) _ tt
-    (pick_head (texts_equal word (codes "address_group")) (Some Head.AddressGroup) _ tt
-    (pick_head (texts_equal word (codes "aggregator")) (Some Head.Aggregator) _ tt (pick_head (texts_equal word (codes "acl_group")) (Some Head.Acl) _ tt (kind_ok word)))))
+head_ok word = head_by (named lists word) (control_head (control_word word)) (named_or is_list lists word Head.Acl refl refl) (kind_ok word)
 
 by_ok : (o : Option Head) (first : Bool) (word : Text) (words : List Text) → HeadIs o → OkIs IsRule (rule_by o first word words)
 by_ok (Some Head.PathGroup) first word words h = path_group_ok words

@@ -61,7 +61,9 @@ domain_words (Some name) false = domain_parts name
 
 -- always with `from`
 unfoldable pub control_words : Control → List Text
-control_words control = kind_text control.kind ∷ program_text control.program ∷ codes "from" ∷ domain_words control.domain control.last
+control_words control =
+    kind_text control.kind ∷ program_text control.program ∷ codes "from"
+    ∷ domain_words control.domain control.last
 
 -- Every rule
 
@@ -77,16 +79,20 @@ rule_words (ExceptRule.Acl n words) = codes "acl_group" ∷ decimal n ∷ words
 -- Lists
 
 abbrev pub path_groups_text : Text → List (Word × Pattern) → Text
-path_groups_text ns groups = flat_map (λ group. line_text ns (path_group_words group.0 group.1)) groups
+path_groups_text ns groups =
+    flat_map (λ group. line_text ns (path_group_words group.0 group.1)) groups
 
 abbrev pub number_groups_text : Text → List (Word × Range) → Text
-number_groups_text ns groups = flat_map (λ group. line_text ns (number_group_words group.0 group.1)) groups
+number_groups_text ns groups =
+    flat_map (λ group. line_text ns (number_group_words group.0 group.1)) groups
 
 abbrev pub address_groups_text : Text → List (Word × AddrRange) → Text
-address_groups_text ns groups = flat_map (λ group. line_text ns (address_group_words group.0 group.1)) groups
+address_groups_text ns groups =
+    flat_map (λ group. line_text ns (address_group_words group.0 group.1)) groups
 
 abbrev pub aggregators_text : Text → List (Pattern × Word) → Text
-aggregators_text ns aggregators = flat_map (λ pair. line_text ns (aggregator_words pair.0 pair.1)) aggregators
+aggregators_text ns aggregators =
+    flat_map (λ pair. line_text ns (aggregator_words pair.0 pair.1)) aggregators
 
 abbrev pub controls_text : Text → List Control → Text
 controls_text ns controls = flat_map (λ control. line_text ns (control_words control)) controls
@@ -96,10 +102,13 @@ unfoldable pub lists_text : Namespace → Text
 lists_text ns =
     path_groups_text ns.name ns.groups.paths
     ++ (number_groups_text ns.name ns.groups.numbers
-    ++ (address_groups_text ns.name ns.groups.addrs ++ (aggregators_text ns.name ns.aggregators ++ controls_text ns.name ns.controls)))
+    ++ (address_groups_text ns.name ns.groups.addrs
+    ++ (aggregators_text ns.name ns.aggregators ++ controls_text ns.name ns.controls)))
 
 -- A line that was read, in its normal form
 
 -- `delete` where it deletes, the namespace word always, then the rule
 unfoldable pub line_words : ExceptLine → List Text
-line_words line = if line.delete then codes "delete" ∷ line.namespace ∷ rule_words line.rule else line.namespace ∷ rule_words line.rule
+line_words line =
+    if line.delete then codes "delete" ∷ line.namespace ∷ rule_words line.rule
+    else line.namespace ∷ rule_words line.rule

@@ -1,5 +1,7 @@
--- Exception lines: what each word gives, and the kind of the first one at which the line can't go on.
-use Rattle.std.specs.Prelude.{ℕ, ◌&&◌, ◌||◌, not, if◌then◌else◌, Bool, true, false, List, [], ◌∷◌, Option, Some, None, Result, Ok, Err, codes}
+-- Exception lines: what each word gives, and the kind of the first one at which the line can't go
+-- on.
+use Rattle.std.specs.Prelude.{ℕ, ◌&&◌, ◌||◌, not, if◌then◌else◌, Bool, true, false, List, [], ◌∷◌, map, Option, Some, None, Result, Ok, Err, codes}
+use Rattle.std.specs.Option.{option_or}
 use Rattle.tm_word.specs.Words.{Text, Word, Pattern}
 use Rattle.tm_word.specs.Spelling.{spelled_word}
 use Rattle.tm_types.specs.declared.entry.LineKind.{LineKind}
@@ -7,6 +9,7 @@ use Rattle.tm_types.specs.declared.policy.ControlKind.{ControlKind}
 use Rattle.tm_types.specs.declared.policy.Control.{Control}
 use Rattle.tm_types.specs.declared.policy.ExceptRule.{ExceptRule}
 use Rattle.tm_types.specs.declared.policy.ExceptLine.{ExceptLine}
+use Rattle.tm_word.specs.Closed.{row_of, named, begins_row, of_word}
 use Rattle.tm_word.specs.Texts.{texts_equal, begins, begins_with_byte}
 use Rattle.tm_line.specs.Lines.{or_kind, is_last, ended, keyword_kind, word_at}
 use Rattle.tm_word.specs.Gives.{◌>>=◌}
@@ -15,6 +18,7 @@ use Rattle.tm_line.specs.Written.{begins_name}
 use Rattle.tm_line.specs.Domains.{domain_to_end}
 use Rattle.tm_line.specs.Namespaces.{opens, namespace_at}
 use Rattle.tm_except.specs.declared.reading.Head.{Head}
+use Rattle.tm_except.specs.Printing.{kind_text}
 
 -- Groups and aggregators
 
@@ -29,7 +33,9 @@ first_word (b ∷ text) = pattern_word (b ∷ text)
 
 -- a literal path is the spelled word of a name that begins with `/`
 unfoldable pub literal_word : Text → Result Word LineKind
-literal_word text = if begins_with_byte 47 text then or_kind LineKind.Name (spelled_word text) else Err LineKind.Name
+literal_word text =
+    if begins_with_byte 47 text then or_kind LineKind.Name (spelled_word text)
+    else Err LineKind.Name
 
 unfoldable pub path_group : List Text → Result ExceptRule LineKind
 path_group words = do
@@ -77,13 +83,15 @@ program_by (Err kind) word last = Err (side_kind kind word last)
 
 -- `any` or a path
 unfoldable pub program_word : Text → Bool → Result (Option Text) LineKind
-program_word word last = if texts_equal word (codes "any") then Ok None else program_by (path_word word) word last
+program_word word last =
+    if texts_equal word (codes "any") then Ok None else program_by (path_word word) word last
 
 -- a domain side: its text, and whether it is one path
 abbrev pub any_domain : Option Text × Bool
 any_domain = (None, false)
 
-abbrev pub path_side : Result Text LineKind → Text → List Text → Result (Option Text × Bool) LineKind
+abbrev pub path_side : Result Text LineKind → Text → List Text
+    → Result (Option Text × Bool) LineKind
 path_side (Ok path) word words = ended (Some path, true) words
 path_side (Err kind) word words = Err (side_kind kind word (is_last words))
 
@@ -95,20 +103,27 @@ name_side words = domain_to_end words >>= λ name. Ok (Some name, false)
 unfoldable pub domain_side : List Text → Result (Option Text × Bool) LineKind
 domain_side [] = Err LineKind.Arity
 domain_side (word ∷ words) =
-    if texts_equal word (codes "any") then ended any_domain words else (if opens word then name_side (word ∷ words) else path_side (path_word word) word words)
+    if texts_equal word (codes "any") then ended any_domain words
+    else
+    (if opens word then name_side (word ∷ words) else path_side (path_word word) word words)
 
 abbrev pub control : ControlKind → Option Text → Option Text × Bool → Control
-control kind program side = record { kind = kind; program = program; domain = side.0; last = side.1 }
+control kind program side =
+    record { kind = kind; program = program; domain = side.0; last = side.1 }
 
 -- `from` and the domain side; a missing side is `any`
 unfoldable pub from_side : ControlKind → Option Text → List Text → Result Control LineKind
 from_side kind program [] = Ok (control kind program any_domain)
-from_side kind program (word ∷ words) = if texts_equal word (codes "from") then (domain_side words >>= λ side. Ok (control kind program side)) else Err LineKind.Arity
+from_side kind program (word ∷ words) =
+    if texts_equal word (codes "from")
+    then (domain_side words >>= λ side. Ok (control kind program side))
+    else Err LineKind.Arity
 
 -- the program's side first
 unfoldable pub program_line : ControlKind → List Text → Result Control LineKind
 program_line kind [] = Err LineKind.Arity
-program_line kind (word ∷ words) = program_word word (is_last words) >>= λ program. from_side kind program words
+program_line kind (word ∷ words) =
+    program_word word (is_last words) >>= λ program. from_side kind program words
 
 -- one side alone is the domain's
 abbrev pub alone : Option Text → Option Text × Bool
@@ -128,13 +143,9 @@ keep_line kind (word ∷ words) =
     else (program_word word (is_last words) >>= λ side. keep_side kind side words)
 
 abbrev pub is_keep : ControlKind → Bool
-is_keep ControlKind.NoReset = false
-is_keep ControlKind.Reset = false
-is_keep ControlKind.NoInitialize = false
-is_keep ControlKind.Initialize = false
 is_keep ControlKind.NoKeep = true
 is_keep ControlKind.Keep = true
-is_keep ControlKind.Ordinary = false
+is_keep _ = false
 
 abbrev pub control_sides : ControlKind → List Text → Result Control LineKind
 control_sides kind words = if is_keep kind then keep_line kind words else program_line kind words
@@ -145,53 +156,40 @@ control_line kind words = control_sides kind words >>= λ found. Ok (ExceptRule.
 -- The line
 
 -- the six kinds of control
+abbrev pub controls : List ControlKind
+controls =
+    ControlKind.NoReset ∷ ControlKind.Reset ∷ ControlKind.NoInitialize ∷ ControlKind.Initialize
+    ∷ ControlKind.NoKeep ∷ ControlKind.Keep ∷ []
+
 unfoldable pub control_word : Text → Option ControlKind
-control_word word =
-    if texts_equal word (codes "no_reset_domain")
-    then Some ControlKind.NoReset
-    else if texts_equal word (codes "reset_domain")
-    then Some ControlKind.Reset
-    else if texts_equal word (codes "no_initialize_domain")
-    then Some ControlKind.NoInitialize
-    else if texts_equal word (codes "initialize_domain")
-    then Some ControlKind.Initialize
-    else if texts_equal word (codes "no_keep_domain")
-    then Some ControlKind.NoKeep
-    else if texts_equal word (codes "keep_domain")
-    then Some ControlKind.Keep
-    else None
+control_word word = of_word kind_text controls word
 
 abbrev pub control_head : Option ControlKind → Option Head
 control_head None = None
 control_head (Some kind) = Some (Head.Control kind)
 
+-- the leading words of groups and aggregators
+abbrev pub lists : List (Text × Head)
+lists =
+    (codes "path_group", Head.PathGroup) ∷ (codes "number_group", Head.NumberGroup)
+    ∷ (codes "address_group", Head.AddressGroup) ∷ (codes "aggregator", Head.Aggregator)
+    ∷ (codes "acl_group", Head.Acl) ∷ []
+
 -- the leading word
 unfoldable pub head_of : Text → Option Head
-head_of word =
-    if texts_equal word (codes "path_group")
-    then Some Head.PathGroup
-    else if texts_equal word (codes "number_group")
-    then Some Head.NumberGroup
-    else if texts_equal word (codes "address_group")
-    then Some Head.AddressGroup
-    else if texts_equal word (codes "aggregator")
-    then Some Head.Aggregator
-    else if texts_equal word (codes "acl_group")
-    then Some Head.Acl
-    else control_head (control_word word)
+head_of word = option_or (named lists word) (control_head (control_word word))
 
 -- a leading word begins so
 unfoldable pub begins_list : Text → Bool
-begins_list word = begins word (codes "path_group") || begins word (codes "number_group") || begins word (codes "address_group") || begins word (codes "aggregator") || begins word (codes "acl_group")
+begins_list word = begins_row lists word
 
 unfoldable pub begins_control : Text → Bool
-begins_control word =
-    begins word (codes "no_reset_domain") || begins word (codes "reset_domain") || begins word (codes "no_initialize_domain") || begins word (codes "initialize_domain") || begins word (codes "no_keep_domain")
-    || begins word (codes "keep_domain")
+begins_control word = begins_row (map (row_of kind_text) controls) word
 
 -- `delete` may stand at the very front alone
 unfoldable pub begins_rule : Bool → Text → Bool
-begins_rule first word = begins_list word || begins_control word || first && begins word (codes "delete")
+begins_rule first word =
+    begins_list word || begins_control word || first && begins word (codes "delete")
 
 abbrev pub rule_by : Option Head → Bool → Text → List Text → Result ExceptRule LineKind
 rule_by (Some Head.PathGroup) first word words = path_group words
@@ -221,4 +219,6 @@ named_line delete (word ∷ words) = do
 -- an exception line
 unfoldable pub line_of : List Text → Result ExceptLine LineKind
 line_of [] = Err LineKind.Arity
-line_of (word ∷ words) = if texts_equal word (codes "delete") then named_line true words else named_line false (word ∷ words)
+line_of (word ∷ words) =
+    if texts_equal word (codes "delete") then named_line true words
+    else named_line false (word ∷ words)

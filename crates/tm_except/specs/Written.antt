@@ -44,7 +44,8 @@ is_side (Some path) true = is_path path
 is_side (Some name) false = is_domain_name is_path name
 
 abbrev pub is_control : Control → Bool
-is_control control = is_kind control.kind && (is_program control.program && is_side control.domain control.last)
+is_control control =
+    is_kind control.kind && (is_program control.program && is_side control.domain control.last)
 
 -- the bytes of a name that begins with `/`
 abbrev pub is_literal_path : Word → Bool

@@ -1,6 +1,6 @@
 //! The rules of the exception policy: its lines, aggregators, and the domain transition controls.
-//! Stands on tm_line for the steps of lines, on tm_pattern, tm_domain, and the definitions of tm_rules.
-//! Promises that reading is the grammar with the first fault, that the first aggregator that matches decides, and that the controls decide in their order, both without memory.
+//! It stands on the steps of `tm_line`, on `tm_pattern`, `tm_domain` and the rules of `tm_rules`.
+//! It promises the grammar, the first aggregator that matches, and controls tried in their order.
 #![tactic(auto)]
 
 ghost use Rattle.std.specs.Prelude.{◌≡◌, ◌==◌, ◌&&◌, not, ℕ, List, option_map};
@@ -37,8 +37,8 @@ fn find_name<'a>(aggregators: &'a [(Pattern, Word)], path: &Word) -> Option<&'a 
     None
 }
 
-/// The aggregated name of an executed path: the second name of the first `aggregator` of the namespace whose first name matches
-/// it, else the path itself. Takes no memory.
+/// The aggregated name of an executed path: the second name of the first `aggregator` of the
+/// namespace whose first name matches it, else the path itself. Takes no memory.
 #[tactic(auto, unfolding(tm_rules::specs::Search::aggregated))]
 pub fn aggregated<'a>(namespace: &'a Namespace, path: &'a Word) -> &'a Word
     ensures { result.now ≡ aggregated namespace.now path.now }
@@ -56,7 +56,8 @@ fn kind_number(kind: ControlKind) -> u8
     kind as u8
 }
 
-/// Whether a control's program is `any` or the candidate, and its domain `any`, the domain's name, or a path that is its last word.
+/// Whether a control's program is `any` or the candidate, and its domain `any`, the domain's name,
+/// or a path that is its last word.
 #[tactic(auto, unfolding(tm_rules::specs::Transition::control_matches))]
 fn control_matches(domain: &DomainName, candidate: &[u8], control: &Control) -> bool
     ensures { result ≡ control_matches domain.now candidate.now control.now }
@@ -87,7 +88,8 @@ fn has_control(
 ) -> bool
     ensures { result
         ≡ list_any
-        (λ control. kind_number control.kind == kind_number kind && control_matches domain.now candidate.now control)
+        (λ control. kind_number control.kind == kind_number kind
+        && control_matches domain.now candidate.now control)
         controls.now }
 {
     for control in controls {
@@ -128,9 +130,10 @@ fn unskipped(
         && !some_control(namespace, domain, candidate, skips)
 }
 
-/// The kind of control that decides where an execute leads: `no_reset_domain` skips `reset_domain`, `no_initialize_domain` skips
-/// `initialize_domain`, and the first of `reset_domain`, `initialize_domain`, `no_keep_domain` and `keep_domain` that is left and
-/// matches decides; `Ordinary` where none does. Takes no memory.
+/// The kind of control that decides where an execute leads: `no_reset_domain` skips `reset_domain`,
+/// `no_initialize_domain` skips `initialize_domain`, and the first of `reset_domain`,
+/// `initialize_domain`, `no_keep_domain` and `keep_domain` that is left and matches decides;
+/// `Ordinary` where none does. Takes no memory.
 #[tactic(auto, unfolding(tm_rules::specs::Transition::control_kind))]
 pub fn control_kind(namespace: &Namespace, domain: &DomainName, candidate: &[u8]) -> ControlKind
     ensures { result ≡ control_kind namespace.now domain.now candidate.now }

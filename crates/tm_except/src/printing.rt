@@ -14,6 +14,7 @@ ghost use Rattle.tm_except.specs.Reading.{line, line_of};
 ghost use Rattle.tm_except.specs.Written.{is_rule, is_listed, keeps_words};
 ghost use Rattle.tm_except.specs.Printing.{range_text, addr_range_text, path_group_words, number_group_words, address_group_words, aggregator_words, kind_text, program_text, domain_words, control_words, rule_words, line_words, path_groups_text, number_groups_text, address_groups_text, aggregators_text, controls_text, lists_text};
 
+use crate::reading::CONTROLS;
 use std::alloc::Global;
 use tm_addr::write_addr_range;
 use tm_line::print_domain;
@@ -87,7 +88,8 @@ fn push_three(
     out: &mut Vec<u8>,
 ) -> Result<(), NoMemory>
     ensures { OnOk result
-        (out.new.items ≡ out.old.items ++ line_text ns.now (word.now ∷ first.now ∷ second.now ∷ [])) }
+        (out.new.items ≡ out.old.items
+        ++ line_text ns.now (word.now ∷ first.now ∷ second.now ∷ [])) }
 {
     push_head(ns, word, out)?;
     push_word(first, out)?;
@@ -113,7 +115,8 @@ fn push_path_group(
     member: &Pattern,
     out: &mut Vec<u8>,
 ) -> Result<(), NoMemory>
-    ensures { OnOk result (out.new.items ≡ out.old.items ++ line_text ns.now (path_group_words name.now member.now)) }
+    ensures { OnOk result (out.new.items ≡ out.old.items ++ line_text ns.now
+        (path_group_words name.now member.now)) }
 {
     let name = name_text(alloc, name)?;
     let member = pattern_text(alloc, member)?;
@@ -130,7 +133,8 @@ fn push_number_group(
     out: &mut Vec<u8>,
 ) -> Result<(), NoMemory>
     ensures { OnOk result
-        (out.new.items ≡ out.old.items ++ line_text ns.now (number_group_words name.now member.now)) }
+        (out.new.items ≡ out.old.items
+        ++ line_text ns.now (number_group_words name.now member.now)) }
 {
     let name = name_text(alloc, name)?;
     let member = range_text(alloc, member)?;
@@ -147,7 +151,8 @@ fn push_address_group(
     out: &mut Vec<u8>,
 ) -> Result<(), NoMemory>
     ensures { OnOk result
-        (out.new.items ≡ out.old.items ++ line_text ns.now (address_group_words name.now member.now)) }
+        (out.new.items ≡ out.old.items
+        ++ line_text ns.now (address_group_words name.now member.now)) }
 {
     let name = name_text(alloc, name)?;
     let member = addr_range_text(alloc, member)?;
@@ -163,7 +168,8 @@ fn push_aggregator(
     second: &Word,
     out: &mut Vec<u8>,
 ) -> Result<(), NoMemory>
-    ensures { OnOk result (out.new.items ≡ out.old.items ++ line_text ns.now (aggregator_words first.now second.now)) }
+    ensures { OnOk result (out.new.items ≡ out.old.items ++ line_text ns.now
+        (aggregator_words first.now second.now)) }
 {
     let first = pattern_text(alloc, first)?;
     let second = name_text(alloc, second)?;
@@ -174,15 +180,7 @@ fn push_aggregator(
 fn kind_text(kind: ControlKind) -> &'static [u8]
     ensures { result.now ≡ kind_text kind }
 {
-    match kind {
-        ControlKind::NoReset => b"no_reset_domain",
-        ControlKind::Reset => b"reset_domain",
-        ControlKind::NoInitialize => b"no_initialize_domain",
-        ControlKind::Initialize => b"initialize_domain",
-        ControlKind::NoKeep => b"no_keep_domain",
-        ControlKind::Keep => b"keep_domain",
-        ControlKind::Ordinary => b"",
-    }
+    CONTROLS[kind as usize].0.as_bytes()
 }
 
 /// Appends the program's side after a space, or a part of it.
@@ -237,7 +235,8 @@ fn push_control(
     control: &Control,
     out: &mut Vec<u8>,
 ) -> Result<(), NoMemory>
-    ensures { OnOk result (out.new.items ≡ out.old.items ++ line_text ns.now (control_words control.now)) }
+    ensures { OnOk result
+        (out.new.items ≡ out.old.items ++ line_text ns.now (control_words control.now)) }
 {
     push_head(ns, kind_text(control.kind), out)?;
     push_sides(alloc, control, out)?;
@@ -264,7 +263,8 @@ fn push_acl_group(
     out: &mut Vec<u8>,
 ) -> Result<(), NoMemory>
     ensures { OnOk result
-        (out.new.items ≡ out.old.items ++ line_text ns.now (codes "acl_group" ∷ decimal number ∷ words.now)) }
+        (out.new.items ≡ out.old.items
+        ++ line_text ns.now (codes "acl_group" ∷ decimal number ∷ words.now)) }
 {
     push_head(ns, b"acl_group", out)?;
     push_decimal(alloc, number, out)?;
@@ -276,7 +276,8 @@ fn push_acl_group(
 /// Appends the line of a rule, or a part of it.
 #[tactic(auto, unfolding(crate::specs::Printing::rule_words))]
 fn push_rule(alloc: Global, ns: &[u8], rule: &ExceptRule, out: &mut Vec<u8>) -> Result<(), NoMemory>
-    ensures { OnOk result (out.new.items ≡ out.old.items ++ line_text ns.now (rule_words rule.now)) }
+    ensures { OnOk result
+        (out.new.items ≡ out.old.items ++ line_text ns.now (rule_words rule.now)) }
 {
     match rule {
         ExceptRule::PathGroup(name, member) => push_path_group(alloc, ns, name, member, out),
@@ -299,15 +300,17 @@ fn rule_text(alloc: Global, ns: &[u8], rule: &ExceptRule) -> Result<Vec<u8>, NoM
     Ok(made)
 }
 
-/// Appends the line of a rule with the namespace word in front: a group and its member, an aggregator, a control, always with
-/// `from`, or an ACL group with the words of its line. After want of memory `out` is as before.
+/// Appends the line of a rule with the namespace word in front: a group and its member, an
+/// aggregator, a control, always with `from`, or an ACL group with the words of its line. After
+/// want of memory `out` is as before.
 pub fn print_rule(
     alloc: Global,
     ns: &Text,
     rule: &ExceptRule,
     out: &mut Vec<u8>,
 ) -> Result<(), NoMemory>
-    ensures ok { OnOk result (out.new.items ≡ out.old.items ++ line_text ns.now (rule_words rule.now)) }
+    ensures ok { OnOk result
+        (out.new.items ≡ out.old.items ++ line_text ns.now (rule_words rule.now)) }
     ensures err { OnErr result (out.new.items ≡ out.old.items) }
 {
     let text = rule_text(alloc, ns.bytes(), rule)?;
@@ -366,7 +369,8 @@ fn push_aggregators(
     aggregators: &[(Pattern, Word)],
     out: &mut Vec<u8>,
 ) -> Result<(), NoMemory>
-    ensures { OnOk result (out.new.items ≡ out.old.items ++ aggregators_text ns.now aggregators.now) }
+    ensures { OnOk result
+        (out.new.items ≡ out.old.items ++ aggregators_text ns.now aggregators.now) }
 {
     for (first, second) in aggregators {
         push_aggregator(alloc, ns, first, second, out)?;
@@ -404,9 +408,9 @@ fn lists_text(alloc: Global, ns: &Namespace) -> Result<Vec<u8>, NoMemory>
     Ok(made)
 }
 
-/// Appends the printed lines of a namespace that come before those of its ACL groups: path groups, number groups, address groups,
-/// aggregators and controls, each list in written order and each line with the namespace word in front. After want of memory `out`
-/// is as before.
+/// Appends the printed lines of a namespace that come before those of its ACL groups: path groups,
+/// number groups, address groups, aggregators and controls, each list in written order and each
+/// line with the namespace word in front. After want of memory `out` is as before.
 pub fn print_lists(alloc: Global, ns: &Namespace, out: &mut Vec<u8>) -> Result<(), NoMemory>
     ensures ok { OnOk result (out.new.items ≡ out.old.items ++ lists_text ns.now) }
     ensures err { OnErr result (out.new.items ≡ out.old.items) }
@@ -415,28 +419,35 @@ pub fn print_lists(alloc: Global, ns: &Namespace, out: &mut Vec<u8>) -> Result<(
     out.extend_from_slice(&text)
 }
 
-/// A law, nothing to run: the words of a printed line are read again as that line, and what is read is a line that can be printed.
+/// A law, nothing to run: the words of a printed line are read again as that line, and what is read
+/// is a line that can be printed.
 pub fn round_trip()
-    ensures again { (delete : Bool) (name : Text) (rule : ExceptRule) → IsNamespace name → is_rule rule ≡ true
+    ensures again { (delete : Bool) (name : Text) (rule : ExceptRule) → IsNamespace name
+        → is_rule rule ≡ true
         → line_of (line_words (line delete name rule)) ≡ Ok (line delete name rule) }
     ensures found { (words : List Text) (line : ExceptLine) → line_of words ≡ Ok line
         → IsNamespace line.namespace × (is_rule line.rule ≡ true) }
 {}
 
-/// A law, nothing to run: the printed words of a rule are words of a line, none empty and none with a byte that separates words, where
-/// the words that an ACL group keeps are so, as they are when they were read from a line. So the line that joins them has these words,
-/// and it is the first line of a text that begins with the printed one.
+/// A law, nothing to run: the printed words of a rule are words of a line, none empty and none with
+/// a byte that separates words, where the words that an ACL group keeps are so, as they are when
+/// they were read from a line. So the line that joins them has these words, and it is the first
+/// line of a text that begins with the printed one.
 pub fn printed_words()
     ensures words { (rule : ExceptRule) → is_rule rule ≡ true → keeps_words rule ≡ true
         → list_all is_word (rule_words rule) ≡ true }
     ensures listed { (rule : ExceptRule) → is_rule rule ≡ true → is_listed rule ≡ true
         → list_all is_word (rule_words rule) ≡ true }
-    ensures kept { (words : List Text) (line : ExceptLine) → list_all is_word words ≡ true → line_of words ≡ Ok line
+    ensures kept { (words : List Text) (line : ExceptLine) → list_all is_word words ≡ true
+        → line_of words ≡ Ok line
         → keeps_words line.rule ≡ true }
-    ensures joined { (delete : Bool) (name : Text) (rule : ExceptRule) → IsNamespace name → is_rule rule ≡ true
+    ensures joined { (delete : Bool) (name : Text) (rule : ExceptRule) → IsNamespace name
+        → is_rule rule ≡ true
         → keeps_words rule ≡ true
-        → words_of (joined (line_words (line delete name rule))) ≡ line_words (line delete name rule) }
-    ensures text { (name : Text) (rule : ExceptRule) (rest : Text) → IsNamespace name → is_rule rule ≡ true
+        → words_of (joined (line_words (line delete name rule)))
+        ≡ line_words (line delete name rule) }
+    ensures text { (name : Text) (rule : ExceptRule) (rest : Text) → IsNamespace name
+        → is_rule rule ≡ true
         → keeps_words rule ≡ true
         → lines_of (line_text name (rule_words rule) ++ rest)
         ≡ joined (line_words (line false name rule)) ∷ lines_of rest }

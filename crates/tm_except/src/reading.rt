@@ -16,7 +16,9 @@ use tm_number::{AddrRange, Range};
 use tm_types::entry::LineKind;
 use tm_types::policy::{ControlKind, ExceptLine, ExceptRule};
 use tm_types::step::LineFault;
-use tm_word::{Pattern, Text, Word, begins, begins_with, bytes_equal, spelled_word};
+use tm_word::{
+    Pattern, Text, Word, begins, begins_in, begins_with, bytes_equal, spelled_word, value_of,
+};
 
 /// What a line's leading word begins.
 #[derive(Clone, Copy)]
@@ -34,6 +36,26 @@ pub enum Head {
     /// `acl_group N` and the line of an entry.
     Acl,
 }
+
+/// The leading words of groups and aggregators.
+const LISTS: [(&str, Head); 5] = [
+    ("path_group", Head::PathGroup),
+    ("number_group", Head::NumberGroup),
+    ("address_group", Head::AddressGroup),
+    ("aggregator", Head::Aggregator),
+    ("acl_group", Head::Acl),
+];
+
+/// The kinds of controls, by their words. The last one, which no control has, is never written.
+pub(crate) const CONTROLS: [(&str, ControlKind); 7] = [
+    ("no_reset_domain", ControlKind::NoReset),
+    ("reset_domain", ControlKind::Reset),
+    ("no_initialize_domain", ControlKind::NoInitialize),
+    ("initialize_domain", ControlKind::Initialize),
+    ("no_keep_domain", ControlKind::NoKeep),
+    ("keep_domain", ControlKind::Keep),
+    ("", ControlKind::Ordinary),
+];
 
 /// The member of a path group: a pattern, not empty and without `@` in front.
 #[tactic(auto, unfolding(crate::specs::Reading::member_word))]
@@ -57,7 +79,8 @@ fn first_word(alloc: Global, text: &[u8]) -> Result<Pattern, LineFault>
     }
 }
 
-/// Reads a literal path, which is the spelled word of a name that begins with `/`, as that name. Errors: `Name`.
+/// Reads a literal path, which is the spelled word of a name that begins with `/`, as that name.
+/// Errors: `Name`.
 #[tactic(auto, unfolding(crate::specs::Reading::literal_word))]
 pub fn literal_word(alloc: Global, text: &[u8]) -> Result<Word, LineFault>
     ensures { Gives line_cause (λ x. x) result (literal_word text.now) }
@@ -133,7 +156,8 @@ fn literal_at(alloc: Global, words: &[Text]) -> Result<(Word, &[Text]), LineFaul
 
 /// The number of an ACL group as the first word, and the words after it.
 fn number_at(words: &[Text]) -> Result<(u8, &[Text]), LineFault>
-    ensures { GivesNow line_cause (λ x. (x.0, x.1.now)) result (word_at (plain_word 256) words.now) }
+    ensures { GivesNow line_cause (λ x. (x.0, x.1.now)) result
+        (word_at (plain_word 256) words.now) }
 {
     match words {
         [] => Err(LineFault::Kind(LineKind::Arity)),
@@ -211,25 +235,7 @@ fn acl_group(alloc: Global, words: &[Text]) -> Result<ExceptRule, LineFault>
 fn control_word(word: &[u8]) -> Option<ControlKind>
     ensures { result ≡ control_word word.now }
 {
-    if bytes_equal(word, b"no_reset_domain") {
-        return Some(ControlKind::NoReset);
-    }
-    if bytes_equal(word, b"reset_domain") {
-        return Some(ControlKind::Reset);
-    }
-    if bytes_equal(word, b"no_initialize_domain") {
-        return Some(ControlKind::NoInitialize);
-    }
-    if bytes_equal(word, b"initialize_domain") {
-        return Some(ControlKind::Initialize);
-    }
-    if bytes_equal(word, b"no_keep_domain") {
-        return Some(ControlKind::NoKeep);
-    }
-    if bytes_equal(word, b"keep_domain") {
-        return Some(ControlKind::Keep);
-    }
-    None
+    value_of(&CONTROLS[..6], word)
 }
 
 /// What a leading word begins.
@@ -237,20 +243,8 @@ fn control_word(word: &[u8]) -> Option<ControlKind>
 fn head_of(word: &[u8]) -> Option<Head>
     ensures { result ≡ head_of word.now }
 {
-    if bytes_equal(word, b"path_group") {
-        return Some(Head::PathGroup);
-    }
-    if bytes_equal(word, b"number_group") {
-        return Some(Head::NumberGroup);
-    }
-    if bytes_equal(word, b"address_group") {
-        return Some(Head::AddressGroup);
-    }
-    if bytes_equal(word, b"aggregator") {
-        return Some(Head::Aggregator);
-    }
-    if bytes_equal(word, b"acl_group") {
-        return Some(Head::Acl);
+    if let Some(head) = value_of(&LISTS, word) {
+        return Some(head);
     }
     match control_word(word) {
         Some(kind) => Some(Head::Control(kind)),
@@ -263,19 +257,7 @@ fn head_of(word: &[u8]) -> Option<Head>
 fn begins_list(word: &[u8]) -> bool
     ensures { result ≡ begins_list word.now }
 {
-    if begins(word, b"path_group") {
-        return true;
-    }
-    if begins(word, b"number_group") {
-        return true;
-    }
-    if begins(word, b"address_group") {
-        return true;
-    }
-    if begins(word, b"aggregator") {
-        return true;
-    }
-    begins(word, b"acl_group")
+    begins_in(&LISTS, word)
 }
 
 /// Whether the leading word of a control begins so.
@@ -283,22 +265,7 @@ fn begins_list(word: &[u8]) -> bool
 fn begins_control(word: &[u8]) -> bool
     ensures { result ≡ begins_control word.now }
 {
-    if begins(word, b"no_reset_domain") {
-        return true;
-    }
-    if begins(word, b"reset_domain") {
-        return true;
-    }
-    if begins(word, b"no_initialize_domain") {
-        return true;
-    }
-    if begins(word, b"initialize_domain") {
-        return true;
-    }
-    if begins(word, b"no_keep_domain") {
-        return true;
-    }
-    begins(word, b"keep_domain")
+    begins_in(&CONTROLS[..6], word)
 }
 
 /// Whether a leading word begins so; `delete` may be one at the very front.
@@ -306,13 +273,7 @@ fn begins_control(word: &[u8]) -> bool
 fn begins_rule(first: bool, word: &[u8]) -> bool
     ensures { result ≡ begins_rule first word.now }
 {
-    if begins_list(word) {
-        return true;
-    }
-    if begins_control(word) {
-        return true;
-    }
-    first && begins(word, b"delete")
+    begins_list(word) || begins_control(word) || (first && begins(word, b"delete"))
 }
 
 /// The kind of a wrong leading word.
@@ -361,13 +322,14 @@ fn named_line(alloc: Global, delete: bool, words: &[Text]) -> Result<ExceptLine,
     }
 }
 
-/// Reads a line of the exception policy, of which these are the words. It may begin with `delete`, and then with a namespace word,
-/// else it is one of `<kernel>`; then comes a group and its member, an aggregator, a domain transition control, or an ACL group,
-/// whose line stays as words.
+/// Reads a line of the exception policy, of which these are the words. It may begin with `delete`,
+/// and then with a namespace word, else it is one of `<kernel>`; then comes a group and its member,
+/// an aggregator, a domain transition control, or an ACL group, whose line stays as words.
 ///
-/// Errors: the kind of the first word at which the line can't go on, or want of memory. `Keyword` is a wrong leading word, `Arity`
-/// a missing or an extra word or an unfinished keyword at the end, `Name` a wrong group, pattern or path, `Number` and `Address` a
-/// wrong range or ACL group's number, `Domain` a wrong domain name or namespace word.
+/// Errors: the kind of the first word at which the line can't go on, or want of memory. `Keyword`
+/// is a wrong leading word, `Arity` a missing or an extra word or an unfinished keyword at the end,
+/// `Name` a wrong group, pattern or path, `Number` and `Address` a wrong range or ACL group's
+/// number, `Domain` a wrong domain name or namespace word.
 #[tactic(auto, unfolding(crate::specs::Reading::line_of))]
 pub fn read_exception(alloc: Global, words: &[Text]) -> Result<ExceptLine, LineFault>
     ensures { Gives line_cause (λ x. x) result (line_of words.now) }

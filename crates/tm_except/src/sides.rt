@@ -177,15 +177,7 @@ fn keep_line(alloc: Global, kind: ControlKind, words: &[Text]) -> Result<Control
 fn is_keep(kind: ControlKind) -> bool
     ensures { result ≡ is_keep kind }
 {
-    match kind {
-        ControlKind::NoReset => false,
-        ControlKind::Reset => false,
-        ControlKind::NoInitialize => false,
-        ControlKind::Initialize => false,
-        ControlKind::NoKeep => true,
-        ControlKind::Keep => true,
-        ControlKind::Ordinary => false,
-    }
+    matches!(kind, ControlKind::NoKeep | ControlKind::Keep)
 }
 
 /// The control of this kind that the words after its keyword write.

@@ -238,7 +238,7 @@ args_right Row.PathNumber alone bits words x set one e =
     let a = bind_ok (name_at words) (λ name. number_at name.1 >>= λ number. Ok (Args.PathNumber name.0 number.0, number.1)) x e in
     let b = bind_ok (number_at a.0.1) (λ number. Ok (Args.PathNumber a.0.0 number.0, number.1)) x a.2 in
     let made : Read = (Args.PathNumber a.0.0 b.0.0, b.0.1) in
-    subst (λ (y : Read). is_file y.0 bits ≡ true) (ok_is made x b.2)
+    subst (λ (y : Read). is_file y.0 bits ≡ true) {x = made} (ok_is made x b.2)
     (three (is_set Row.PathNumber bits) (is_name a.0.0) (is_number b.0.0) set (name_at_read words a.0 a.1) (number_at_read a.0.1 b.0 b.1))
 args_right Row.Device alone bits words x set one e =
     let a = bind_ok (name_at words) (λ name. number_at name.1 >>= λ mode. number_at mode.1 >>= λ major. number_at major.1 >>= λ minor. Ok (Args.Device name.0 mode.0 major.0 minor.0, minor.1)) x e in
@@ -246,13 +246,13 @@ args_right Row.Device alone bits words x set one e =
     let c = bind_ok (number_at b.0.1) (λ major. number_at major.1 >>= λ minor. Ok (Args.Device a.0.0 b.0.0 major.0 minor.0, minor.1)) x b.2 in
     let d = bind_ok (number_at c.0.1) (λ minor. Ok (Args.Device a.0.0 b.0.0 c.0.0 minor.0, minor.1)) x c.2 in
     let made : Read = (Args.Device a.0.0 b.0.0 c.0.0 d.0.0, d.0.1) in
-    subst (λ (y : Read). is_file y.0 bits ≡ true) (ok_is made x d.2)
+    subst (λ (y : Read). is_file y.0 bits ≡ true) {x = made} (ok_is made x d.2)
     (five (is_set Row.Device bits) (is_name a.0.0) (is_number b.0.0) (is_number c.0.0) (is_number d.0.0) set (name_at_read words a.0 a.1) (number_at_read a.0.1 b.0 b.1) (number_at_read b.0.1 c.0 c.1) (number_at_read c.0.1 d.0 d.1))
 args_right Row.Pair alone bits words x set one e =
     let a = bind_ok (name_at words) (λ first. name_at first.1 >>= λ second. Ok (Args.Path2 first.0 second.0, second.1)) x e in
     let b = bind_ok (name_at a.0.1) (λ second. Ok (Args.Path2 a.0.0 second.0, second.1)) x a.2 in
     let made : Read = (Args.Path2 a.0.0 b.0.0, b.0.1) in
-    subst (λ (y : Read). is_file y.0 bits ≡ true) (ok_is made x b.2)
+    subst (λ (y : Read). is_file y.0 bits ≡ true) {x = made} (ok_is made x b.2)
     (three (is_set Row.Pair bits) (is_name a.0.0) (is_name b.0.0) set (name_at_read words a.0 a.1) (name_at_read a.0.1 b.0 b.1))
 args_right Row.Listening alone bits words x set one e = absurd cc
 args_right Row.Sending alone bits words x set one e = absurd cc
@@ -265,7 +265,7 @@ mount_right words x e =
     let c = bind_ok (name_at b.0.1) (λ type. number_at type.1 >>= λ flags. Ok (Args.Mount a.0.0 b.0.0 type.0 flags.0, flags.1)) x b.2 in
     let d = bind_ok (number_at c.0.1) (λ flags. Ok (Args.Mount a.0.0 b.0.0 c.0.0 flags.0, flags.1)) x c.2 in
     let made : Read = (Args.Mount a.0.0 b.0.0 c.0.0 d.0.0, d.0.1) in
-    subst (λ (y : Read). is_file y.0 1 ≡ true) (ok_is made x d.2)
+    subst (λ (y : Read). is_file y.0 1 ≡ true) {x = made} (ok_is made x d.2)
     (five true (is_name a.0.0) (is_name b.0.0) (is_name c.0.0) (is_number d.0.0) refl (name_at_read words a.0 a.1) (name_at_read a.0.1 b.0 b.1) (name_at_read b.0.1 c.0 c.1) (number_at_read c.0.1 d.0 d.1))
 
 abbrev Whole : Type 0
@@ -278,7 +278,7 @@ with_right : (bits : ℕ) (r : Result Read LineKind) (x : Whole) → ((y : Read)
 with_right bits r x known e =
     let b = bind_ok r (λ y. Ok (y.0, perms bits, y.1)) x e in
     let made : Whole = (b.0.0, perms bits, b.0.1) in
-    subst Right (ok_is made x b.2) (known b.0 b.1)
+    subst Right {x = made} (ok_is made x b.2) (known b.0 b.1)
 
 -- the word `execute` is one permission
 one_bit : (word : Text) (last : Bool) (bits : ℕ) → texts_equal word (codes "execute") ≡ true → perms_of Row.Path word last ≡ Ok bits → bits ≡ 1

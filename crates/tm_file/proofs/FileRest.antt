@@ -36,27 +36,27 @@ path_part : (word : Text) (words : Line) (x : Found) → (path_word word >>= λ 
 path_part word words x e =
     let b = bind_ok (path_word word) (λ path. Ok (Some (Prefer.Path path), words)) x e in
     let made : Found = (Some (Prefer.Path b.0), words) in
-    subst (λ (y : Found). Rest (word ∷ words) y.1) (ok_is made x b.2) (word ∷ [], refl)
+    subst (λ (y : Found). Rest (word ∷ words) y.1) {x = made} (ok_is made x b.2) (word ∷ [], refl)
 
 domain_part : (words : Line) (x : Found) → (domain_at words >>= λ y. Ok (Some (Prefer.Domain y.0), y.1)) ≡ Ok x → Rest words x.1
 domain_part words x e =
     let b = bind_ok (domain_at words) (λ y. Ok (Some (Prefer.Domain y.0), y.1)) x e in
     let made : Found = (Some (Prefer.Domain b.0.0), b.0.1) in
-    subst (λ (y : Found). Rest words y.1) (ok_is made x b.2) (domain_rest words b.0 b.1)
+    subst (λ (y : Found). Rest words y.1) {x = made} (ok_is made x b.2) (domain_rest words b.0 b.1)
 
 place_part : (slash angle : Bool) (word : Text) (words : Line) (x : Found)
     → cond slash (path_word word >>= λ path. Ok (Some (Prefer.Path path), words)) (cond angle (domain_at (word ∷ words) >>= λ y. Ok (Some (Prefer.Domain y.0), y.1)) (Ok (None, word ∷ words))) ≡ Ok x → Rest (word ∷ words) x.1
 place_part true angle word words x e = path_part word words x e
 place_part false true word words x e = domain_part (word ∷ words) x e
-place_part false false word words x e = let made : Found = (None, word ∷ words) in subst (λ (y : Found). Rest (word ∷ words) y.1) (ok_is made x e) (rest_none (word ∷ words))
+place_part false false word words x e = let made : Found = (None, word ∷ words) in subst (λ (y : Found). Rest (word ∷ words) y.1) {x = made} (ok_is made x e) (rest_none (word ∷ words))
 
 turn_part : (o : Option Prefer) (word : Text) (words : Line) (x : Found) → turn_or_place o word words ≡ Ok x → Rest (word ∷ words) x.1
-turn_part (Some turn) word words x e = let made : Found = (Some turn, words) in subst (λ (y : Found). Rest (word ∷ words) y.1) (ok_is made x e) (word ∷ [], refl)
+turn_part (Some turn) word words x e = let made : Found = (Some turn, words) in subst (λ (y : Found). Rest (word ∷ words) y.1) {x = made} (ok_is made x e) (word ∷ [], refl)
 turn_part None word words x e = place_part (begins_with_byte 47 word) (begins_with_byte 60 word) word words x e
 
 prefer_rest : (words : Line) (x : Found) → prefer_at words ≡ Ok x → Rest words x.1
 unfolding prefer_at
-prefer_rest [] x e = let made : Found = (None, []) in subst (λ (y : Found). Rest [] y.1) (ok_is made x e) (rest_none [])
+prefer_rest [] x e = let made : Found = (None, []) in subst (λ (y : Found). Rest [] y.1) {x = made} (ok_is made x e) (rest_none [])
 prefer_rest (word ∷ words) x e = turn_part (turn_of word) word words x e
 
 path_rest : (alone : Bool) (words : Line) (x : Read) → path_at alone words ≡ Ok x → Rest words x.1
@@ -64,12 +64,12 @@ unfolding path_at
 path_rest false words x e =
     let a = bind_ok (name_at words) (λ name. Ok (Args.Path name.0, name.1)) x e in
     let made : Read = (Args.Path a.0.0, a.0.1) in
-    subst (λ (y : Read). Rest words y.1) (ok_is made x a.2) (name_rest words a.0 a.1)
+    subst (λ (y : Read). Rest words y.1) {x = made} (ok_is made x a.2) (name_rest words a.0 a.1)
 path_rest true words x e =
     let a = bind_ok (name_at words) (λ name. prefer_at name.1 >>= λ found. Ok (with_prefer name.0 found.0, found.1)) x e in
     let b = bind_ok (prefer_at a.0.1) (λ found. Ok (with_prefer a.0.0 found.0, found.1)) x a.2 in
     let made : Read = (with_prefer a.0.0 b.0.0, b.0.1) in
-    subst (λ (y : Read). Rest words y.1) (ok_is made x b.2) (rest_then words a.0.1 b.0.1 (name_rest words a.0 a.1) (prefer_rest a.0.1 b.0 b.1))
+    subst (λ (y : Read). Rest words y.1) {x = made} (ok_is made x b.2) (rest_then words a.0.1 b.0.1 (name_rest words a.0 a.1) (prefer_rest a.0.1 b.0 b.1))
 
 -- ---- rows
 
@@ -80,7 +80,7 @@ args_rest Row.PathNumber alone words x e =
     let a = bind_ok (name_at words) (λ name. number_at name.1 >>= λ number. Ok (Args.PathNumber name.0 number.0, number.1)) x e in
     let b = bind_ok (number_at a.0.1) (λ number. Ok (Args.PathNumber a.0.0 number.0, number.1)) x a.2 in
     let made : Read = (Args.PathNumber a.0.0 b.0.0, b.0.1) in
-    subst (λ (y : Read). Rest words y.1) (ok_is made x b.2) (rest_then words a.0.1 b.0.1 (name_rest words a.0 a.1) (number_rest a.0.1 b.0 b.1))
+    subst (λ (y : Read). Rest words y.1) {x = made} (ok_is made x b.2) (rest_then words a.0.1 b.0.1 (name_rest words a.0 a.1) (number_rest a.0.1 b.0 b.1))
 args_rest Row.Device alone words x e =
     let a = bind_ok (name_at words) (λ name. number_at name.1 >>= λ mode. number_at mode.1 >>= λ major. number_at major.1 >>= λ minor. Ok (Args.Device name.0 mode.0 major.0 minor.0, minor.1)) x e in
     let b = bind_ok (number_at a.0.1) (λ mode. number_at mode.1 >>= λ major. number_at major.1 >>= λ minor. Ok (Args.Device a.0.0 mode.0 major.0 minor.0, minor.1)) x a.2 in
@@ -88,12 +88,12 @@ args_rest Row.Device alone words x e =
     let d = bind_ok (number_at c.0.1) (λ minor. Ok (Args.Device a.0.0 b.0.0 c.0.0 minor.0, minor.1)) x c.2 in
     let made : Read = (Args.Device a.0.0 b.0.0 c.0.0 d.0.0, d.0.1) in
     let three : Rest words c.0.1 = rest_then words b.0.1 c.0.1 (rest_then words a.0.1 b.0.1 (name_rest words a.0 a.1) (number_rest a.0.1 b.0 b.1)) (number_rest b.0.1 c.0 c.1) in
-    subst (λ (y : Read). Rest words y.1) (ok_is made x d.2) (rest_then words c.0.1 d.0.1 three (number_rest c.0.1 d.0 d.1))
+    subst (λ (y : Read). Rest words y.1) {x = made} (ok_is made x d.2) (rest_then words c.0.1 d.0.1 three (number_rest c.0.1 d.0 d.1))
 args_rest Row.Pair alone words x e =
     let a = bind_ok (name_at words) (λ first. name_at first.1 >>= λ second. Ok (Args.Path2 first.0 second.0, second.1)) x e in
     let b = bind_ok (name_at a.0.1) (λ second. Ok (Args.Path2 a.0.0 second.0, second.1)) x a.2 in
     let made : Read = (Args.Path2 a.0.0 b.0.0, b.0.1) in
-    subst (λ (y : Read). Rest words y.1) (ok_is made x b.2) (rest_then words a.0.1 b.0.1 (name_rest words a.0 a.1) (name_rest a.0.1 b.0 b.1))
+    subst (λ (y : Read). Rest words y.1) {x = made} (ok_is made x b.2) (rest_then words a.0.1 b.0.1 (name_rest words a.0 a.1) (name_rest a.0.1 b.0 b.1))
 args_rest Row.Listening alone words x e = absurd cc
 args_rest Row.Sending alone words x e = absurd cc
 
@@ -106,7 +106,7 @@ mount_rest words x e =
     let d = bind_ok (number_at c.0.1) (λ flags. Ok (Args.Mount a.0.0 b.0.0 c.0.0 flags.0, flags.1)) x c.2 in
     let made : Read = (Args.Mount a.0.0 b.0.0 c.0.0 d.0.0, d.0.1) in
     let three : Rest words c.0.1 = rest_then words b.0.1 c.0.1 (rest_then words a.0.1 b.0.1 (name_rest words a.0 a.1) (name_rest a.0.1 b.0 b.1)) (name_rest b.0.1 c.0 c.1) in
-    subst (λ (y : Read). Rest words y.1) (ok_is made x d.2) (rest_then words c.0.1 d.0.1 three (number_rest c.0.1 d.0 d.1))
+    subst (λ (y : Read). Rest words y.1) {x = made} (ok_is made x d.2) (rest_then words c.0.1 d.0.1 three (number_rest c.0.1 d.0 d.1))
 
 -- ---- lines
 
@@ -114,7 +114,7 @@ with_rest : (bits : ℕ) (words : Line) (r : Result Read LineKind) (x : Whole) �
 with_rest bits words r x known e =
     let b = bind_ok r (λ y. Ok (y.0, perms bits, y.1)) x e in
     let made : Whole = (b.0.0, perms bits, b.0.1) in
-    subst (λ (y : Whole). Rest words y.2) (ok_is made x b.2) (known b.0 b.1)
+    subst (λ (y : Whole). Rest words y.2) {x = made} (ok_is made x b.2) (known b.0 b.1)
 
 row_rest : (o : Option Row) (word : Text) (words : Line) (x : Whole) → row_line o word words ≡ Ok x → Rest words x.2
 unfolding row_line

@@ -101,28 +101,28 @@ path_right word words x e =
     let b = bind_ok (path_word word) (λ path. Ok (Some (Prefer.Path path), words)) x e in
     let is = chosen (is_path word) word b.0 LineKind.Name b.1 in
     let made : Found = (Some (Prefer.Path b.0), words) in
-    subst (λ (y : Found). IsRight y.0) (ok_is made x b.2) (subst (λ t. is_path t ≡ true) is.1 is.0)
+    subst (λ (y : Found). IsRight y.0) {x = made} (ok_is made x b.2) (subst (λ t. is_path t ≡ true) is.1 is.0)
 
 domain_right : (words : List Text) (x : Found) → (domain_at words >>= λ y. Ok (Some (Prefer.Domain y.0), y.1)) ≡ Ok x → IsRight x.0
 unfolding is_prefer
 domain_right words x e =
     let b = bind_ok (domain_at words) (λ y. Ok (Some (Prefer.Domain y.0), y.1)) x e in
     let made : Found = (Some (Prefer.Domain b.0.0), b.0.1) in
-    subst (λ (y : Found). IsRight y.0) (ok_is made x b.2) (at_right words b.0 b.1)
+    subst (λ (y : Found). IsRight y.0) {x = made} (ok_is made x b.2) (at_right words b.0 b.1)
 
 place_right : (slash angle : Bool) (word : Text) (words : List Text) (x : Found)
     → cond slash (path_word word >>= λ path. Ok (Some (Prefer.Path path), words)) (cond angle (domain_at (word ∷ words) >>= λ y. Ok (Some (Prefer.Domain y.0), y.1)) (Ok (None, word ∷ words))) ≡ Ok x → IsRight x.0
 place_right true angle word words x e = path_right word words x e
 place_right false true word words x e = domain_right (word ∷ words) x e
-place_right false false word words x e = let made : Found = (None, word ∷ words) in subst (λ (y : Found). IsRight y.0) (ok_is made x e) tt
+place_right false false word words x e = let made : Found = (None, word ∷ words) in subst (λ (y : Found). IsRight y.0) {x = made} (ok_is made x e) tt
 
 turn_or_right : (o : Option Prefer) (word : Text) (words : List Text) (x : Found) → IsRight o → turn_or_place o word words ≡ Ok x → IsRight x.0
-turn_or_right (Some turn) word words x h e = let made : Found = (Some turn, words) in subst (λ (y : Found). IsRight y.0) (ok_is made x e) h
+turn_or_right (Some turn) word words x h e = let made : Found = (Some turn, words) in subst (λ (y : Found). IsRight y.0) {x = made} (ok_is made x e) h
 turn_or_right None word words x h e = place_right (begins_with_byte 47 word) (begins_with_byte 60 word) word words x e
 
 pub prefer_read : (words : List Text) (x : Found) → prefer_at words ≡ Ok x → IsRight x.0
 unfolding prefer_at
-prefer_read [] x e = let made : Found = (None, []) in subst (λ (y : Found). IsRight y.0) (ok_is made x e) tt
+prefer_read [] x e = let made : Found = (None, []) in subst (λ (y : Found). IsRight y.0) {x = made} (ok_is made x e) tt
 prefer_read (word ∷ words) x e = turn_or_right (turn_of word) word words x (turn_right word) e
 
 -- ---- a name and a preference
@@ -155,9 +155,9 @@ unfolding path_at
 path_read false words x e =
     let a = bind_ok (name_at words) (λ name. Ok (Args.Path name.0, name.1)) x e in
     let made : Read = (Args.Path a.0.0, a.0.1) in
-    subst (λ (y : Read). IsPath false y.0) (ok_is made x a.2) (inl (a.0.0, name_at_read words a.0 a.1, refl))
+    subst (λ (y : Read). IsPath false y.0) {x = made} (ok_is made x a.2) (inl (a.0.0, name_at_read words a.0 a.1, refl))
 path_read true words x e =
     let a = bind_ok (name_at words) (λ name. prefer_at name.1 >>= λ found. Ok (with_prefer name.0 found.0, found.1)) x e in
     let b = bind_ok (prefer_at a.0.1) (λ found. Ok (with_prefer a.0.0 found.0, found.1)) x a.2 in
     let made : Read = (with_prefer a.0.0 b.0.0, b.0.1) in
-    subst (λ (y : Read). IsPath true y.0) (ok_is made x b.2) (with_right a.0.0 b.0.0 (name_at_read words a.0 a.1) (prefer_read a.0.1 b.0 b.1))
+    subst (λ (y : Read). IsPath true y.0) {x = made} (ok_is made x b.2) (with_right a.0.0 b.0.0 (name_at_read words a.0 a.1) (prefer_read a.0.1 b.0 b.1))

@@ -1,16 +1,15 @@
 //! Reading the lines of files.
-ghost use Rattle.std.specs.Prelude.{◌≡◌, ◌≤◌, ◌++◌, ◌-◌, ℕ, true, List, Ok, length, drop, IfOk};
+ghost use Rattle.std.specs.Prelude.{◌≡◌, ◌≤◌, ◌-◌, ℕ, true, false, List, Ok, length, drop, IfOk};
 ghost use Rattle.std.specs.List.{list_all};
 ghost use Rattle.tm_word.specs.Spelling.{words_of, joined};
 ghost use Rattle.tm_word.specs.Texts.{is_word};
 ghost use Rattle.tm_types.specs.declared.entry.Args.{Args};
 ghost use Rattle.tm_types.specs.declared.entry.Perms.{Perms};
 ghost use Rattle.tm_word.specs.Words.{Text};
-ghost use Rattle.tm_file.specs.Preferences.{no_prefer};
 ghost use Rattle.tm_word.specs.Gives.{Gives};
 ghost use Rattle.tm_line.specs.Lines.{line_cause};
 ghost use Rattle.tm_line.specs.Permissions.{pieces_of};
-ghost use Rattle.tm_file.specs.FileLines.{row_of, row_in, starts_any, is_unfinished, args_at, mount_at, row_line, perms_line, file_line, counted, file_words, is_file, perms};
+ghost use Rattle.tm_file.specs.FileLines.{row_of, row_in, starts_any, is_unfinished, args_at, mount_at, row_line, perms_line, file_line, counted, file_words, is_file, perms, IsReadAgain};
 
 use crate::prefer::path_at;
 use std::alloc::Global;
@@ -67,6 +66,39 @@ fn is_unfinished(pieces: &[Text]) -> bool
     }
 }
 
+// A name and a number.
+#[tactic(auto, unfolding(crate::specs::FileLines::args_at))]
+fn numbered_at(alloc: Global, words: &[Text]) -> Result<(Args, &[Text]), LineFault>
+    ensures { Gives line_cause (λ x. (x.0, x.1.now)) result
+        (args_at Row.PathNumber false words.now) }
+{
+    let (name, rest) = name_at(alloc, words)?;
+    let (number, rest) = number_at(alloc, rest)?;
+    Ok((Args::PathNumber(name, number), rest))
+}
+
+// A name and the three numbers of a device.
+#[tactic(auto, unfolding(crate::specs::FileLines::args_at))]
+fn device_at(alloc: Global, words: &[Text]) -> Result<(Args, &[Text]), LineFault>
+    ensures { Gives line_cause (λ x. (x.0, x.1.now)) result (args_at Row.Device false words.now) }
+{
+    let (name, rest) = name_at(alloc, words)?;
+    let (mode, rest) = number_at(alloc, rest)?;
+    let (major, rest) = number_at(alloc, rest)?;
+    let (minor, rest) = number_at(alloc, rest)?;
+    Ok((Args::Device(name, mode, major, minor), rest))
+}
+
+// Two names.
+#[tactic(auto, unfolding(crate::specs::FileLines::args_at))]
+fn pair_at(alloc: Global, words: &[Text]) -> Result<(Args, &[Text]), LineFault>
+    ensures { Gives line_cause (λ x. (x.0, x.1.now)) result (args_at Row.Pair false words.now) }
+{
+    let (first, rest) = name_at(alloc, words)?;
+    let (second, rest) = name_at(alloc, rest)?;
+    Ok((Args::Path2(first, second), rest))
+}
+
 // The arguments of a row.
 #[tactic(auto, unfolding(crate::specs::FileLines::args_at))]
 fn args_at(
@@ -79,23 +111,9 @@ fn args_at(
 {
     match row {
         Row::Path => path_at(alloc, alone, words),
-        Row::PathNumber => {
-            let (name, rest) = name_at(alloc, words)?;
-            let (number, rest) = number_at(alloc, rest)?;
-            Ok((Args::PathNumber(name, number), rest))
-        }
-        Row::Device => {
-            let (name, rest) = name_at(alloc, words)?;
-            let (mode, rest) = number_at(alloc, rest)?;
-            let (major, rest) = number_at(alloc, rest)?;
-            let (minor, rest) = number_at(alloc, rest)?;
-            Ok((Args::Device(name, mode, major, minor), rest))
-        }
-        Row::Pair => {
-            let (first, rest) = name_at(alloc, words)?;
-            let (second, rest) = name_at(alloc, rest)?;
-            Ok((Args::Path2(first, second), rest))
-        }
+        Row::PathNumber => numbered_at(alloc, words),
+        Row::Device => device_at(alloc, words),
+        Row::Pair => pair_at(alloc, words),
         Row::Listening | Row::Sending => Err(LineFault::Kind(LineKind::Keyword)),
     }
 }
@@ -119,7 +137,8 @@ fn row_line<'a>(
     word: &[u8],
     words: &'a [Text],
 ) -> Result<(Args, Perms, &'a [Text]), LineFault>
-    ensures { Gives line_cause (λ x. (x.0, x.1, x.2.now)) result (row_line (row_in (pieces_of word.now)) word.now words.now) }
+    ensures { Gives line_cause (λ x. (x.0, x.1, x.2.now)) result
+        (row_line (row_in (pieces_of word.now)) word.now words.now) }
 {
     let pieces = pieces_of(alloc, word)?;
     match row_in(&pieces) {
@@ -156,11 +175,13 @@ fn perms_line(alloc: Global, words: &[Text]) -> Result<(Args, Perms, &[Text]), L
     }
 }
 
-/// Reads a file line at the front of these words: its arguments and permissions, and the words after them, which are its conditions.
-/// Permissions of one row may be joined by `/`, in any order and repeated; a transition preference is read where the word of the
-/// permissions is `execute`.
+/// Reads a file line at the front of these words: its arguments and permissions, and the words
+/// after them, which are its conditions.
+/// Permissions of one row may be joined by `/`, in any order and repeated; a transition preference
+/// is read where the word of the permissions is `execute`.
 ///
-/// Errors: the kind of the first word at which the line can't go on, and `Arity` where a word is missing.
+/// Errors: the kind of the first word at which the line can't go on, and `Arity` where a word is
+/// missing.
 #[tactic(auto, unfolding(crate::specs::FileLines::file_line))]
 pub fn file_acl_at(alloc: Global, words: &[Text]) -> Result<(Args, Perms, &[Text]), LineFault>
     ensures { Gives line_cause (λ x. (x.0, x.1, x.2.now)) result (file_line words.now) }
@@ -169,27 +190,37 @@ pub fn file_acl_at(alloc: Global, words: &[Text]) -> Result<(Args, Perms, &[Text
     perms_line(alloc, rest)
 }
 
-/// Reads a file line at the front of these words: its arguments and permissions, and how many words they took.
+/// Reads a file line at the front of these words: its arguments and permissions, and how many words
+/// they took.
 ///
-/// Errors: the kind of the first word at which the line can't go on, and `Arity` where a word is missing.
+/// Errors: the kind of the first word at which the line can't go on, and `Arity` where a word is
+/// missing.
 pub fn read_file_acl(alloc: Global, words: &[Text]) -> Result<(Args, Perms, usize), LineFault>
-    ensures exact { Gives line_cause (λ x. x) result (counted (length words.now) (file_line words.now)) }
+    ensures exact { Gives line_cause (λ x. x) result
+        (counted (length words.now) (file_line words.now)) }
     ensures within { IfOk result (λ x. x.2 ≤ length words.now) }
 {
     let (args, perms, rest) = file_acl_at(alloc, words)?;
     Ok((args, perms, words.len().saturating_sub(rest.len())))
 }
 
-/// File lines, as laws over all words: arguments and permissions that a line can write are read from their printed words, whatever
-/// conditions follow; what is read is one that a line can write, and its printed words are read as the same. The words that follow
-/// are no preference: the first of them is none of the five words and begins with neither `/` nor `<`.
+/// File lines, as laws over all words: arguments and permissions that a line can write are read
+/// from their printed words, whatever conditions follow; what is read is one that a line can write,
+/// and its printed words are read as the same. The words that follow are no preference: the first
+/// of them is none of the five words and begins with neither `/` nor `<`.
 pub fn round_trip()
-    ensures written { (a : Args) (bits : ℕ) (more : List Text) → is_file a bits ≡ true → no_prefer more ≡ true → file_line (file_words a bits ++ more) ≡ Ok (a, perms bits, more) }
-    ensures read { (words rest : List Text) (a : Args) (p : Perms) → file_line words ≡ Ok (a, p, rest) → is_file a p.bits ≡ true }
+    ensures written { (a : Args) (bits : ℕ) → is_file a bits ≡ true → IsReadAgain a (perms bits) }
+    ensures read { (words rest : List Text) (a : Args) (p : Perms)
+        → file_line words ≡ Ok (a, p, rest) → is_file a p.bits ≡ true }
     // How many words a line took tells which are left.
-    ensures left { (words rest : List Text) (a : Args) (p : Perms) → file_line words ≡ Ok (a, p, rest) → rest ≡ drop (length words - length rest) words }
+    ensures left { (words rest : List Text) (a : Args) (p : Perms)
+        → file_line words ≡ Ok (a, p, rest) → rest ≡ drop (length words - length rest) words }
     // What is printed is made of words, which are found again in the line that joins them.
-    ensures words { (a : Args) (bits : ℕ) → is_file a bits ≡ true → list_all is_word (file_words a bits) ≡ true }
-    ensures text { (a : Args) (bits : ℕ) → is_file a bits ≡ true → words_of (joined (file_words a bits)) ≡ file_words a bits }
-    ensures normal { (words more rest : List Text) (a : Args) (p : Perms) → file_line words ≡ Ok (a, p, rest) → no_prefer more ≡ true → file_line (file_words a p.bits ++ more) ≡ Ok (a, p, more) }
+    ensures words { (a : Args) (bits : ℕ) → is_file a bits ≡ true
+        → list_all is_word (file_words a bits) ≡ true }
+    ensures text { (a : Args) (bits : ℕ) → is_file a bits ≡ true
+        → words_of (joined (file_words a bits)) ≡ file_words a bits }
+    ensures normal { (words rest : List Text) (a : Args) (p : Perms)
+        → file_line words ≡ Ok (a, p, rest)
+        → IsReadAgain a p }
 {}

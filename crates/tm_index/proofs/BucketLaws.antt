@@ -215,3 +215,8 @@ module _ {V : Type 0} (bytes : V → Text) where
 pub on_err : {A E : Type 0} {P Q : Type 0} (r : Result A E) → (P → Q) → OnErr r P → OnErr r Q
 on_err (Ok x) f h = h
 on_err (Err e) f h = f h
+
+-- where nothing is noted no key has places
+pub none_at : (pairs : List (Text × List ℕ)) → pairs ≡ [] → (key : Text) → places_at pairs key ≡ []
+unfolding places_at
+none_at pairs e key = ap (λ (p : List (Text × List ℕ)). places_at p key) e

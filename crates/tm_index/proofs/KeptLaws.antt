@@ -1,4 +1,5 @@
--- The name and the stem of a pattern, as it is kept: a literal as its name, any other as its components.
+-- The name and the stem of a pattern, as it is kept: a literal as its name, any other as its
+-- components.
 use Rattle.std.proofs.Common.{◌≡◌, ◌==◌, Bool, true, false, List, [], ◌∷◌, map, if◌then◌else◌, refl, sym, ap, ◌∙◌}
 use Rattle.std.specs.Prelude.{Option, Some, None}
 use Rattle.std.specs.List.{list_all}

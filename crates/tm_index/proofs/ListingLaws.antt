@@ -13,7 +13,7 @@ use Rattle.tm_types.specs.declared.entry.Cond.{Cond}
 use Rattle.tm_types.specs.declared.entry.Entry.{Entry}
 use Rattle.tm_rules.specs.Policy.{same_line, has_line, adding, deleting, without_permissions}
 use Rattle.tm_rules.proofs.EqualityLaws.{lines_are_same, same_texts}
-use Rattle.tm_entries.proofs.Edits.{place_within, joined_entry, left_entry, adding_last, adding_at, deleting_none, deleting_out, deleting_at}
+use Rattle.tm_change_entries.proofs.Edits.{place_within, joined_entry, left_entry, adding_last, adding_at, deleting_none, deleting_out, deleting_at}
 use Rattle.tm_index.specs.declared.label.Label.{Label}
 use Rattle.tm_index.specs.Stems.{stem_of}
 use Rattle.tm_index.specs.Names.{literal_of}
@@ -135,7 +135,8 @@ pub line_places : (index : Listed) (entries : List Entry) (label : Label) (line 
 unfolding listing label_of
 line_places index entries label line e h = ap (λ (x : Listed). x.lines label.key) e ∙ ap (λ (l : Label). places_from (has_key l.key) 0 entries) h
 
--- the first place among them at which an entry shares the line is where the first one stands that does
+-- the first place among them at which an entry shares the line is where the first one stands that
+-- does
 pub line_found : (index : Listed) (entries : List Entry) (label : Label) (line : Entry) (places : List ℕ) → index ≡ listing entries → label ≡ label_of line → places ≡ index.lines label.key
     → find (holds_at (λ (entry : Entry). same_line entry line) entries) places ≡ position_from (λ (entry : Entry). same_line entry line) 0 entries
 line_found index entries label line places e h is =

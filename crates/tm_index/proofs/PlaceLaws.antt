@@ -6,8 +6,7 @@ use Rattle.std.specs.Option.{option_or}
 use Rattle.std.specs.List.{position_from, find, list_any, remove}
 use Rattle.tm_rules.specs.Condition.{first_of_all}
 use Rattle.tm_index.specs.Buckets.{lowered, closing}
-use Rattle.tm_index.specs.Listing.{places_from, holds_at}
-use Rattle.tm_index.specs.Candidates.{at_place}
+use Rattle.tm_index.specs.Listing.{places_from, at_place, holds_at}
 
 -- the place of one element, where it passes
 abbrev pub place_if : Bool → ℕ → List ℕ

@@ -1,39 +1,19 @@
 -- What is noted of ACL groups when a line of one is added or taken out.
-use Rattle.std.specs.Prelude.{◌≡◌, ℕ, length, ◌==◌, ◌∷◌, ◌++◌, List, [], Option, Some, None, if◌then◌else◌}
-use Rattle.std.specs.List.{position_from}
-use Rattle.tm_word.specs.Words.{Text}
-use Rattle.tm_word.specs.Texts.{texts_equal}
-use Rattle.tm_types.specs.declared.entry.Entry.{Entry}
-use Rattle.tm_types.specs.declared.policy.GroupLine.{GroupLine}
-use Rattle.tm_types.specs.declared.policy.Namespace.{Namespace}
-use Rattle.tm_rules.specs.Policy.{changed_at, same_line}
-use Rattle.tm_rules.specs.Edit.{acl_group}
-use Rattle.tm_index.specs.Listing.{Listed, closed}
+use Rattle.std.specs.Prelude.{ℕ, ◌==◌, ◌∷◌, ◌++◌, [], if◌then◌else◌}
+use Rattle.tm_rules.specs.Policy.{changed_at}
+use Rattle.tm_index.specs.Listing.{Listed}
 use Rattle.tm_index.specs.Index.{Told}
-use Rattle.tm_index.specs.declared.group_lines.InGroup.{InGroup}
 
 -- the lists of the groups of a namespace, one of them changed
 abbrev pub group_with : ℕ → (Listed → Listed) → (ℕ → Listed) → ℕ → Listed
-group_with group change lists number = if group == number then change (lists number) else lists number
+group_with group change lists number =
+    if group == number then change (lists number) else lists number
 
 -- the list of an ACL group of the namespace at a place is changed
 abbrev pub in_group : ℕ → ℕ → (Listed → Listed) → Told → Told
-in_group place group change x = record x { groups = changed_at place (group_with group change) x.groups }
+in_group place group change x =
+    record x { groups = changed_at place (group_with group change) x.groups }
 
 -- a namespace with these lists, last
 abbrev pub noting_lists : (ℕ → Listed) → Told → Told
 noting_lists lists x = record x { groups = x.groups ++ lists ∷ [] }
-
--- the places after an entry that has gone move up
-abbrev pub closed_if : Option ℕ → Listed → Listed
-closed_if None x = x
-closed_if (Some place) x = closed place x
-
--- the place of the namespace of that name
-abbrev pub place_named : Text → List Namespace → Option ℕ
-place_named name namespaces = position_from (λ (ns : Namespace). texts_equal ns.name name) 0 namespaces
-
--- how many entries the group of a line has in a namespace, and where the one stands that the line shares
-pub record IsInGroup (looked : InGroup) (ns : Namespace) (line : GroupLine) : Type 0 where
-  pub entries : looked.length ≡ length (acl_group ns line.group)
-  pub at : looked.at ≡ position_from (λ (entry : Entry). same_line entry line.entry) 0 (acl_group ns line.group)

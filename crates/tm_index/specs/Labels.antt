@@ -1,4 +1,5 @@
--- By what an entry is found: the literal that its first name argument is, its stem, and a text of its line.
+-- By what an entry is found: the literal that its first name argument is, its stem, and a text of
+-- its line.
 use Rattle.std.specs.Prelude.{◌++◌}
 use Rattle.tm_word.specs.Words.{Text}
 use Rattle.tm_word.specs.Spelling.{joined}
@@ -28,4 +29,5 @@ line_key entry = args_key entry.args ++ spaced (cond_words entry.cond)
 
 -- what an entry is found by
 unfoldable pub label_of : Entry → Label
-label_of entry = record { name = literal_of entry.args; stem = stem_of entry.args; key = line_key entry }
+label_of entry =
+    record { name = literal_of entry.args; stem = stem_of entry.args; key = line_key entry }

@@ -4,10 +4,5 @@ pub mod Names
 pub mod Stems
 pub mod Labels
 pub mod Listing
-pub mod Candidates
 pub mod Index
-pub mod Known
-pub mod Looked
-pub mod Quiet
-pub mod Gone
 pub mod Groups

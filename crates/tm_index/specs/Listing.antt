@@ -1,13 +1,13 @@
 -- The index of one list of entries.
 use Rattle.std.specs.Prelude.{ℕ, suc, Bool, false, ◌&&◌, not, List, [], ◌∷◌, ◌++◌, Option, Some, None, if◌then◌else◌, ◌==◌, is_some, slice_get, bit_and}
-use Rattle.std.specs.Option.{option_or, option_map_or}
+use Rattle.std.specs.Option.{option_or, option_and_then, option_map_or}
 use Rattle.tm_word.specs.Words.{Text, Word}
 use Rattle.tm_word.specs.Texts.{texts_equal}
 use Rattle.tm_types.specs.declared.entry.Entry.{Entry}
 use Rattle.tm_rules.specs.Policy.{same_line}
 use Rattle.tm_index.specs.Buckets.{Places, places_at, with_place, closing}
 use Rattle.tm_index.specs.Stems.{stem_of}
-use Rattle.tm_index.specs.Names.{is_named, is_literally_named, literal_of}
+use Rattle.tm_index.specs.Names.{literal_of}
 use Rattle.tm_index.specs.Labels.{line_key}
 use Rattle.tm_index.specs.declared.label.Label.{Label}
 use Rattle.tm_index.specs.declared.list.ListIndex.{ListIndex}
@@ -15,17 +15,11 @@ use Rattle.tm_index.specs.declared.list.ListIndex.{ListIndex}
 -- the places, from this one on, of the elements that pass
 abbrev pub places_from : {A : Type 0} → (A → Bool) → ℕ → List A → List ℕ
 places_from test n [] = []
-places_from test n (x ∷ xs) = if test x then n ∷ places_from test (suc n) xs else places_from test (suc n) xs
+places_from test n (x ∷ xs) =
+    if test x then n ∷ places_from test (suc n) xs else places_from test (suc n) xs
 
--- the places of the entries whose first name argument is a literal that matches this name
-unfoldable pub literal_places : Word → List Entry → List ℕ
-literal_places name entries = places_from (λ (entry : Entry). is_named name entry.args) 0 entries
-
--- the places of the entries that have no name argument, or a first one that is no literal
-unfoldable pub other_places : List Entry → List ℕ
-other_places entries = places_from (λ (entry : Entry). not (is_literally_named entry.args)) 0 entries
-
--- where the entries of a list stand: by their literal name, those without one, by their stem, those with neither, and by the words of their lines
+-- where the entries of a list stand: by their literal name, those without one, by their stem, those
+-- with neither, and by the words of their lines
 pub record Listed : Type 0 where
   pub named : Places
   pub others : List ℕ
@@ -35,7 +29,14 @@ pub record Listed : Type 0 where
 
 -- what an index tells
 abbrev pub listed : ListIndex → Listed
-listed index = record { named = places_at index.named; others = index.others; stemmed = places_at index.stemmed; rest = index.rest; lines = places_at index.lines }
+listed index =
+    record {
+      named = places_at index.named;
+      others = index.others;
+      stemmed = places_at index.stemmed;
+      rest = index.rest;
+      lines = places_at index.lines;
+    }
 
 -- it is this name
 abbrev pub has_name : Word → Entry → Bool
@@ -79,11 +80,16 @@ with_other (Some name) place places = places
 
 -- one more place of a name, or without one
 abbrev pub noting_name : Option Word → ℕ → Listed → Listed
-noting_name name place x = record x { named = with_name name place x.named; others = with_other name place x.others }
+noting_name name place x =
+    record x { named = with_name name place x.named; others = with_other name place x.others }
 
 -- one more place of a stem, or with neither
 abbrev pub noting_stem : Option Word → Option Text → ℕ → Listed → Listed
-noting_stem name stem place x = record x { stemmed = with_name stem place x.stemmed; rest = with_other (option_or stem name) place x.rest }
+noting_stem name stem place x =
+    record x {
+      stemmed = with_name stem place x.stemmed;
+      rest = with_other (option_or stem name) place x.rest;
+    }
 
 -- one more place of the words of a line
 abbrev pub noting_line : Text → ℕ → Listed → Listed
@@ -107,10 +113,15 @@ closed place x = record {
   lines = λ key. closing place (x.lines key);
 }
 
+-- what the element at a place has
+abbrev pub at_place : {A B : Type 0} → (ℕ → A → Option B) → List A → ℕ → Option B
+at_place f xs place = option_and_then (f place) (slice_get xs place)
+
 -- the element at a place passes
 abbrev pub holds_at : {A : Type 0} → (A → Bool) → List A → ℕ → Bool
 holds_at test xs place = option_map_or test (slice_get xs place) false
 
 -- an entry has all of a line
 abbrev pub has_all : Entry → Entry → Bool
-has_all line entry = same_line entry line && bit_and entry.perms.bits line.perms.bits == line.perms.bits
+has_all line entry =
+    same_line entry line && bit_and entry.perms.bits line.perms.bits == line.perms.bits

@@ -1,8 +1,7 @@
 -- The literal that the first name argument of an entry is.
-use Rattle.std.specs.Prelude.{Bool, false, ◌&&◌, Option, Some, None, if◌then◌else◌}
-use Rattle.std.specs.Option.{option_and_then, option_map_or}
+use Rattle.std.specs.Prelude.{Option, Some, None, if◌then◌else◌}
+use Rattle.std.specs.Option.{option_and_then}
 use Rattle.tm_word.specs.Words.{Word, Pattern}
-use Rattle.tm_word.specs.Matching.{matches}
 use Rattle.tm_word.specs.Printing.{literal_word}
 use Rattle.tm_types.specs.declared.unions.NameUnion.{NameUnion}
 use Rattle.tm_types.specs.declared.entry.Args.{Args}
@@ -25,14 +24,6 @@ first_pattern (Args.Inet kind addr port) = None
 first_pattern (Args.Unix kind n) = pattern_of n
 first_pattern (Args.Env pattern_) = Some pattern_
 first_pattern (Args.Manual domain) = None
-
--- the first name argument is a literal that matches this name
-abbrev pub is_named : Word → Args → Bool
-is_named name args = option_map_or (λ pattern_. is_literal pattern_ && matches pattern_ name) (first_pattern args) false
-
--- the first name argument is a literal
-abbrev pub is_literally_named : Args → Bool
-is_literally_named args = option_map_or is_literal (first_pattern args) false
 
 -- the name of a literal
 abbrev pub literal_name : Pattern → Option Word

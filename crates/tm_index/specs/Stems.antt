@@ -1,4 +1,5 @@
--- Stems: by what an entry without a literal name is found. An entry that has one grants only requests that have it too.
+-- Stems: by what an entry without a literal name is found. An entry that has one grants only
+-- requests that have it too.
 use Rattle.std.specs.Prelude.{ℕ, List, [], ◌∷◌, ◌++◌, length, take, nat_lt, Option, Some, None, if◌then◌else◌, ◌==◌, is_some, slice_get}
 use Rattle.std.specs.Int.{to_be_bytes, w32, w128}
 use Rattle.tm_word.specs.Words.{Text, Word, Pattern}
@@ -18,7 +19,8 @@ addr_stem (Addr.V6 n) = to_be_bytes w128 n
 
 -- the stem of an address argument: that of its address, where it has one alone
 abbrev pub union_stem : AddrUnion → Option Text
-union_stem (AddrUnion.One range) = if addrs_equal range.low range.high then Some (addr_stem range.low) else None
+union_stem (AddrUnion.One range) =
+    if addrs_equal range.low range.high then Some (addr_stem range.low) else None
 union_stem (AddrUnion.Group group) = None
 
 -- the components before the first that stands for other bytes than its own
@@ -26,7 +28,8 @@ abbrev pub plain_front : Pattern → Pattern
 plain_front [] = []
 plain_front (c ∷ cs) = if is_plain c then c ∷ plain_front cs else []
 
--- a stem has fewer bytes than this, so that the stems of a name are few and short however long it is
+-- a stem has fewer bytes than this, so that the stems of a name are few and short however long it
+-- is
 abbrev pub stem_room : ℕ
 stem_room = 256
 
@@ -45,16 +48,8 @@ pattern_stem pattern_ = front_stem (plain_front pattern_)
 
 -- the address argument of a line
 abbrev pub addr_of : Args → Option AddrUnion
-addr_of (Args.Path n) = None
-addr_of (Args.Execute n prefer) = None
-addr_of (Args.PathNumber n k) = None
-addr_of (Args.Device n mode major minor) = None
-addr_of (Args.Path2 n m) = None
-addr_of (Args.Mount device dir kind flags) = None
 addr_of (Args.Inet kind addr port) = Some addr
-addr_of (Args.Unix kind n) = None
-addr_of (Args.Env pattern_) = None
-addr_of (Args.Manual domain) = None
+addr_of _ = None
 
 -- the stem of the first pattern, or else of the address
 abbrev pub stem_by : Option Pattern → Option AddrUnion → Option Text
@@ -64,12 +59,15 @@ stem_by None None = None
 
 -- the stem of a line that has no literal name
 unfoldable pub stem_of : Args → Option Text
-stem_of args = if is_some (literal_of args) then None else stem_by (first_pattern args) (addr_of args)
+stem_of args =
+    if is_some (literal_of args) then None else stem_by (first_pattern args) (addr_of args)
 
 -- what stands before each slash of a name after these bytes, and the whole
 abbrev pub stems_after : Text → Word → List Text
 stems_after before [] = before ∷ []
-stems_after before (b ∷ bs) = if b == 47 then before ∷ stems_after (before ++ b ∷ []) bs else stems_after (before ++ b ∷ []) bs
+stems_after before (b ∷ bs) =
+    if b == 47 then before
+    ∷ stems_after (before ++ b ∷ []) bs else stems_after (before ++ b ∷ []) bs
 
 -- the stems of a name
 abbrev pub name_stems : Word → List Text

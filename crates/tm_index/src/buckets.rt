@@ -8,8 +8,8 @@ use std::alloc::Global;
 use std::marker::Model;
 use tm_list::{NoMemory, Seq};
 
-/// For each key the places that were noted under it, in the order in which they were. Contracts see the places of each key. A key whose
-/// places have all gone stays.
+/// For each key the places that were noted under it, in the order in which they were. Contracts see
+/// the places of each key. A key whose places have all gone stays.
 #[derive(Drop)]
 pub(crate) struct Buckets {
     lists: IndexMap<Vec<u8>, Places>,
@@ -52,7 +52,8 @@ impl Buckets {
 
     /// Notes one more place of a key.
     pub(crate) fn note(&mut self, alloc: Global, key: &[u8], place: u32) -> Result<(), NoMemory>
-        ensures done { OnOk result (places_at self.new ≡ with_place key.now place (places_at self.old)) }
+        ensures done { OnOk result
+            (places_at self.new ≡ with_place key.now place (places_at self.old)) }
         ensures kept { OnErr result (self.new ≡ self.old) }
     {
         match self.lists.get_mut(key) {
@@ -65,9 +66,11 @@ impl Buckets {
         }
     }
 
-    /// Notes one more place of a key, as a rule of a new one: that is looked for once. After want of memory each key has its places.
+    /// Notes one more place of a key, as a rule of a new one: that is looked for once. After want
+    /// of memory each key has its places.
     pub(crate) fn note_new(&mut self, alloc: Global, key: &[u8], place: u32) -> Result<(), NoMemory>
-        ensures done { OnOk result (places_at self.new ≡ with_place key.now place (places_at self.old)) }
+        ensures done { OnOk result
+            (places_at self.new ≡ with_place key.now place (places_at self.old)) }
         ensures kept { OnErr result (places_at self.new ≡ places_at self.old) }
     {
         let list = self
@@ -79,7 +82,8 @@ impl Buckets {
 
     /// Takes the last place of a key out.
     pub(crate) fn take_last(&mut self, key: &[u8])
-        ensures { places_at self.new ≡ placing key.now (front (places_at self.old key.now)) (places_at self.old) }
+        ensures { places_at self.new
+            ≡ placing key.now (front (places_at self.old key.now)) (places_at self.old) }
     {
         if let Some(list) = self.lists.get_mut(key) {
             list.take_last();
@@ -88,7 +92,8 @@ impl Buckets {
 
     /// Takes the first place of a key out.
     pub(crate) fn take_first(&mut self, key: &[u8])
-        ensures { places_at self.new ≡ placing key.now (drop 1 (places_at self.old key.now)) (places_at self.old) }
+        ensures { places_at self.new
+            ≡ placing key.now (drop 1 (places_at self.old key.now)) (places_at self.old) }
     {
         if let Some(list) = self.lists.get_mut(key) {
             list.take_first();
@@ -118,7 +123,8 @@ pub(crate) fn take_first(list: &mut Seq<u32>)
     *list = Seq::from_vec(places);
 }
 
-/// Takes a place out, and lowers each larger one by one: what stood there is gone, and what stood behind moves up.
+/// Takes a place out, and lowers each larger one by one: what stood there is gone, and what stood
+/// behind moves up.
 pub(crate) fn close(list: &mut Seq<u32>, place: u32)
     ensures { list.new ≡ closing place list.old }
 {

@@ -1,13 +1,14 @@
 //! The index of a policy, and how it is made.
-ghost use Rattle.std.specs.Prelude.{◌≡◌, ℕ, List, [], map, unwrap_or, IfOk, OnOk, OnErr};
+ghost use Rattle.std.specs.Prelude.{◌≡◌, ℕ, List, [], map, option_map, slice_get, unwrap_or, IfOk, IfSome, OnOk, OnErr};
 ghost use Rattle.std.specs.List.{AllByRecursion};
+ghost use Rattle.std.specs.Option.{option_copied};
 ghost use Rattle.tm_types.specs.declared.entry.Entry.{Entry};
 ghost use Rattle.tm_types.specs.declared.policy.Domain.{Domain};
 ghost use Rattle.tm_rules.specs.Few.{IsShort, IsFewHere, IsFew};
 ghost use Rattle.tm_rules.specs.Policy.{at_key};
 ghost use Rattle.tm_index.specs.Buckets.{places_at};
 ghost use Rattle.tm_index.specs.Listing.{listing};
-ghost use Rattle.tm_index.specs.Index.{domain_listed, domain_listing, groups_listed, groups_listing, with_live, live_places, IsIndexOf};
+ghost use Rattle.tm_index.specs.Index.{told, domain_listed, domain_listing, groups_listed, groups_listing, with_live, live_places, IsIndexOf, HasDomain, HasNamespace};
 
 use crate::buckets::Buckets;
 use crate::list::{ListIndex, list_of};
@@ -16,18 +17,19 @@ use tm_learn::count;
 use tm_list::{Map, NoMemory, Seq};
 use tm_types::entry::Entry;
 use tm_types::policy::{Domain, Namespace, Policy};
+use tm_types::unions::DomainName;
 
 /// What is noted of a domain: where its entries stand, and how many permissions they have.
 #[derive(Drop)]
-pub(crate) struct DomainIndex {
-    pub(crate) own: ListIndex,
-    pub(crate) permissions: u64,
+pub struct DomainIndex {
+    pub own: ListIndex,
+    pub permissions: u64,
 }
 
-/// What is noted of a policy: of its domains by their numbers, of the ACL groups of each namespace by theirs, and the numbers of the live
-/// domains by name.
+/// What is noted of a policy: of its domains by their numbers, of the ACL groups of each namespace
+/// by theirs, and the numbers of the live domains by name.
 #[derive(Drop)]
-pub(crate) struct Index {
+pub struct Index {
     pub(crate) domains: Seq<DomainIndex>,
     pub(crate) groups: Seq<Map<u8, ListIndex>>,
     pub(crate) live: Buckets,
@@ -93,7 +95,8 @@ pub(crate) fn note_live(
     place: u32,
     domain: &Domain,
 ) -> Result<(), NoMemory>
-    ensures done { OnOk result (places_at live.new ≡ with_live place domain.now (places_at live.old)) }
+    ensures done { OnOk result
+        (places_at live.new ≡ with_live place domain.now (places_at live.old)) }
     ensures kept { OnErr result (live.new ≡ live.old) }
 {
     if domain.live {
@@ -117,7 +120,7 @@ fn live_of(alloc: Global, domains: &[Domain]) -> Result<Buckets, NoMemory>
 
 /// The index of a policy. Errors: want of memory.
 #[tactic(auto, unfolding(crate::specs::Index::telling))]
-pub(crate) fn index_of(alloc: Global, policy: &Policy) -> Result<Index, NoMemory>
+pub fn index_of(alloc: Global, policy: &Policy) -> Result<Index, NoMemory>
     requires { IsFew policy.now }
     ensures { IfOk result (λ made. IsIndexOf made policy.now) }
 {
@@ -129,4 +132,31 @@ pub(crate) fn index_of(alloc: Global, policy: &Policy) -> Result<Index, NoMemory
         groups,
         live,
     })
+}
+
+/// What is noted of the domain of this number. Takes no memory.
+#[tactic(auto, using(crate::proofs::TellingLaws::seen_at))]
+pub fn domain_noted(index: &Index, number: u32) -> Option<&DomainIndex>
+    ensures told { option_map domain_listed (option_copied result)
+        ≡ slice_get (told index.now).domains number }
+    ensures within { IfSome result (λ noted. HasDomain index.now number) }
+{
+    index.domains.get(number as usize)
+}
+
+/// What is noted of the ACL groups of the namespace at this place. Takes no memory.
+#[tactic(auto, using(crate::proofs::TellingLaws::seen_at))]
+pub fn groups_noted(index: &Index, place: usize) -> Option<&Map<u8, ListIndex>>
+    ensures told { option_map groups_listed (option_copied result)
+        ≡ slice_get (told index.now).groups place }
+    ensures within { IfSome result (λ lists. HasNamespace index.now place) }
+{
+    index.groups.get(place)
+}
+
+/// The numbers of the live domains of this name that are noted. Takes no memory.
+pub fn live_noted<'a>(index: &'a Index, name: &DomainName) -> &'a [u32]
+    ensures { result.now ≡ (told index.now).live name.now }
+{
+    index.live.get(name.bytes())
 }

@@ -17,10 +17,10 @@ use tm_word::{Pattern, Text, Word};
 // Most keys have no more bytes than this.
 const KEY_ROOM: usize = 32;
 
-/// What an entry is found by: the literal that its first name argument is, its stem, and a text of its arguments and its condition,
-/// which equal lines share.
+/// What an entry is found by: the literal that its first name argument is, its stem, and a text of
+/// its arguments and its condition, which equal lines share.
 #[derive(Drop)]
-pub(crate) struct Label {
+pub struct Label {
     pub(crate) name: Option<Word>,
     pub(crate) stem: Option<Text>,
     pub(crate) key: Text,
@@ -81,15 +81,7 @@ fn push_args_key(alloc: Global, args: &Args, out: &mut Vec<u8>) -> Result<(), No
 {
     match args {
         Args::Path(name) => print_name(alloc, name, out),
-        Args::Execute(_, _)
-        | Args::PathNumber(_, _)
-        | Args::Device(_, _, _, _)
-        | Args::Path2(_, _)
-        | Args::Mount(_, _, _, _)
-        | Args::Inet(_, _, _)
-        | Args::Unix(_, _)
-        | Args::Env(_)
-        | Args::Manual(_) => print_acl(alloc, args, Perms { bits: 1 }, out),
+        _ => print_acl(alloc, args, Perms { bits: 1 }, out),
     }
 }
 
@@ -106,7 +98,7 @@ fn line_key(alloc: Global, entry: &Entry) -> Result<Text, NoMemory>
 
 /// What an entry is found by. Errors: want of memory.
 #[tactic(auto, unfolding(crate::specs::Labels::label_of))]
-pub(crate) fn label_of(alloc: Global, entry: &Entry) -> Result<Label, NoMemory>
+pub fn label_of(alloc: Global, entry: &Entry) -> Result<Label, NoMemory>
     ensures { IfOk result (λ label. label ≡ label_of entry.now) }
 {
     let name = literal_of(alloc, &entry.args)?;

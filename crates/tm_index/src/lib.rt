@@ -1,25 +1,23 @@
-//! A representation of a policy with an index: a request and a line are looked up by a name, an address, a plain front or their text; groups, ranges of addresses and patterns without a plain front are walked.
-//! Stands on tm_policy, whose search it shares, on tm_domains and tm_namespaces for changes in place, on tm_entry and tm_cond for the words of a line, and on the kit's hash map.
-//! Promises that each call answers as the definitions say of the policy, that the index is always that of the policy, and that after want of memory both are as before. A key whose places have all gone stays, so memory is bounded by what was ever noted: at most two keys a line, and one a domain.
+//! An index of lists of entries, by names, addresses, plain fronts and lines, and of live domains.
+//! Stands on tm_entry and tm_cond for the words of a line, and on the kit's hash map.
+//! Promises that each change is noted exactly, and that after want of memory nothing is.
 #![tactic(auto)]
 
-mod adding;
 mod buckets;
 mod changes;
 mod group_changes;
-mod group_lines;
 mod index;
-mod indexed;
 mod label;
-mod learning;
-mod lines;
 mod list;
-mod making;
 mod places;
-mod quiet;
-mod removing;
-mod search;
-mod settings;
 mod stems;
 
-pub use indexed::Indexed;
+pub use changes::{
+    close_in, count_in, note_domain, note_in, note_namespace, take_domain, take_last_in, take_live,
+    take_namespace,
+};
+pub use group_changes::{close_in_group, note_first_in_group, note_in_group, take_last_in_group};
+pub use index::{DomainIndex, Index, domain_noted, groups_noted, index_of, live_noted};
+pub use label::{Label, label_of};
+pub use list::ListIndex;
+pub use stems::{STEM_ROOM, addr_of};

@@ -1,5 +1,5 @@
 //! The index of one list of entries.
-ghost use Rattle.std.specs.Prelude.{◌≡◌, ℕ, ◌<◌, [], length, IfOk, IfSome, OnOk, OnErr};
+ghost use Rattle.std.specs.Prelude.{◌≡◌, ℕ, ◌<◌, List, [], length, true, IfOk, IfSome, OnOk, OnErr};
 ghost use Rattle.std.specs.List.{position_from, find, list_any};
 ghost use Rattle.tm_types.specs.declared.entry.Entry.{Entry};
 ghost use Rattle.tm_rules.specs.Few.{IsShort};
@@ -16,15 +16,16 @@ use tm_rules::same_line;
 use tm_types::entry::Entry;
 use tm_word::{Text, Word};
 
-/// Where the entries of a list stand: by the literal that the first name argument is, those without one, by their stem, those with
-/// neither, and by the words of their lines. Places are from 0 and rise.
+/// Where the entries of a list stand: by the literal that the first name argument is, those without
+/// one, by their stem, those with neither, and by the words of their lines. Places are from 0 and
+/// rise.
 #[derive(Drop)]
-pub(crate) struct ListIndex {
-    pub(crate) named: Buckets,
-    pub(crate) others: Seq<u32>,
-    pub(crate) stemmed: Buckets,
-    pub(crate) rest: Seq<u32>,
-    pub(crate) lines: Buckets,
+pub struct ListIndex {
+    named: Buckets,
+    others: Seq<u32>,
+    stemmed: Buckets,
+    rest: Seq<u32>,
+    lines: Buckets,
 }
 
 impl ListIndex {
@@ -57,7 +58,8 @@ impl ListIndex {
     // Takes the last place out that stands under a name, or among the others.
     fn take_name(&mut self, name: Option<&Word>)
         ensures { (before : Listed) → (place : ℕ) →
-            listed self.old ≡ noting_name (option_copied name.entry) place before → listed self.new ≡ before }
+            listed self.old ≡ noting_name (option_copied name.entry) place before
+            → listed self.new ≡ before }
     {
         match name {
             Some(name) => self.named.take_last(name.bytes()),
@@ -76,7 +78,8 @@ impl ListIndex {
         place: u32,
     ) -> Result<(), NoMemory>
         ensures done { OnOk result (listed self.new ≡
-            noting_stem (option_copied name.entry) (option_copied stem.entry) place (listed self.old)) }
+            noting_stem (option_copied name.entry) (option_copied stem.entry) place
+            (listed self.old)) }
         ensures kept { OnErr result (listed self.new ≡ listed self.old) }
     {
         match stem {
@@ -91,7 +94,8 @@ impl ListIndex {
     // Takes the last place out that stands under a stem, or among those with neither.
     fn take_stem(&mut self, name: Option<&Word>, stem: Option<&Text>)
         ensures { (before : Listed) → (place : ℕ) →
-            listed self.old ≡ noting_stem (option_copied name.entry) (option_copied stem.entry) place before →
+            listed self.old
+            ≡ noting_stem (option_copied name.entry) (option_copied stem.entry) place before →
             listed self.new ≡ before }
     {
         match stem {
@@ -107,7 +111,8 @@ impl ListIndex {
 
     // Notes a place under a stem and under the words of a line.
     fn note_rest(&mut self, alloc: Global, place: u32, label: &Label) -> Result<(), NoMemory>
-        ensures done { OnOk result (listed self.new ≡ noting_rest label.now place (listed self.old)) }
+        ensures done { OnOk result
+            (listed self.new ≡ noting_rest label.now place (listed self.old)) }
         ensures kept { OnErr result (listed self.new ≡ listed self.old) }
     {
         self.note_stem(alloc, label.name.as_ref(), label.stem.as_ref(), place)?;
@@ -165,24 +170,57 @@ impl ListIndex {
         self.lines.close(place);
     }
 
-    /// Where the first entry of the list stands that shares a line: the one with its arguments and its condition. Takes no memory.
-    pub(crate) fn entry_place(
-        &self,
-        entries: &[Entry],
-        label: &Label,
-        line: &Entry,
-    ) -> Option<usize>
+    /// Lends the places of the entries whose first name argument is this literal. Takes no memory.
+    pub fn named(&self, name: &Word) -> &[u32]
+        ensures { result.now ≡ (listed self.now).named name.now }
+    {
+        self.named.get(name.bytes())
+    }
+
+    /// Lends the places of the entries without a literal name. Takes no memory.
+    pub fn others(&self) -> &[u32]
+        ensures { result.now ≡ (listed self.now).others }
+    {
+        self.others.as_slice()
+    }
+
+    /// Lends the places of the entries with neither a stem nor a literal name. Takes no memory.
+    pub fn rest(&self) -> &[u32]
+        ensures { result.now ≡ (listed self.now).rest }
+    {
+        self.rest.as_slice()
+    }
+
+    /// Lends the places of the entries with this stem. Takes no memory.
+    pub fn stemmed(&self, stem: &[u8]) -> &[u32]
+        ensures { result.now ≡ (listed self.now).stemmed stem.now }
+    {
+        self.stemmed.get(stem)
+    }
+
+    /// Whether no entry has a stem. Takes no memory.
+    #[tactic(auto, using(crate::proofs::BucketLaws::none_at))]
+    pub fn has_no_stems(&self) -> bool
+        ensures { result ≡ true → (stem : List ℕ) → (listed self.now).stemmed stem ≡ [] }
+    {
+        self.stemmed.is_empty()
+    }
+
+    /// Where the first entry of the list stands that shares a line: the one with its arguments and
+    /// its condition. Takes no memory.
+    pub fn entry_place(&self, entries: &[Entry], label: &Label, line: &Entry) -> Option<usize>
         requires listed { listed self.now ≡ listing entries.now }
         requires label { label.now ≡ label_of line.now }
-        ensures found { result ≡ position_from (λ (entry : Entry). same_line entry line.now) 0 entries.now }
+        ensures found { result ≡ position_from
+            (λ (entry : Entry). same_line entry line.now) 0 entries.now }
         ensures within { IfSome result (λ place. place < length entries.now) }
     {
         first_sharing(entries, self.lines.get(label.key.bytes()), line)
     }
 
-    /// Where the first entry of the list stands that shares a line, and whether the list has the whole line: an entry that shares it has
-    /// each of its permissions. Takes no memory.
-    pub(crate) fn line_place(
+    /// Where the first entry of the list stands that shares a line, and whether the list has the
+    /// whole line: an entry that shares it has each of its permissions. Takes no memory.
+    pub fn line_place(
         &self,
         entries: &[Entry],
         label: &Label,
@@ -190,7 +228,8 @@ impl ListIndex {
     ) -> (Option<usize>, bool)
         requires listed { listed self.now ≡ listing entries.now }
         requires label { label.now ≡ label_of line.now }
-        ensures found { result.0 ≡ position_from (λ (entry : Entry). same_line entry line.now) 0 entries.now }
+        ensures found { result.0 ≡ position_from
+            (λ (entry : Entry). same_line entry line.now) 0 entries.now }
         ensures within { IfSome result.0 (λ place. place < length entries.now) }
         ensures there { result.1 ≡ has_line line.now entries.now }
     {
@@ -227,7 +266,8 @@ fn shares_at(entries: &[Entry], place: u32, line: &Entry) -> bool
 
 // The first of these places at which an entry shares a line.
 fn first_sharing(entries: &[Entry], places: &[u32], line: &Entry) -> Option<usize>
-    ensures { result ≡ find (holds_at (λ (entry : Entry). same_line entry line.now) entries.now) places.now }
+    ensures { result
+        ≡ find (holds_at (λ (entry : Entry). same_line entry line.now) entries.now) places.now }
 {
     for place in places {
         if shares_at(entries, *place, line) {

@@ -15,8 +15,9 @@ use tm_types::request::components_word;
 use tm_types::unions::AddrUnion;
 use tm_word::{Component, Pattern, Text};
 
-/// A stem has fewer bytes than this, so that the stems of a name are few and short however long it is.
-pub(crate) const STEM_ROOM: usize = 256;
+/// A stem has fewer bytes than this, so that the stems of a name are few and short however long it
+/// is.
+pub const STEM_ROOM: usize = 256;
 
 // The bytes of an address as a text.
 fn addr_stem(alloc: Global, addr: Addr) -> Result<Text, NoMemory>
@@ -102,20 +103,12 @@ fn pattern_stem(alloc: Global, pattern: &Pattern) -> Result<Option<Text>, NoMemo
 }
 
 /// The address argument of a line.
-pub(crate) fn addr_of(args: &Args) -> Option<&AddrUnion>
+pub fn addr_of(args: &Args) -> Option<&AddrUnion>
     ensures { option_copied result ≡ addr_of args.now }
 {
     match args {
         Args::Inet(_, addr, _) => Some(addr),
-        Args::Path(_)
-        | Args::Execute(_, _)
-        | Args::PathNumber(_, _)
-        | Args::Device(_, _, _, _)
-        | Args::Path2(_, _)
-        | Args::Mount(_, _, _, _)
-        | Args::Unix(_, _)
-        | Args::Env(_)
-        | Args::Manual(_) => None,
+        _ => None,
     }
 }
 

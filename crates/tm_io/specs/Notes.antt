@@ -2,7 +2,8 @@
 use Rattle.std.specs.Prelude.{◌≡◌, Bool, List, ◌++◌, ⊤, Option, Some, None, if◌then◌else◌}
 use Rattle.tm_io.specs.declared.names.FileName.{FileName}
 
--- calls with these names were made: what is told afterwards was told before, and has these behind it
+-- calls with these names were made: what is told afterwards was told before, and has these behind
+-- it
 abbrev pub Noted : List FileName → Option (List FileName) → Option (List FileName) → Type 0
 Noted names old None = ⊤
 Noted names None (Some now) = ⊥

@@ -53,8 +53,10 @@ impl Notes {
     }
 }
 
-/// Law: of calls made one after the other the notes are joined, and where none is made they are as they were.
+/// Law: of calls made one after the other the notes are joined, and where none is made they are as
+/// they were.
 pub fn notes_join()
     ensures none { (a : Option (List FileName)) → Noted [] a a }
-    ensures both { (a b c : Option (List FileName)) (first later : List FileName) → Noted first a b → Noted later b c → Noted (first ++ later) a c }
+    ensures both { (a b c : Option (List FileName)) (first later : List FileName) → Noted first a b
+        → Noted later b c → Noted (first ++ later) a c }
 {}

@@ -1,7 +1,6 @@
-//! What is learned of a request: its line.
+//! What is learned of a request, its line, and how many permissions a domain has.
 //! Stands on tm_rules, whose definitions it computes, and on tm_pattern for literal patterns.
-//! Promises that the line is the defined one: literal values, one permission, and the conditions of its kind; that it grants its own
-//! request; and counts permissions.
+//! Promises that the line is the defined one and grants its request, and that none is missed.
 #![tactic(auto)]
 
 ghost use Rattle.std.specs.Prelude.{◌≡◌, ◌<◌, ◌≤◌, ◌++◌, Bool, true, IsSome, IfOk, OnOk, slice_get, sum_by};
@@ -19,6 +18,7 @@ ghost use Rattle.tm_rules.specs.Requests.{is_request};
 ghost use Rattle.tm_rules.specs.Search.{grants, searched};
 ghost use Rattle.tm_rules.specs.Changes.{count, is_task};
 ghost use Rattle.tm_learn.specs.Counting.{permissions_of};
+ghost use Rattle.tm_learn.specs.Parts.{execute_clauses, target_clauses, learned_clauses, learned_args};
 ghost use Rattle.tm_rules.specs.Few.{IsShort};
 
 use std::alloc::Global;
@@ -60,71 +60,85 @@ fn push_word(
 
 /// The conditions of an execute: its real path and its first argument.
 fn execute_clauses(alloc: Global, request: &Request) -> Result<Seq<Clause>, NoMemory>
-    ensures { IfOk result (λ clauses. clauses ≡ is_word Attr.RealPath request.now.attributes.real_path ++ is_word (Attr.Argv 0) (slice_get request.now.attributes.argv 0)) }
+    ensures { IfOk result (λ clauses. clauses ≡ execute_clauses request.now.attributes) }
 {
+    let attributes = request.attributes();
     let mut clauses = Seq::new(alloc);
     push_word(
         alloc,
         Attr::RealPath,
-        request.attributes().real_path.as_ref(),
+        attributes.real_path.as_ref(),
         &mut clauses,
     )?;
-    push_word(
-        alloc,
-        Attr::Argv(0),
-        request.attributes().argv.get(0),
-        &mut clauses,
-    )?;
+    push_word(alloc, Attr::Argv(0), attributes.argv.get(0), &mut clauses)?;
     Ok(clauses)
 }
 
 /// The condition of every other request: the target of a symlink.
 fn target_clauses(alloc: Global, request: &Request) -> Result<Seq<Clause>, NoMemory>
-    ensures { IfOk result (λ clauses. clauses ≡ is_word Attr.Target request.now.attributes.target) }
+    ensures { IfOk result (λ clauses. clauses ≡ target_clauses request.now.attributes) }
 {
+    let attributes = request.attributes();
     let mut clauses = Seq::new(alloc);
     push_word(
         alloc,
         Attr::Target,
-        request.attributes().target.as_ref(),
+        attributes.target.as_ref(),
         &mut clauses,
     )?;
     Ok(clauses)
 }
 
-/// The line that is learned for a request: its own literal values and its permission, without `grant_log`. `name` stands for the
-/// path of an execute, whose real path and first argument become conditions; so does a symlink's target.
-#[tactic(auto, unfolding(tm_rules::specs::Learned::learned_line))]
+/// The conditions of the line that is learned for a request.
+fn learned_clauses(alloc: Global, request: &Request) -> Result<Seq<Clause>, NoMemory>
+    ensures { IfOk result (λ clauses. clauses ≡ learned_clauses request.now) }
+{
+    if is_execute(request) {
+        execute_clauses(alloc, request)
+    } else {
+        target_clauses(alloc, request)
+    }
+}
+
+/// The arguments of the line that is learned for a request: its own, with this name for the path of
+/// an execute.
+fn learned_args(alloc: Global, request: &Request, name: &Word) -> Result<Args, NoMemory>
+    ensures { IfOk result (λ args. args ≡ learned_args request.now name.now) }
+{
+    if is_execute(request) {
+        let pattern = literal(alloc, name)?;
+        Ok(Args::Path(NameUnion::One(pattern)))
+    } else {
+        request.args().copy(alloc)
+    }
+}
+
+/// The line that is learned for a request: its own literal values and its permission, without
+/// `grant_log`. `name` stands for the path of an execute, whose real path and first argument become
+/// conditions; so does a symlink's target.
+#[tactic(auto, using(crate::proofs::Parts::line_of_parts))]
 pub fn learned_line(alloc: Global, request: &Request, name: &Word) -> Result<Entry, NoMemory>
     requires { request.now.perm < 16 }
     ensures { IfOk result (λ entry. entry ≡ learned_line request.now name.now) }
 {
     let perms = permission(request.perm());
-    if is_execute(request) {
-        Ok(Entry {
-            args: Args::Path(NameUnion::One(literal(alloc, name)?)),
-            perms,
-            cond: Cond {
-                clauses: execute_clauses(alloc, request)?,
-                grant_log: None,
-            },
-        })
-    } else {
-        Ok(Entry {
-            args: request.args().copy(alloc)?,
-            perms,
-            cond: Cond {
-                clauses: target_clauses(alloc, request)?,
-                grant_log: None,
-            },
-        })
+    let clauses = learned_clauses(alloc, request)?;
+    let cond = Cond {
+        clauses,
+        grant_log: None,
+    };
+    match learned_args(alloc, request, name) {
+        Ok(args) => Ok(Entry { args, perms, cond }),
+        Err(fault) => Err(fault),
     }
 }
 
-/// The line that is learned for a request grants it, whatever the groups and the process: a line without one of its values, or
-/// with a condition that the request doesn't meet, would be no such line.
+/// The line that is learned for a request grants it, whatever the groups and the process: a line
+/// without one of its values, or with a condition that the request doesn't meet, would be no such
+/// line.
 pub fn own_request()
-    ensures { (is_path : Text → Bool) (groups : Groups) (process : Proc) (ns : Namespace) (request : Request) →
+    ensures { (is_path : Text → Bool) (groups : Groups) (process : Proc) (ns : Namespace)
+        (request : Request) →
         is_request is_path request ≡ true →
         IsSome (grants groups process (searched ns request) (line_of ns request)) }
 {}
@@ -135,19 +149,12 @@ fn is_task(args: &Args) -> bool
 {
     match args {
         Args::Manual(_) => true,
-        Args::Path(_) => false,
-        Args::Execute(_, _) => false,
-        Args::PathNumber(_, _) => false,
-        Args::Device(_, _, _, _) => false,
-        Args::Path2(_, _) => false,
-        Args::Mount(_, _, _, _) => false,
-        Args::Inet(_, _, _) => false,
-        Args::Unix(_, _) => false,
-        Args::Env(_) => false,
+        _ => false,
     }
 }
 
-/// How many permissions an entry has that count for `max_learning_entry`; those of a `task` line don't. Takes no memory.
+/// How many permissions an entry has that count for `max_learning_entry`; those of a `task` line
+/// don't. Takes no memory.
 pub fn permissions_of(entry: &Entry) -> u64
     ensures exact { result ≡ permissions_of entry.now }
     ensures few { result ≤ 65535 }
@@ -159,8 +166,8 @@ pub fn permissions_of(entry: &Entry) -> u64
     }
 }
 
-/// How many permissions the own entries of a domain have, which `max_learning_entry` bounds; those of `task` lines don't count. Takes
-/// no memory.
+/// How many permissions the own entries of a domain have, which `max_learning_entry` bounds; those
+/// of `task` lines don't count. Takes no memory.
 #[tactic(auto, unfolding(tm_rules::specs::Changes::count))]
 pub fn count(domain: &Domain) -> u64
     requires { IsShort domain.now.entries }

@@ -1,4 +1,5 @@
--- Each verdict on a request of a process whose domain is there: it is given, and the steps that it asks for fit.
+-- Each verdict on a request of a process whose domain is there: it is given, and the steps that it
+-- asks for fit.
 use Rattle.std.proofs.Common.{◌≡◌, ℕ, ◌+◌, ◌*◌, ◌^◌, List, [], ◌∷◌, ◌++◌, Bool, true, false, true≢false, refl, sym, ap, ◌∙◌, subst, arith, inl, inr, ◌⊎◌}
 use Rattle.std.specs.Prelude.{Option, Some, None, ◌&&◌, ◌||◌, ◌==◌, cond, if◌then◌else◌, option_map, unwrap_or, not, IsSome, is_some, count_ones, IfSome}
 use Rattle.std.specs.List.{AllByRecursion, find, list_all}
@@ -41,7 +42,8 @@ use Rattle.tm_legal.specs.Verdict.{is_enforcing, denied, made, moving, by_entry,
 use Rattle.tm_rules.specs.Changes.{is_task}
 use Rattle.tm_legal.specs.Steps.{fits_entry}
 use Rattle.tm_legal.specs.Legal.{steps_of_line, steps_of_move}
-use Rattle.tm_legal.proofs.Kept.{DomainIn, DomainIn-later, Keeps, Sound, Ready, Ready-later, live_in}
+use Rattle.tm_legal.specs.Stages.{NotAsk, LineFits, MoveFits, is_make, NoMake, EndsMake, DomainIn, Ready}
+use Rattle.tm_legal.proofs.Kept.{DomainIn-later, Keeps, Sound, Ready-later, live_in}
 
 -- Lists
 
@@ -139,11 +141,6 @@ line-fits g p x request grammar sound is task =
 
 -- Verdicts
 
--- any reason but `ask`
-abbrev pub NotAsk : Reason → Type 0
-NotAsk Reason.Ask = ⊥
-NotAsk _ = Unit {0}
-
 -- `ask`, or another reason
 pub ask_or_not : (reason : Reason) → (reason ≡ Reason.Ask) ⊎ NotAsk reason
 ask_or_not Reason.Ask = inl refl
@@ -155,18 +152,6 @@ ask_or_not Reason.Learn = inr tt
 ask_or_not Reason.NoEntry = inr tt
 ask_or_not Reason.NotReady = inr tt
 ask_or_not Reason.NoManual = inr tt
-
--- a line to be learned can be learned, and one to be asked for is there
-abbrev pub LineFits : Grammar → Reason → Option Entry → Type 0
-LineFits g Reason.Learn line = IfSome line (λ entry. fits_entry g entry ≡ true)
-LineFits g Reason.Ask line = IsSome line
-LineFits g reason line = Unit {0}
-
--- a move enters a domain that is there, or makes one that can be made
-abbrev pub MoveFits : Grammar → Policy → ℕ → Move → Option DomainName → Type 0
-MoveFits g p d (Move.Enter n) target = DomainIn p n
-MoveFits g p d Move.Make target = (name : DomainName) × (target ≡ Some name) × Ready g p (Step.Make d name)
-MoveFits g p d move target = Unit {0}
 
 pub MoveFits-later : (g : Grammar) (p q : Policy) (d : ℕ) (move : Move) (target : Option DomainName) → Keeps p q → MoveFits g p d move target → MoveFits g q d move target
 MoveFits-later g p q d Move.Stay target keeps h = tt
@@ -297,21 +282,6 @@ judged g p attached d process request grammar sound h is =
     let given = in-given g p attached d h grammar sound process h.profile request.args request.perm request.attributes is in (given.0, rw (h.there, h.profiled) given.1, given.2)
 
 -- The steps that a verdict asks for
-
--- a domain is made
-abbrev pub is_make : Step → Bool
-is_make (Step.Make d name) = true
-is_make _ = false
-
--- steps without a Make
-abbrev pub NoMake : List Step → Type 0
-NoMake steps = AllByRecursion (λ step. is_make step ≡ false) steps
-
--- steps with a Make at their end, and nowhere else
-abbrev pub EndsMake : List Step → Type 0
-EndsMake [] = ⊥
-EndsMake (step ∷ []) = is_make step ≡ true
-EndsMake (step ∷ next ∷ rest) = (is_make step ≡ false) × EndsMake (next ∷ rest)
 
 pub NoMake-append : (xs ys : List Step) → NoMake xs → NoMake ys → NoMake (xs ++ ys)
 NoMake-append xs ys h k = All-append (λ step. is_make step ≡ false) xs ys h k

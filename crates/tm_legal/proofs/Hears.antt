@@ -1,5 +1,5 @@
 -- A held look: it asks, it waits, it hears, and after a retry it looks again.
-use Rattle.std.proofs.Common.{◌≡◌, ◌≤◌, ◌<◌, ℕ, suc, [], ◌∷◌, ◌++◌, length, true, false, true≢false, refl, sym, ◌∙◌, subst, inl, le_refl}
+use Rattle.std.proofs.Common.{◌≡◌, ◌≤◌, ℕ, suc, [], ◌∷◌, ◌++◌, length, true, false, true≢false, refl, sym, ◌∙◌, subst, inl, le_refl}
 use Rattle.std.specs.Prelude.{Option, Some, None}
 use Rattle.std.specs.List.{AllByRecursion}
 use Rattle.tm_types.specs.declared.step.Step.{Step}
@@ -11,13 +11,14 @@ use Rattle.tm_types.specs.declared.verdict.Move.{Move}
 use Rattle.tm_rules.specs.Queries.{Standing, numbered, answer_of}
 use Rattle.tm_legal.specs.Steps.{State}
 use Rattle.tm_legal.specs.Run.{History, reply_at}
-use Rattle.tm_legal.specs.Legal.{Scene, state_at, look_grants, steps_of_move, LookLearns, Learns, is_retry, is_yes}
-use Rattle.tm_legal.specs.Play.{InProgress, Stage, retries_of, entered, with_own, with_heard, after_answer}
-use Rattle.tm_legal.proofs.Kept.{DomainIn}
+use Rattle.tm_legal.specs.Legal.{Scene, state_at, look_grants, steps_of_move, LookHears, Hears, is_retry, is_yes}
+use Rattle.tm_legal.specs.Cases.{LookDone}
+use Rattle.tm_legal.specs.Play.{InProgress, Stage, entered, with_own, with_heard, after_answer}
+use Rattle.tm_legal.specs.Stages.{DomainIn, Leads, FollowsTo, subject_now, Begins, ToAsk, Waits, StageHolds}
 use Rattle.tm_legal.proofs.Asked.{move-ready}
 use Rattle.tm_legal.proofs.Histories.{All-push, length-push, reply_at-last}
-use Rattle.tm_legal.proofs.Looked.{Looked-hears, LookDone, look-done, own-done, asks-with, learns-heard, moves_after, Leads}
-use Rattle.tm_legal.proofs.Walks.{FollowsTo, FollowsTo-push, subject_now, Begins, ToAsk, Waits, StageHolds, Onward}
+use Rattle.tm_legal.proofs.Looked.{Looked-hears, look-done, own-done, asks-with, hears-answer, moves_after}
+use Rattle.tm_legal.proofs.Walks.{FollowsTo-push, Onward}
 use Rattle.tm_legal.proofs.Takes.{first-leads, step-begins, with_step}
 
 -- what was heard of the one Ask of a look
@@ -32,8 +33,8 @@ module _ (scene : Scene) (history : History) (s : State) (b : InProgress) (begin
         follow = begins.follow;
       }
 
-  hear-learned : Learns scene history number (reply_at history number) (Some (record { answer = answer; version = version })) → LookLearns scene history (with_heard scene.grammar b.look answer version)
-  hear-learned learns = rw own (learns-heard scene history b.look.version b.look.mode b.look.reason b.look.step number [] (Some (record { answer = answer; version = version })) ask learns)
+  look-hears : Hears scene history number (reply_at history number) (Some (record { answer = answer; version = version })) → LookHears scene history (with_heard scene.grammar b.look answer version)
+  look-hears hears = rw own (hears-answer scene history b.look.version b.look.mode b.look.reason b.look.step number [] (Some (record { answer = answer; version = version })) ask hears)
 
   -- what was heard doesn't grant
   hear-denied : is_yes (Some (record { answer = answer; version = version })) ≡ false → look_grants (with_heard scene.grammar b.look answer version) ≡ true → ⊥
@@ -73,7 +74,7 @@ module _ (scene : Scene) (history : History) (step : Step) (s s' : State) (b : I
         record { looked = heard.looked; line = heard.line; moves = heard.moves; done = heard.done; follow = heard.follow },
         inl
             (record {
-              learned = hear-learned scene history' s' b' next to_ask.ask to_ask.unheard number own None number le (rw (reply_at-last history step (Reply.Ask Held.Nobody)) refl);
+              heard = look-hears scene history' s' b' next to_ask.ask to_ask.unheard number own None number le (rw (reply_at-last history step (Reply.Ask Held.Nobody)) refl);
               last = refl;
               ready = tt;
               leads = λ grants. absurd (hear-denied scene history' s' b' next to_ask.ask to_ask.unheard number own None number le refl grants);
@@ -84,8 +85,8 @@ module _ (scene : Scene) (history : History) (step : Step) (s s' : State) (b : I
 
 module _ (scene : Scene) (history : History) (s : State) (newest : state_at scene history (length history) ≡ s) (b : InProgress) (there : DomainIn s.policy b.before) (serial : ℕ) where
   -- an answer is taken at the newest version
-  pub answer-holds : (answer : Answered) → Begins scene history s.policy b [] → Waits scene history s.queries.all b serial → (answer_of s.queries serial ≡ Some Answered.Retry → b.retry < retries_of scene.book) → answer_of s.queries serial ≡ Some answer → StageHolds scene history s (after_answer scene.grammar b (length history) answer) (after_answer scene.grammar b (length history) answer).stage
-  answer-holds answer begins waits fewer has = by_answer answer has
+  pub answer-holds : (answer : Answered) → Begins scene history s.policy b [] → Waits scene history s.queries.all b serial → answer_of s.queries serial ≡ Some answer → StageHolds scene history s (after_answer scene.grammar b (length history) answer) (after_answer scene.grammar b (length history) answer).stage
+  answer-holds answer begins waits has = by_answer answer has
     where
       low : waits.number ≤ length history
       low = (rw waits.own at begins.looked.bounds).0
@@ -93,14 +94,14 @@ module _ (scene : Scene) (history : History) (s : State) (newest : state_at scen
       le : length history ≤ length history
       le = le_refl (length history)
 
-      learns : (a : Answered) → answer_of s.queries serial ≡ Some a → Learns scene history waits.number (reply_at history waits.number) (Some (record { answer = Some a; version = length history }))
-      learns a is = rw waits.replied (a, length history, refl, low, le, rw newest is)
+      given : (a : Answered) → answer_of s.queries serial ≡ Some a → Hears scene history waits.number (reply_at history waits.number) (Some (record { answer = Some a; version = length history }))
+      given a is = rw waits.replied (a, length history, refl, low, le, rw newest is)
 
       hears : (a : Answered) (stage : Stage) → Begins scene history s.policy (record b { look = with_heard scene.grammar b.look (Some a) (length history); stage = stage }) (moves_after b.before b.verdict (Some (record { answer = Some a; version = length history })))
       hears a stage = hear-begins scene history s b begins waits.ask waits.unheard waits.number waits.own (Some a) (length history) le stage
 
-      learned : (a : Answered) → answer_of s.queries serial ≡ Some a → LookLearns scene history (with_heard scene.grammar b.look (Some a) (length history))
-      learned a is = hear-learned scene history s b begins waits.ask waits.unheard waits.number waits.own (Some a) (length history) le (learns a is)
+      heard : (a : Answered) → answer_of s.queries serial ≡ Some a → LookHears scene history (with_heard scene.grammar b.look (Some a) (length history))
+      heard a is = look-hears scene history s b begins waits.ask waits.unheard waits.number waits.own (Some a) (length history) le (given a is)
 
       denied : (a : Answered) → is_yes (Some (record { answer = Some a; version = length history })) ≡ false → look_grants (with_heard scene.grammar b.look (Some a) (length history)) ≡ true → ⊥
       denied a = hear-denied scene history s b begins waits.ask waits.unheard waits.number waits.own (Some a) (length history) le
@@ -116,23 +117,23 @@ module _ (scene : Scene) (history : History) (s : State) (newest : state_at scen
         hears Answered.Yes (Stage.Owing (steps_of_move b.before b.verdict)),
         inl
             (record {
-              learned = learned Answered.Yes is;
+              heard = heard Answered.Yes is;
               last = refl;
               ready = move-ready scene.grammar s.policy b.before there b.verdict.mode b.verdict.reason b.verdict.name b.verdict.step b.verdict.target b.verdict.line begins.moves;
               leads = λ grants. leads;
             }),
       )
-      by_answer Answered.Retry is = (hears Answered.Retry Stage.Looking, learned Answered.Retry is, refl, fewer is)
-      by_answer Answered.No is = (hears Answered.No (Stage.Owing []), inl (record { learned = learned Answered.No is; last = refl; ready = tt; leads = λ grants. absurd (denied Answered.No refl grants) }))
+      by_answer Answered.Retry is = (hears Answered.Retry Stage.Looking, heard Answered.Retry is, refl)
+      by_answer Answered.No is = (hears Answered.No (Stage.Owing []), inl (record { heard = heard Answered.No is; last = refl; ready = tt; leads = λ grants. absurd (denied Answered.No refl grants) }))
       by_answer Answered.Detached is =
-          (hears Answered.Detached (Stage.Owing []), inl (record { learned = learned Answered.Detached is; last = refl; ready = tt; leads = λ grants. absurd (denied Answered.Detached refl grants) }))
+          (hears Answered.Detached (Stage.Owing []), inl (record { heard = heard Answered.Detached is; last = refl; ready = tt; leads = λ grants. absurd (denied Answered.Detached refl grants) }))
 
 -- Another look
 
 -- the looks before another look, and its retry number
-pub again-done : (scene : Scene) (history : History) (s : State) (b : InProgress) → Begins scene history s.policy b [] → LookLearns scene history b.look → AllByRecursion (LookDone scene history (subject_now b)) (b.looked ++ b.look ∷ [])
-again-done scene history s b begins learned =
-    All-push (LookDone scene history (subject_now b)) b.looked b.look begins.done (look-done scene history (subject_now b) b.retry b.look b.verdict b.audit begins.line begins.looked learned)
+pub again-done : (scene : Scene) (history : History) (s : State) (b : InProgress) → Begins scene history s.policy b [] → LookHears scene history b.look → AllByRecursion (LookDone scene history (subject_now b)) (b.looked ++ b.look ∷ [])
+again-done scene history s b begins heard =
+    All-push (LookDone scene history (subject_now b)) b.looked b.look begins.done (look-done scene history (subject_now b) b.retry b.look b.verdict b.audit begins.line begins.looked heard)
 
 pub again-follows : (scene : Scene) (history : History) (s : State) (b : InProgress) → Begins scene history s.policy b [] → is_retry b.look.heard ≡ true → FollowsTo history 0 (b.looked ++ b.look ∷ []) (suc b.retry)
 again-follows scene history s b begins again =

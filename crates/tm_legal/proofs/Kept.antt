@@ -1,4 +1,5 @@
--- What stays of a policy while its domains learn, fail and are made: namespaces, and each domain's name and profile.
+-- What stays of a policy while its domains learn, fail and are made: namespaces, and each domain's
+-- name and profile.
 use Rattle.std.proofs.Common.{◌≡◌, ℕ, zero, suc, ◌+◌, List, [], ◌∷◌, ◌++◌, length, Bool, true, false, refl, sym, ap, ◌∙◌, subst, arith}
 use Rattle.std.specs.Prelude.{Option, Some, None, ◌&&◌, ◌==◌, cond, slice_get, not, IsSome}
 use Rattle.std.specs.List.{AllByRecursion, position_from}
@@ -9,7 +10,6 @@ use Rattle.tm_rules.specs.Words.{DomainName}
 use Rattle.tm_types.specs.declared.entry.Entry.{Entry}
 use Rattle.tm_types.specs.declared.policy.Namespace.{Namespace}
 use Rattle.tm_types.specs.declared.policy.Domain.{Domain}
-use Rattle.tm_types.specs.declared.policy.Profile.{Profile}
 use Rattle.tm_types.specs.declared.policy.Policy.{Policy}
 use Rattle.tm_types.specs.declared.step.Step.{Step}
 use Rattle.tm_types.specs.declared.step.Reply.{Reply}
@@ -24,6 +24,7 @@ use Rattle.tm_rules.specs.Edit.{new_domain}
 use Rattle.tm_rules.specs.Changes.{learned_domain, learn_reply, learn, made_new, make, fail}
 use Rattle.tm_legal.specs.Steps.{State, Applied, apply, on_policy, fits_entry}
 use Rattle.tm_legal.specs.Legal.{made_number}
+use Rattle.tm_legal.specs.Stages.{DomainIn, Ready}
 
 -- Texts and lists
 
@@ -62,13 +63,6 @@ live_is_there p name n e =
     (found.1, subst (λ k. domain_at p k ≡ Some found.1) (let same : found.0 ≡ n = omega arith in same) found.3, (and_parts found.1.live (texts_equal found.1.name name) found.4).0)
 
 -- Domains that are there
-
--- a domain is there, with its profile
-pub record DomainIn (p : Policy) (d : ℕ) : Type 0 where
-  pub domain : Domain
-  pub there : domain_at p d ≡ Some domain
-  pub profile : Profile
-  pub profiled : profile_of p domain ≡ Some profile
 
 -- what plays need of an opened policy: live domains have profiles, and aggregators lead to paths
 pub record Sound (p : Policy) : Type 0 where
@@ -206,13 +200,6 @@ made-evolves p new has sound =
     }
 
 -- What a process's own steps do
-
--- such a step fits: its domain is there, a line can be learned, a name can be made
-abbrev pub Ready : Grammar → Policy → Step → Type 0
-Ready g p (Step.Learn d entry) = (fits_entry g entry ≡ true) × DomainIn p d
-Ready g p (Step.Make d name) = (h : DomainIn p d) × ((is_domain_name g.is_path name && texts_equal (namespace_word name) (namespace_word h.domain.name)) ≡ true)
-Ready g p (Step.Fail d) = DomainIn p d
-Ready g p step = ⊥
 
 pub Ready-later : (g : Grammar) (p q : Policy) (step : Step) → Keeps p q → Ready g p step → Ready g q step
 Ready-later g p q (Step.Learn d entry) keeps h = (h.0, DomainIn-later p q d keeps h.1)

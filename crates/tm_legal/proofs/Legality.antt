@@ -1,36 +1,124 @@
 -- What ended takes come to: the clauses of legality, tree by tree.
-use Rattle.std.proofs.Common.{◌≡◌, ◌<◌, ℕ, zero, suc, ◌+◌, List, [], ◌∷◌, ◌++◌, length, map, take, drop, Bool, true, false, true≢false, refl, sym, ap, ◌∙◌, subst, arith, append-nil}
+use Rattle.std.proofs.Common.{◌≡◌, ◌<◌, ◌≤◌, ℕ, zero, suc, ◌+◌, List, [], ◌∷◌, ◌++◌, length, map, take, drop, Bool, true, false, true≢false, refl, sym, ap, ◌∙◌, subst, arith, append-nil}
 use Rattle.std.specs.Prelude.{Option, Some, None, if◌then◌else◌, ◌==◌, flat_map, slice_get}
+use Rattle.std.specs.Option.{IfSome}
 use Rattle.std.specs.List.{AllByRecursion}
 use Rattle.std.proofs.lemmas.Bool.{eqb-true}
-use Rattle.std.proofs.lemmas.List.{length-map, map-append}
+use Rattle.std.proofs.lemmas.List.{length-append, length-drop, length-map, length-take, map-append, take-append-drop}
 use Rattle.std.proofs.lemmas.Grind.{flat_map-append}
 use Rattle.tm_types.specs.declared.request.Item.{Item}
 use Rattle.tm_types.specs.declared.request.Tree.{Tree}
 use Rattle.tm_types.specs.declared.step.Look.{Look}
+use Rattle.tm_types.specs.declared.policy.Policy.{Policy}
 use Rattle.tm_types.specs.declared.step.Take.{Take}
+use Rattle.tm_types.specs.declared.step.Run.{Run}
 use Rattle.tm_rules.specs.Words.{Trace}
 use Rattle.tm_legal.specs.Steps.{State}
-use Rattle.tm_legal.specs.Run.{History, Situations, with_situation, with_ids, forked, at_start, Case, tree_cases, cases_from, do_pids, all_do_pids, seen, places}
-use Rattle.tm_legal.specs.Legal.{Scene, subject_of, LookHolds, OwnSteps, LookLearns, own_numbers, times, is_end}
+use Rattle.tm_legal.specs.Run.{History, Situations, with_situation, with_ids, forked, after_take, at_start, Case, tree_cases, cases_from, do_pids, all_do_pids, seen, places}
+use Rattle.tm_legal.specs.Legal.{Scene, cases_of, TakesInOrder, subject_of, LooksRise, LookHolds, TakeHolds, OwnSteps, LookHears, TakeHears, EndsWith, last_look, own_numbers, times, is_end}
+use Rattle.tm_legal.specs.Cases.{LookDone, IsLegalTake, LegalTakesMakeLegalRuns, EachPlayed}
 use Rattle.tm_legal.specs.Play.{InProgress, Way}
 use Rattle.tm_legal.proofs.Laws.{times-append}
 use Rattle.tm_legal.proofs.Asked.{All-append}
-use Rattle.tm_legal.proofs.Looked.{LookDone}
-use Rattle.tm_legal.proofs.Walks.{All-map, CaseDone, BegunHolds, EndsAs, is_over, WayHolds}
+use Rattle.tm_legal.proofs.Walks.{All-map, BegunHolds, EndsAs, is_over, WayHolds}
 use Rattle.tm_legal.proofs.Counts.{EachWay, way_own, count_own}
 
 -- The clauses of one take
 
-module _ (scene : Scene) (history : History) (c : Case) (h : CaseDone scene history c) where
-  pub shows : AllByRecursion (LookHolds scene history (subject_of c)) c.taken.looks
+module _ (scene : Scene) (history : History) (c : Case) (h : IsLegalTake scene history c) where
+  shows : AllByRecursion (LookHolds scene history (subject_of c)) c.taken.looks
   shows = All-map (LookDone scene history (subject_of c)) (LookHolds scene history (subject_of c)) c.taken.looks (λ look d. d.holds) h.looks
 
-  pub owns : AllByRecursion (OwnSteps scene history (subject_of c)) c.taken.looks
+  owns : AllByRecursion (OwnSteps scene history (subject_of c)) c.taken.looks
   owns = All-map (LookDone scene history (subject_of c)) (OwnSteps scene history (subject_of c)) c.taken.looks (λ look d. d.owns) h.looks
 
-  pub learns : AllByRecursion (LookLearns scene history) c.taken.looks
-  learns = All-map (LookDone scene history (subject_of c)) (LookLearns scene history) c.taken.looks (λ look d. d.learns) h.looks
+  hears : AllByRecursion (LookHears scene history) c.taken.looks
+  hears = All-map (LookDone scene history (subject_of c)) (LookHears scene history) c.taken.looks (λ look d. d.hears) h.looks
+
+pub All-taken : (scene : Scene) (history : History) (P : Take → Type 0) → ((c : Case) → IsLegalTake scene history c → P c.taken) → (done : List Case) → AllByRecursion (IsLegalTake scene history) done → AllByRecursion P (map (λ (c : Case). c.taken) done)
+All-taken scene history P f [] h = tt
+All-taken scene history P f (c ∷ done) h = (f c h.0, All-taken scene history P f done h.1)
+
+-- The takes of all cases are all takes
+
+pub tree-taken : (t : ℕ) (now : Situations) (items : List Item) (takes : List Take) → length takes ≤ length (do_pids items) → map (λ (c : Case). c.taken) (tree_cases t now items takes) ≡ takes
+unfolding tree_cases
+tree-taken t now [] [] le = refl
+tree-taken t now [] (k ∷ takes) le = absurd (omega arith)
+tree-taken t now (Item.Ids pid ids ∷ items) takes le = tree-taken t (with_situation now pid (with_ids (now pid) ids)) items takes le
+tree-taken t now (Item.Fork pid child ∷ items) takes le = tree-taken t (with_situation now child (forked (now pid) child)) items takes le
+tree-taken t now (Item.Do pid request ∷ items) [] le = refl
+tree-taken t now (Item.Do pid request ∷ items) (k ∷ takes) le = ap (λ ks. k ∷ ks) (tree-taken t (with_situation now pid (after_take (now pid) k)) items takes (omega arith))
+
+all-taken : (t : ℕ) (policy : Policy) (trees : Trace) (takes : List Take) → length takes ≤ length (all_do_pids trees) → map (λ (c : Case). c.taken) (cases_from t policy trees takes) ≡ takes
+unfolding cases_from
+all-taken t policy [] [] le = refl
+all-taken t policy [] (k ∷ takes) le = absurd (omega arith)
+all-taken t policy (tree ∷ trees) takes le =
+    let own : ℕ = length (do_pids tree.records) in
+    let sum : length takes ≤ own + length (all_do_pids trees) = rw (length-append (do_pids tree.records) (all_do_pids trees)) at le in
+    let front : map (λ (c : Case). c.taken) (tree_cases t (at_start policy tree) tree.records (take own takes)) ≡ take own takes =
+    tree-taken t (at_start policy tree) tree.records (take own takes) (rw (length-take own takes) (omega arith)) in
+    let rest : map (λ (c : Case). c.taken) (cases_from (suc t) policy trees (drop own takes)) ≡ drop own takes = all-taken (suc t) policy trees (drop own takes) (rw (length-drop own takes) (omega (arith, sum))) in
+    map-append (λ (c : Case). c.taken) (tree_cases t (at_start policy tree) tree.records (take own takes)) (cases_from (suc t) policy trees (drop own takes)) ∙ rw (front, rest) (take-append-drop own takes)
+
+-- takes that are in order are those of the cases
+pub cases_take : (scene : Scene) (run : Run) → TakesInOrder scene run → map (λ (c : Case). c.taken) (cases_of scene run) ≡ run.takes
+cases_take scene run order =
+    let long : length run.takes ≡ length (all_do_pids scene.trace) = sym (length-map run.takes (λ (t : Take). t.pid)) ∙ ap length order.pids in
+    all-taken 1 scene.policy scene.trace run.takes (omega (arith, long))
+
+-- A run is legal where each take is, its steps have their places, and the supervisor acts as it
+-- should
+
+pub legal-of : LegalTakesMakeLegalRuns
+legal-of scene run pids each places acts =
+    record {
+      takes = record { pids = pids; looks = of_takes (λ (k : Take). 0 < length k.looks) (λ c h. h.some) };
+      versions = of_cases (λ c. LooksRise run.steps c.now.floor c.taken.looks) (λ c h. h.rises);
+      verdicts = of_cases (TakeHolds scene run.steps) (λ c h. record { before = h.before; shown = shows scene run.steps c h });
+      own_steps = of_cases (λ c. AllByRecursion (OwnSteps scene run.steps (subject_of c)) c.taken.looks) (owns scene run.steps);
+      places = places;
+      supervisor = acts;
+      answers = of_takes (TakeHears scene run.steps) (λ c h. record { heard = hears scene run.steps c h; follow = h.follows });
+      outcomes = of_cases (λ c. IfSome (last_look c.taken.looks) (EndsWith scene run.steps (subject_of c) c.taken)) (λ c h. h.ends);
+    }
+  where
+    of_cases : (P : Case → Type 0) → ((c : Case) → IsLegalTake scene run.steps c → P c) → AllByRecursion P (cases_of scene run)
+    of_cases P f = All-map (IsLegalTake scene run.steps) P (cases_of scene run) f each
+
+    as_many : length run.takes ≡ length (all_do_pids scene.trace)
+    as_many = sym (length-map run.takes (λ (k : Take). k.pid)) ∙ ap length pids
+
+    of_takes : (P : Take → Type 0) → ((c : Case) → IsLegalTake scene run.steps c → P c.taken) → AllByRecursion P run.takes
+    of_takes P f =
+        subst (AllByRecursion P) (all-taken 1 scene.policy scene.trace run.takes (omega (arith, as_many))) (All-taken scene run.steps P f (cases_of scene run) each)
+
+take-front : {A : Type 0} (xs ys : List A) → take (length xs) (xs ++ ys) ≡ xs
+take-front [] ys = refl
+take-front (x ∷ xs) ys = ap (λ zs. x ∷ zs) (take-front xs ys)
+
+drop-front : {A : Type 0} (xs ys : List A) → drop (length xs) (xs ++ ys) ≡ ys
+drop-front [] ys = refl
+drop-front (x ∷ xs) ys = drop-front xs ys
+
+-- the takes of each tree, tree by tree
+pub each-played : (scene : Scene) (history : History) (t : ℕ) (trees : Trace) (lists : List (List Take)) → EachPlayed scene history t trees lists → (map (λ (k : Take). k.pid) (flat_map (λ ks. ks) lists) ≡ all_do_pids trees) × AllByRecursion (IsLegalTake scene history) (cases_from t scene.policy trees (flat_map (λ ks. ks) lists))
+unfolding cases_from
+each-played scene history t [] [] h = (refl, tt)
+each-played scene history t [] (takes ∷ rest) h = absurd h
+each-played scene history t (tree ∷ trees) [] h = absurd h
+each-played scene history t (tree ∷ trees) (takes ∷ rest) h =
+    let later = each-played scene history (suc t) trees rest h.1 in
+    let others : List Take = flat_map (λ (ks : List Take). ks) rest in
+    let long : length (do_pids tree.records) ≡ length takes = sym (ap length h.0.pids) ∙ length-map takes (λ (k : Take). k.pid) in
+    let front : take (length (do_pids tree.records)) (takes ++ others) ≡ takes = rw long (take-front takes others) in
+    let back : drop (length (do_pids tree.records)) (takes ++ others) ≡ others = rw long (drop-front takes others) in (
+      rw (map-append (λ (k : Take). k.pid) takes others, h.0.pids, later.0) refl,
+      All-append (IsLegalTake scene history) (tree_cases t (at_start scene.policy tree) tree.records (take (length (do_pids tree.records)) (takes ++ others))) (cases_from (suc t) scene.policy trees (drop (length (do_pids tree.records)) (takes ++ others)))
+          (rw front h.0.cases)
+          (rw back later.1),
+    )
 
 -- Trees that are done
 
@@ -43,20 +131,12 @@ pub record IsDone (way : Way) : Type 0 where
 abbrev pub takes_of : List Way → List Take
 takes_of ways = flat_map (λ (way : Way). way.takes) ways
 
-tree_cases-none : (t : ℕ) (now : Situations) (items : List Item) → tree_cases t now items [] ≡ []
+pub tree_cases-none : (t : ℕ) (now : Situations) (items : List Item) → tree_cases t now items [] ≡ []
 unfolding tree_cases
 tree_cases-none t now [] = refl
 tree_cases-none t now (Item.Ids pid ids ∷ items) = tree_cases-none t (with_situation now pid (with_ids (now pid) ids)) items
 tree_cases-none t now (Item.Fork pid child ∷ items) = tree_cases-none t (with_situation now child (forked (now pid) child)) items
 tree_cases-none t now (Item.Do pid request ∷ items) = refl
-
-take-front : {A : Type 0} (xs ys : List A) → take (length xs) (xs ++ ys) ≡ xs
-take-front [] ys = refl
-take-front (x ∷ xs) ys = ap (λ zs. x ∷ zs) (take-front xs ys)
-
-drop-front : {A : Type 0} (xs ys : List A) → drop (length xs) (xs ++ ys) ≡ ys
-drop-front [] ys = refl
-drop-front (x ∷ xs) ys = drop-front xs ys
 
 done-pids : (scene : Scene) (history : History) (s : State) (t : ℕ) (tree : Tree) (way : Way) → WayHolds scene history s t tree way → IsDone way → map (λ (k : Take). k.pid) way.takes ≡ do_pids tree.records
 done-pids scene history s t tree way h done =
@@ -97,17 +177,6 @@ all-pids scene history s t [] (way ∷ ways) h done = absurd h
 all-pids scene history s t (tree ∷ trees) [] h done = absurd h
 all-pids scene history s t (tree ∷ trees) (way ∷ ways) h done =
     rw (map-append (λ (k : Take). k.pid) way.takes (takes_of ways), done-pids scene history s t tree way h.0 done.0, all-pids scene history s (suc t) trees ways h.1 done.1) refl
-
-All-taken : (scene : Scene) (history : History) (P : Take → Type 0) → ((c : Case) → CaseDone scene history c → P c.taken) → (done : List Case) → AllByRecursion (CaseDone scene history) done → AllByRecursion P (map (λ (c : Case). c.taken) done)
-All-taken scene history P f [] h = tt
-All-taken scene history P f (c ∷ done) h = (f c h.0, All-taken scene history P f done h.1)
-
-pub all-takes : (scene : Scene) (history : History) (s : State) (P : Take → Type 0) → ((c : Case) → CaseDone scene history c → P c.taken) → (t : ℕ) (trees : Trace) (ways : List Way) → EachWay (WayHolds scene history s) t trees ways → AllByRecursion P (takes_of ways)
-all-takes scene history s P f t [] [] h = tt
-all-takes scene history s P f t [] (way ∷ ways) h = absurd h
-all-takes scene history s P f t (tree ∷ trees) [] h = absurd h
-all-takes scene history s P f t (tree ∷ trees) (way ∷ ways) h =
-    All-append P way.takes (takes_of ways) (subst (AllByRecursion P) h.0.taken (All-taken scene history P f h.0.done h.0.ended)) (all-takes scene history s P f (suc t) trees ways h.1)
 
 pub all-own : (n : ℕ) (ways : List Way) → AllByRecursion IsDone ways → times n (own_numbers (takes_of ways)) ≡ count_own n ways
 all-own n [] done = refl

@@ -1,25 +1,25 @@
 pub mod Laws
 pub mod NoStep
-mod Plays
+pub mod Plays
 pub mod Growth
 pub mod Kept
 pub mod Histories
 mod Edits
 pub mod Asked
-mod Looked
-mod Walks
-mod Takes
-mod Hears
-mod Onward
-mod Counts
+pub mod Looked
+pub mod Walks
+pub mod Takes
+pub mod Hears
+pub mod Onward
+pub mod Counts
 mod Desks
-mod Scripts
+pub mod Scripts
 pub mod Players
 pub mod Trees
 pub mod TakeEvents
 mod Others
 mod DeskEvents
-mod Legality
+pub mod Legality
 pub mod AllPlays
 mod Stops
 pub mod PlayLaws
@@ -27,4 +27,6 @@ pub mod Opened
 pub mod Named
 pub mod Loads
 pub mod BareGrammar
+pub mod Fitting
+pub mod OwnTurns
 pub mod NeedsLaws

@@ -15,28 +15,17 @@ use Rattle.tm_types.specs.declared.verdict.Reason.{Reason}
 use Rattle.tm_types.specs.declared.verdict.Move.{Move}
 use Rattle.tm_types.specs.declared.verdict.Verdict.{Verdict}
 use Rattle.tm_legal.specs.Run.{History, step_at, reply_at, seen, heard_version}
-use Rattle.tm_rules.specs.Audit.{audit_text}
+use Rattle.tm_legal.specs.Cases.{LookDone}
 use Rattle.tm_legal.specs.Play.{with_heard}
 use Rattle.std.specs.Option.{option_map_or}
 use Rattle.tm_types.specs.declared.step.Held.{Held}
 use Rattle.tm_types.specs.declared.step.Answered.{Answered}
-use Rattle.tm_legal.specs.Legal.{Scene, Subject, state_at, verdict_at, IsShown, LookHolds, OwnSteps, RisesFrom, AfterAnswer, MakesAfterYes, steps_of_line, steps_of_move, steps_asked, retry_written, look_grants, is_yes, last_number, made_number, domain_after, Learns, LookLearns, AsksWith}
+use Rattle.tm_legal.specs.Legal.{Scene, Subject, AfterAnswer, steps_of_line, steps_of_move, steps_asked, retry_written, look_grants, is_yes, last_number, made_number, domain_after, Hears, LookHears, AsksWith}
+use Rattle.tm_legal.specs.Stages.{Looked, Leads, DomainIn, NotAsk, LineFits, is_make}
 use Rattle.tm_legal.proofs.Laws.{state_at-later, LookHolds-later}
-use Rattle.tm_legal.proofs.Kept.{DomainIn, DomainIn-later, Keeps}
-use Rattle.tm_legal.proofs.Asked.{NotAsk, ask_or_not, ask-line, LineFits, NoMake, EndsMake, is_make, same_line_steps, All-append}
+use Rattle.tm_legal.proofs.Kept.{DomainIn-later, Keeps}
+use Rattle.tm_legal.proofs.Asked.{ask_or_not, ask-line, same_line_steps, All-append}
 use Rattle.tm_legal.proofs.Histories.{step_at-later, reply_at-later, step_at-last, reply_at-last, length-push, All-le, All-push, RisesFrom-push, last_number-push, last_number-le, map_step_at-later}
-
--- a look shows its verdict, and its own steps so far are the first of those that are asked; the rest is still to be made
-pub record Looked (scene : Scene) (history : History) (s : Subject) (retry : ℕ) (look : Look) (v : Verdict) (rest : List Step) (audit : Option Text) : Type 0 where
-  pub judged : verdict_at scene history s look.version ≡ Some v
-  pub shown : IsShown v look
-  pub version : look.version ≤ length history
-  pub rising : RisesFrom look.version look.own
-  pub bounds : AllByRecursion (λ n. n ≤ length history) look.own
-  pub heard_at : IfSome look.heard (λ heard. heard.version ≤ length history)
-  pub after_yes : MakesAfterYes look
-  pub steps : map (step_at history) look.own ++ map Some rest ≡ map Some (steps_asked scene.grammar s.domain retry v (look_grants look))
-  pub audited : audit ≡ audit_text scene.grammar (state_at scene history look.version).policy s.domain s.process s.request v
 
 pub longer : (history more : History) → length history ≤ length (history ++ more)
 longer history more = rw (length-append history more) (omega arith)
@@ -164,54 +153,54 @@ asks-fields history retry version mode Reason.NoManual step own heard written = 
 pub asks-with : (history : History) (retry : ℕ) (look : Look) → (look.reason ≡ Reason.Ask → retry_written history look ≡ retry) → AsksWith history retry look
 asks-with history retry look written = asks-fields history retry look.version look.mode look.reason look.step look.own look.heard written
 
--- a look that isn't `ask` and has heard nothing has learned what it should
-learns-fields : (scene : Scene) (history : History) (version : ℕ) (mode : Option Mode) (reason : Reason) (step : Move) (own : List ℕ) (heard : Option Heard) → NotAsk reason → heard ≡ None → (let look : Look = record { version = version; mode = mode; reason = reason; step = step; own = own; heard = heard } in LookLearns scene history look)
-learns-fields scene history version mode Reason.Ask step own heard not_ask none = absurd not_ask
-learns-fields scene history version mode (Reason.Entry place) step own heard not_ask none = none
-learns-fields scene history version mode Reason.Disabled step own heard not_ask none = none
-learns-fields scene history version mode Reason.Permissive step own heard not_ask none = none
-learns-fields scene history version mode Reason.Quota step own heard not_ask none = none
-learns-fields scene history version mode Reason.Learn step own heard not_ask none = none
-learns-fields scene history version mode Reason.NoEntry step own heard not_ask none = none
-learns-fields scene history version mode Reason.NotReady step own heard not_ask none = none
-learns-fields scene history version mode Reason.NoManual step own heard not_ask none = none
+-- a look that isn't `ask` and has heard nothing has heard what it should
+hears-fields : (scene : Scene) (history : History) (version : ℕ) (mode : Option Mode) (reason : Reason) (step : Move) (own : List ℕ) (heard : Option Heard) → NotAsk reason → heard ≡ None → (let look : Look = record { version = version; mode = mode; reason = reason; step = step; own = own; heard = heard } in LookHears scene history look)
+hears-fields scene history version mode Reason.Ask step own heard not_ask none = absurd not_ask
+hears-fields scene history version mode (Reason.Entry place) step own heard not_ask none = none
+hears-fields scene history version mode Reason.Disabled step own heard not_ask none = none
+hears-fields scene history version mode Reason.Permissive step own heard not_ask none = none
+hears-fields scene history version mode Reason.Quota step own heard not_ask none = none
+hears-fields scene history version mode Reason.Learn step own heard not_ask none = none
+hears-fields scene history version mode Reason.NoEntry step own heard not_ask none = none
+hears-fields scene history version mode Reason.NotReady step own heard not_ask none = none
+hears-fields scene history version mode Reason.NoManual step own heard not_ask none = none
 
-pub learns-none : (scene : Scene) (history : History) (look : Look) → NotAsk look.reason → look.heard ≡ None → LookLearns scene history look
-learns-none scene history look not_ask none = learns-fields scene history look.version look.mode look.reason look.step look.own look.heard not_ask none
+pub hears-none : (scene : Scene) (history : History) (look : Look) → NotAsk look.reason → look.heard ≡ None → LookHears scene history look
+hears-none scene history look not_ask none = hears-fields scene history look.version look.mode look.reason look.step look.own look.heard not_ask none
 
--- a look `ask` has learned what its Ask's reply gives
-pub learns-heard : (scene : Scene) (history : History) (version : ℕ) (mode : Option Mode) (reason : Reason) (step : Move) (n : ℕ) (own : List ℕ) (heard : Option Heard) → reason ≡ Reason.Ask → (let look : Look = record { version = version; mode = mode; reason = reason; step = step; own = n ∷ own; heard = heard } in Learns scene history n (reply_at history n) heard → LookLearns scene history look)
-learns-heard scene history version mode reason step n own heard ask learns = rw ask learns
+-- a look `ask` has heard what its Ask's reply gives
+pub hears-answer : (scene : Scene) (history : History) (version : ℕ) (mode : Option Mode) (reason : Reason) (step : Move) (n : ℕ) (own : List ℕ) (heard : Option Heard) → reason ≡ Reason.Ask → (let look : Look = record { version = version; mode = mode; reason = reason; step = step; own = n ∷ own; heard = heard } in Hears scene history n (reply_at history n) heard → LookHears scene history look)
+hears-answer scene history version mode reason step n own heard ask hears = rw ask hears
 
--- what is learned stays learned
-Learns-later : (scene : Scene) (history more : History) (number : ℕ) (o : Option Reply) (heard : Option Heard) → Learns scene history number o heard → Learns scene (history ++ more) number o heard
-Learns-later scene history more number (Some (Reply.Ask Held.Nobody)) heard h = h
-Learns-later scene history more number (Some (Reply.Ask (Held.Serial serial))) heard (answer, version, is, low, high, has) =
+-- what is heard stays heard
+Hears-later : (scene : Scene) (history more : History) (number : ℕ) (o : Option Reply) (heard : Option Heard) → Hears scene history number o heard → Hears scene (history ++ more) number o heard
+Hears-later scene history more number (Some (Reply.Ask Held.Nobody)) heard h = h
+Hears-later scene history more number (Some (Reply.Ask (Held.Serial serial))) heard (answer, version, is, low, high, has) =
     let le : length history ≤ length (history ++ more) = longer history more in (answer, version, is, low, omega (arith, high), rw (state_at-later scene history more version high) has)
-Learns-later scene history more number None heard h = absurd h
-Learns-later scene history more number (Some (Reply.Learn r)) heard h = absurd h
-Learns-later scene history more number (Some (Reply.Make r)) heard h = absurd h
-Learns-later scene history more number (Some (Reply.Fail r)) heard h = absurd h
-Learns-later scene history more number (Some (Reply.Answer r)) heard h = absurd h
-Learns-later scene history more number (Some (Reply.Attach r)) heard h = absurd h
-Learns-later scene history more number (Some (Reply.Detach r)) heard h = absurd h
-Learns-later scene history more number (Some (Reply.Edit r)) heard h = absurd h
-Learns-later scene history more number (Some Reply.End) heard h = absurd h
+Hears-later scene history more number None heard h = absurd h
+Hears-later scene history more number (Some (Reply.Learn r)) heard h = absurd h
+Hears-later scene history more number (Some (Reply.Make r)) heard h = absurd h
+Hears-later scene history more number (Some (Reply.Fail r)) heard h = absurd h
+Hears-later scene history more number (Some (Reply.Answer r)) heard h = absurd h
+Hears-later scene history more number (Some (Reply.Attach r)) heard h = absurd h
+Hears-later scene history more number (Some (Reply.Detach r)) heard h = absurd h
+Hears-later scene history more number (Some (Reply.Edit r)) heard h = absurd h
+Hears-later scene history more number (Some Reply.End) heard h = absurd h
 
-learns_later-fields : (scene : Scene) (history more : History) (version : ℕ) (mode : Option Mode) (reason : Reason) (step : Move) (own : List ℕ) (heard : Option Heard) → AllByRecursion (λ n. n ≤ length history) own → (let look : Look = record { version = version; mode = mode; reason = reason; step = step; own = own; heard = heard } in LookLearns scene history look → LookLearns scene (history ++ more) look)
-learns_later-fields scene history more version mode Reason.Ask step [] heard bounds h = absurd h
-learns_later-fields scene history more version mode Reason.Ask step (n ∷ own) heard bounds h = rw (reply_at-later history more n bounds.0) (Learns-later scene history more n (reply_at history n) heard h)
-learns_later-fields scene history more version mode (Reason.Entry place) step own heard bounds h = h
-learns_later-fields scene history more version mode Reason.Disabled step own heard bounds h = h
-learns_later-fields scene history more version mode Reason.Permissive step own heard bounds h = h
-learns_later-fields scene history more version mode Reason.Quota step own heard bounds h = h
-learns_later-fields scene history more version mode Reason.Learn step own heard bounds h = h
-learns_later-fields scene history more version mode Reason.NoEntry step own heard bounds h = h
-learns_later-fields scene history more version mode Reason.NotReady step own heard bounds h = h
-learns_later-fields scene history more version mode Reason.NoManual step own heard bounds h = h
+hears_later-fields : (scene : Scene) (history more : History) (version : ℕ) (mode : Option Mode) (reason : Reason) (step : Move) (own : List ℕ) (heard : Option Heard) → AllByRecursion (λ n. n ≤ length history) own → (let look : Look = record { version = version; mode = mode; reason = reason; step = step; own = own; heard = heard } in LookHears scene history look → LookHears scene (history ++ more) look)
+hears_later-fields scene history more version mode Reason.Ask step [] heard bounds h = absurd h
+hears_later-fields scene history more version mode Reason.Ask step (n ∷ own) heard bounds h = rw (reply_at-later history more n bounds.0) (Hears-later scene history more n (reply_at history n) heard h)
+hears_later-fields scene history more version mode (Reason.Entry place) step own heard bounds h = h
+hears_later-fields scene history more version mode Reason.Disabled step own heard bounds h = h
+hears_later-fields scene history more version mode Reason.Permissive step own heard bounds h = h
+hears_later-fields scene history more version mode Reason.Quota step own heard bounds h = h
+hears_later-fields scene history more version mode Reason.Learn step own heard bounds h = h
+hears_later-fields scene history more version mode Reason.NoEntry step own heard bounds h = h
+hears_later-fields scene history more version mode Reason.NotReady step own heard bounds h = h
+hears_later-fields scene history more version mode Reason.NoManual step own heard bounds h = h
 
-pub LookLearns-later : (scene : Scene) (history more : History) (look : Look) → AllByRecursion (λ n. n ≤ length history) look.own → LookLearns scene history look → LookLearns scene (history ++ more) look
-LookLearns-later scene history more look bounds h = learns_later-fields scene history more look.version look.mode look.reason look.step look.own look.heard bounds h
+pub LookHears-later : (scene : Scene) (history more : History) (look : Look) → AllByRecursion (λ n. n ≤ length history) look.own → LookHears scene history look → LookHears scene (history ++ more) look
+LookHears-later scene history more look bounds h = hears_later-fields scene history more look.version look.mode look.reason look.step look.own look.heard bounds h
 
 retry_later-fields : (history more : History) (version : ℕ) (mode : Option Mode) (reason : Reason) (step : Move) (own : List ℕ) (heard : Option Heard) → AllByRecursion (λ n. n ≤ length history) own → (let look : Look = record { version = version; mode = mode; reason = reason; step = step; own = own; heard = heard } in retry_written (history ++ more) look ≡ retry_written history look)
 retry_later-fields history more version mode reason step [] heard bounds = refl
@@ -235,15 +224,6 @@ asks_later-fields history more retry version mode Reason.NoManual step own heard
 pub AsksWith-later : (history more : History) (retry : ℕ) (look : Look) → AllByRecursion (λ n. n ≤ length history) look.own → AsksWith history retry look → AsksWith (history ++ more) retry look
 AsksWith-later history more retry look bounds h = asks_later-fields history more retry look.version look.mode look.reason look.step look.own look.heard bounds h
 
--- a look of which all that is asked was made and heard
-pub record LookDone (scene : Scene) (history : History) (s : Subject) (look : Look) : Type 0 where
-  pub holds : LookHolds scene history s look
-  pub owns : OwnSteps scene history s look
-  pub learns : LookLearns scene history look
-  pub version : look.version ≤ length history
-  pub bounds : AllByRecursion (λ n. n ≤ length history) look.own
-  pub sees : AllByRecursion (λ n. n ≤ length history) (seen look)
-
 heard-seen : (n : ℕ) (heard : Option Heard) → IfSome heard (λ h. h.version ≤ n) → AllByRecursion (λ k. k ≤ n) (heard_version heard)
 heard-seen n None h = tt
 heard-seen n (Some heard) h = go heard.answer
@@ -252,12 +232,12 @@ heard-seen n (Some heard) h = go heard.answer
     go None = tt
     go (Some answer) = (h, tt)
 
-pub look-done : (scene : Scene) (history : History) (s : Subject) (retry : ℕ) (look : Look) (v : Verdict) (audit : Option Text) → LineFits scene.grammar v.reason v.line → Looked scene history s retry look v [] audit → LookLearns scene history look → LookDone scene history s look
-look-done scene history s retry look v audit fits h learns =
+pub look-done : (scene : Scene) (history : History) (s : Subject) (retry : ℕ) (look : Look) (v : Verdict) (audit : Option Text) → LineFits scene.grammar v.reason v.line → Looked scene history s retry look v [] audit → LookHears scene history look → LookDone scene history s look
+look-done scene history s retry look v audit fits h hears =
     record {
       holds = (v, h.judged, h.shown);
       owns = record { asked = rw h.judged (own-done scene history s retry look v audit fits h).0; rising = h.rising; after_yes = h.after_yes };
-      learns = learns;
+      hears = hears;
       version = h.version;
       bounds = h.bounds;
       sees = (h.version, All-append (λ n. n ≤ length history) look.own (heard_version look.heard) h.bounds (heard-seen (length history) look.heard h.heard_at));
@@ -273,19 +253,13 @@ LookDone-later scene history more s look h =
         rising = h.owns.rising;
         after_yes = h.owns.after_yes;
       };
-      learns = LookLearns-later scene history more look h.bounds h.learns;
+      hears = LookHears-later scene history more look h.bounds h.hears;
       version = omega (arith, h.version);
       bounds = All-le (length history) (length (history ++ more)) look.own le h.bounds;
       sees = All-le (length history) (length (history ++ more)) (seen look) le h.sees;
     }
 
 -- Where a look leads
-
--- while steps are owed: the domain that is entered; the Make that is still to come, or what its reply named; none
-abbrev pub Leads : History → Policy → Move → List ℕ → Option ℕ → List Step → Type 0
-Leads history p (Move.Enter n) own led rest = NoMake rest × (led ≡ Some n) × DomainIn p n
-Leads history p Move.Make own led rest = EndsMake rest ⊎ ((rest ≡ []) × (n : ℕ) × (led ≡ Some n) × (made_number (reply_at history (last_number own)) ≡ Some n) × DomainIn p n)
-Leads history p move own led rest = NoMake rest × (led ≡ None)
 
 pub Leads-later : (history more : History) (p q : Policy) (move : Move) (own : List ℕ) (led : Option ℕ) (rest : List Step) → Keeps p q → AllByRecursion (λ n. n ≤ length history) own → Leads history p move own led rest → Leads (history ++ more) q move own led rest
 Leads-later history more p q Move.Stay own led rest keeps bounds h = h

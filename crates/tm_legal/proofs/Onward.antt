@@ -1,10 +1,13 @@
 -- What each step leaves of a state to everybody else.
 use Rattle.std.proofs.Common.{◌≡◌, ◌≤◌, ℕ, zero, suc, List, [], ◌∷◌, ◌++◌, length, map, Bool, true, false, true≢false, refl, sym, ap, ◌∙◌, arith, inl, inr, ◌⊎◌}
-use Rattle.std.specs.Prelude.{Option, Some, None, slice_get, slice_set, if◌then◌else◌, ◌==◌, ◌||◌, unwrap_or, not, nat_lt, nat_le}
-use Rattle.std.specs.Option.{option_map_or}
-use Rattle.std.proofs.lemmas.Bool.{eqb-true, le-leb, lt-ltb}
+use Rattle.std.specs.Prelude.{Option, Some, None, IsSome, option_map, slice_get, slice_set, if◌then◌else◌, ◌==◌, ◌||◌, unwrap_or, not, nat_lt, nat_le}
+use Rattle.std.specs.Option.{option_and_then, option_map_or}
+use Rattle.std.proofs.lemmas.Bool.{eqb-true, le-leb, leb-true, lt-ltb}
 use Rattle.tm_word.specs.Words.{Text}
-use Rattle.tm_rules.specs.Words.{Cursor}
+use Rattle.tm_rules.specs.Words.{DomainName, Cursor}
+use Rattle.tm_types.specs.declared.entry.Entry.{Entry}
+use Rattle.tm_types.specs.declared.policy.Domain.{Domain}
+use Rattle.tm_types.specs.declared.policy.Profile.{Profile}
 use Rattle.tm_types.specs.declared.policy.Policy.{Policy}
 use Rattle.tm_types.specs.declared.step.FileKind.{FileKind}
 use Rattle.tm_types.specs.declared.step.Step.{Step}
@@ -15,18 +18,19 @@ use Rattle.tm_types.specs.declared.step.Held.{Held}
 use Rattle.tm_types.specs.declared.step.Answered.{Answered}
 use Rattle.tm_types.specs.declared.step.AnswerFault.{AnswerFault}
 use Rattle.tm_rules.specs.Grammar.{Grammar, IsGrammar}
-use Rattle.tm_rules.specs.Policy.{changed_at}
+use Rattle.tm_rules.specs.Policy.{changed_at, domain_at, profile_of}
 use Rattle.tm_rules.specs.Edit.{Edited, apply_line, put_member}
-use Rattle.tm_rules.specs.Changes.{is_manager}
+use Rattle.tm_rules.specs.Changes.{in_domain, learn, make, fail, is_manager}
 use Rattle.tm_rules.specs.Queries.{Standing, Queries, numbered, ask, answer, answer_coded, answer_fault, with_answer, attach, detach, closed}
-use Rattle.tm_legal.specs.Steps.{State, Applied, apply, edit_step}
-use Rattle.tm_legal.proofs.Kept.{DomainIn, Sound, Keeps-refl, Evolves, Fits}
+use Rattle.tm_legal.specs.Steps.{State, Applied, apply, unfit, on_policy, on_queries, fits_entry, fits_name, edit_step}
+use Rattle.tm_legal.specs.Stages.{DomainIn, Ready}
+use Rattle.tm_legal.proofs.Kept.{Sound, Keeps-refl, Evolves, Fits, ready-fits}
 use Rattle.tm_legal.proofs.Edits.{line-evolves}
 use Rattle.tm_legal.proofs.Walks.{StandingKeeps, is_over, Onward}
 
 -- Queries by serial
 
-Standing-refl : (xs : List Standing) → StandingKeeps xs xs
+pub Standing-refl : (xs : List Standing) → StandingKeeps xs xs
 Standing-refl xs n x at = (x, at, refl)
 
 get-front : (xs : List Standing) (new : Standing) (n : ℕ) (x : Standing) → slice_get xs n ≡ Some x → slice_get (xs ++ new ∷ []) n ≡ Some x
@@ -78,7 +82,8 @@ own-onward s step done fits =
       trees = rw fits.others refl;
     }
 
--- an Ask is replied by a serial, of a query with its retry number, or by nobody; where nobody is there it changes nothing
+-- an Ask is replied by a serial, of a query with its retry number, or by nobody; where nobody is
+-- there it changes nothing
 pub record Asks (s : State) (step : Step) (retry : ℕ) (done : Applied) : Type 0 where
   pub held : Held
   pub replied : done.reply ≡ Some (Reply.Ask held)
@@ -306,3 +311,99 @@ detach-done g s sound there =
       all = refl;
       ended = refl;
     })
+
+-- Any step
+
+some-policy : {R : Type 0} (s : State) (reply : R → Reply) (o : Option (Policy × R)) → IsSome (on_policy s reply o).reply → IsSome o
+some-policy s reply None has = absurd (true≢false (sym has))
+some-policy s reply (Some done) has = refl
+
+in_domain-there : {A : Type 0} (p : Policy) (d : ℕ) (change : Domain → Profile → A) → IsSome (in_domain p d change) → DomainIn p d
+in_domain-there {A} p d change has = by_domain (domain_at p d) refl has
+  where
+    by_profile : (x : Domain) → domain_at p d ≡ Some x → (o : Option Profile) → profile_of p x ≡ o → IsSome (option_map (change x) o) → DomainIn p d
+    by_profile x at None is some = absurd (true≢false (sym some))
+    by_profile x at (Some profile) is some = record { domain = x; there = at; profile = profile; profiled = is }
+
+    by_domain : (o : Option Domain) → domain_at p d ≡ o → IsSome (option_and_then (λ (domain : Domain). option_map (change domain) (profile_of p domain)) o) → DomainIn p d
+    by_domain None at some = absurd (true≢false (sym some))
+    by_domain (Some x) at some = by_profile x at (profile_of p x) refl some
+
+-- a process's own step that has a reply was owed to be made
+learn-ready : (g : Grammar) (s : State) (d : ℕ) (entry : Entry) → IsSome (apply g s (Step.Learn d entry)).reply → Ready g s.policy (Step.Learn d entry)
+unfolding apply learn
+learn-ready g s d entry has = by_fit (fits_entry g entry) refl has
+  where
+    by_fit : (b : Bool) → fits_entry g entry ≡ b → IsSome (if b then on_policy s Reply.Learn (learn s.policy d entry) else unfit s).reply → Ready g s.policy (Step.Learn d entry)
+    by_fit true e some = (e, in_domain-there s.policy d _ (some-policy s Reply.Learn (learn s.policy d entry) some))
+    by_fit false e some = absurd (true≢false (sym some))
+
+make-ready : (g : Grammar) (s : State) (d : ℕ) (name : DomainName) → IsSome (apply g s (Step.Make d name)).reply → Ready g s.policy (Step.Make d name)
+unfolding apply make
+make-ready g s d name has = by_fit (fits_name g s d name) refl has
+  where
+    by_fit : (b : Bool) → fits_name g s d name ≡ b → IsSome (if b then on_policy s Reply.Make (make s.policy d name) else unfit s).reply → Ready g s.policy (Step.Make d name)
+    by_fit true e some = let h : DomainIn s.policy d = in_domain-there s.policy d _ (some-policy s Reply.Make (make s.policy d name) some) in (h, rw h.there at e)
+    by_fit false e some = absurd (true≢false (sym some))
+
+fail-ready : (g : Grammar) (s : State) (d : ℕ) → IsSome (apply g s (Step.Fail d)).reply → Ready g s.policy (Step.Fail d)
+unfolding apply fail
+fail-ready g s d has = in_domain-there s.policy d _ (some-policy s Reply.Fail (fail s.policy d) has)
+
+ask-there : (g : Grammar) (s : State) (d retry : ℕ) (text : Text) → IsSome (apply g s (Step.Ask d retry text)).reply → DomainIn s.policy d
+unfolding apply
+ask-there g s d retry text has = in_domain-there s.policy d _ (by_name (in_domain s.policy d (λ domain profile. domain.name)) has)
+  where
+    by_name : (o : Option Text) → IsSome (option_map_or (λ name. on_queries s Reply.Ask (ask s.queries name text retry)) o (unfit s)).reply → IsSome o
+    by_name None some = absurd (true≢false (sym some))
+    by_name (Some name) some = refl
+
+editor-there : (g : Grammar) (s : State) (e : ℕ) (file : FileKind) (line : Text) → IsSome (apply g s (Step.Edit (suc e) file line)).reply → (editor : Editor) × (slice_get s.editors e ≡ Some editor)
+unfolding apply
+editor-there g s e file line has = by_editor (slice_get s.editors e) refl has
+  where
+    by_editor : (o : Option Editor) → slice_get s.editors e ≡ o → IsSome (option_map_or (λ editor. edit_step g s e file line editor (unwrap_or (slice_get s.cursors e) None)) o (unfit s)).reply → (editor : Editor) × (slice_get s.editors e ≡ Some editor)
+    by_editor None at some = absurd (true≢false (sym some))
+    by_editor (Some editor) at some = (editor, at)
+
+tree-there : (g : Grammar) (s : State) (t : ℕ) → IsSome (apply g s (Step.End t)).reply → (n : ℕ) × (t ≡ suc n) × (t ≤ s.trees)
+unfolding apply
+tree-there g s zero has = absurd (true≢false (sym has))
+tree-there g s (suc n) has = by_trees (nat_le (suc n) s.trees) refl (rw first at has)
+  where
+    first : nat_lt 0 (suc n) ≡ true
+    first = lt-ltb 0 (suc n) (omega arith)
+
+    by_trees : (b : Bool) → nat_le (suc n) s.trees ≡ b → IsSome (if b then (let done : Applied = record { state = record s { ended = put_member (suc n) s.ended }; reply = Some Reply.End } in done) else unfit s).reply → (m : ℕ) × (suc n ≡ suc m) × (suc n ≤ s.trees)
+    by_trees true e some = (n, refl, leb-true (suc n) s.trees e)
+    by_trees false e some = absurd (true≢false (sym some))
+
+-- the supervisor leaves, or wasn't there
+detach-onward : (g : Grammar) (s : State) → Sound s.policy → Onward Step.Detach s (apply g s Step.Detach).state
+unfolding apply detach
+detach-onward g s sound = by_flag s.queries.attached refl
+  where
+    by_flag : (b : Bool) → s.queries.attached ≡ b → Onward Step.Detach s (apply g s Step.Detach).state
+    by_flag true there = (detach-done g s sound there).onward
+    by_flag false alone =
+        rw alone (record { evolves = evolves-refl s.policy sound; standing = Standing-refl s.queries.all; over = λ t other. refl; editors = refl; trees = refl })
+
+-- editors are numbered from 1
+no-editor : (g : Grammar) (s : State) (file : FileKind) (line : Text) → IsSome (apply g s (Step.Edit zero file line)).reply → ⊥
+unfolding apply
+no-editor g s file line has = true≢false (sym has)
+
+-- each step that fits leaves the others their domains, their queries and their ends
+pub fitting-onward : (g : Grammar) (s : State) (step : Step) → IsGrammar g → Sound s.policy → IsSome (apply g s step).reply → Onward step s (apply g s step).state
+fitting-onward g s (Step.Learn d entry) grammar sound has = own-onward s (Step.Learn d entry) (apply g s (Step.Learn d entry)) (ready-fits g s (Step.Learn d entry) sound (learn-ready g s d entry has))
+fitting-onward g s (Step.Make d name) grammar sound has = own-onward s (Step.Make d name) (apply g s (Step.Make d name)) (ready-fits g s (Step.Make d name) sound (make-ready g s d name has))
+fitting-onward g s (Step.Fail d) grammar sound has = own-onward s (Step.Fail d) (apply g s (Step.Fail d)) (ready-fits g s (Step.Fail d) sound (fail-ready g s d has))
+fitting-onward g s (Step.Ask d retry text) grammar sound has = (ask-done g s d retry text sound (ask-there g s d retry text has)).onward
+fitting-onward g s (Step.Answer serial code) grammar sound has = (answer-done g s serial code sound).onward
+fitting-onward g s Step.Attach grammar sound has = (attach-done g s sound).onward
+fitting-onward g s Step.Detach grammar sound has = detach-onward g s sound
+fitting-onward g s (Step.Edit zero file line) grammar sound has = absurd (no-editor g s file line has)
+fitting-onward g s (Step.Edit (suc e) file line) grammar sound has = let editor = editor-there g s e file line has in (edit-done g s e editor.0 file line grammar sound editor.1).onward
+fitting-onward g s (Step.End t) grammar sound has =
+    let (n, is, le) = tree-there g s t has in
+    rw is (end-done g s n sound (rw is at le)).onward

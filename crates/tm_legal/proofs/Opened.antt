@@ -1,4 +1,5 @@
--- An opened policy stays opened, whatever steps are made: one live domain a name, a live `<kernel>` first, profiles that are there, aggregators to paths.
+-- An opened policy stays opened, whatever steps are made: one live domain a name, a live `<kernel>`
+-- first, profiles that are there, aggregators to paths.
 use Rattle.std.proofs.Common.{◌≡◌, ◌≢◌, ℕ, zero, suc, ◌+◌, List, [], ◌∷◌, ◌++◌, length, Bool, true, false, true≢false, refl, sym, ap, ◌∙◌, subst, arith, inl, inr, ◌⊎◌}
 use Rattle.std.specs.Prelude.{Option, Some, None, Ok, Err, Result, ◌&&◌, ◌==◌, cond, if◌then◌else◌, slice_get, unwrap_or, not, is_some, nat_lt, nat_le}
 use Rattle.std.specs.List.{list_any, position_from}
@@ -33,7 +34,8 @@ use Rattle.tm_legal.specs.Steps.{State, apply, after, fits_entry, fits_name, edi
 use Rattle.tm_legal.specs.Run.{steps_of}
 use Rattle.tm_legal.specs.Legal.{Scene, opening_of, final_policy}
 use Rattle.tm_legal.specs.Play.{IsOpened, CanPlay}
-use Rattle.tm_legal.proofs.Kept.{Sound, DomainIn, ready-fits, same_texts, position_holds}
+use Rattle.tm_legal.specs.Stages.{DomainIn}
+use Rattle.tm_legal.proofs.Kept.{Sound, ready-fits, same_texts, position_holds}
 use Rattle.tm_legal.proofs.Edits.{line-evolves}
 
 -- one live domain a name, and a live `<kernel>` first
@@ -385,6 +387,12 @@ both-of p h = (record { opened = h.opened; profiles = h.profiles; aggregators = 
 
 opened-of : (p : Policy) → Both p → IsOpened p
 opened-of p h = record { opened = h.0.opened; one_live = h.1.one_live; kernel_first = h.1.kernel_first; profiles = h.0.profiles; aggregators = h.0.aggregators }
+
+-- whatever the line
+pub line_keeps_opened : (g : Grammar) (p : Policy) (file : FileKind) (cursor : Cursor) (line : Text) → IsGrammar g → IsOpened p → IsOpened (apply_line g p file cursor line).policy
+line_keeps_opened g p file cursor line grammar h =
+    let both : Both p = both-of p h in
+    opened-of (apply_line g p file cursor line).policy ((line-evolves g p file cursor line grammar both.0).sound, line-headed g p file cursor line grammar both.1)
 
 -- whatever the step
 pub step_keeps_opened : (g : Grammar) (s : State) (step : Step) → IsGrammar g → IsOpened s.policy → IsOpened (apply g s step).state.policy

@@ -1,6 +1,6 @@
 -- Where nobody can move: nothing is left to do, and the run is legal.
-use Rattle.std.proofs.Common.{◌≡◌, ◌≤◌, ◌<◌, ℕ, zero, suc, ◌+◌, List, [], ◌∷◌, ◌++◌, length, map, true, true≢false, refl, sym, ap, ◌∙◌, subst, arith, inl, inr, ◌⊎◌}
-use Rattle.std.specs.Prelude.{Option, Some, None, IfSome, is_some, slice_get, IsSome}
+use Rattle.std.proofs.Common.{◌≡◌, ◌≤◌, ◌<◌, ℕ, zero, suc, ◌+◌, List, [], ◌∷◌, ◌++◌, length, map, true, true≢false, refl, sym, ap, ◌∙◌, subst, arith, inl, inr, ◌⊎◌, le_refl}
+use Rattle.std.specs.Prelude.{Option, Some, None, is_some, slice_get, IsSome}
 use Rattle.std.specs.List.{AllByRecursion}
 use Rattle.std.specs.Option.{option_and_then}
 use Rattle.std.proofs.lemmas.List.{map-append}
@@ -9,14 +9,15 @@ use Rattle.std.proofs.lemmas.Bool.{cases_lt, eq-eqb}
 use Rattle.tm_word.specs.Words.{Text}
 use Rattle.tm_types.specs.declared.step.FileKind.{FileKind}
 use Rattle.tm_types.specs.declared.step.Book.{Book}
-use Rattle.tm_types.specs.declared.step.Take.{Take}
 use Rattle.tm_types.specs.declared.step.Turn.{Turn}
 use Rattle.tm_types.specs.declared.step.Editor.{Editor}
 use Rattle.tm_rules.specs.Queries.{numbered, first_query}
-use Rattle.tm_legal.specs.Run.{cases_from, do_pids, Case, places}
-use Rattle.tm_legal.specs.Legal.{Scene, Legal, state_at, is_of_supervisor, lines_of_editor, LooksRise, TakeHolds, OwnSteps, EndsWith, TakeHears, subject_of, last_look, SupervisorActs, Supervised, TreesEnd, is_answer, is_some_end}
-use Rattle.tm_legal.specs.Play.{Player, Way, run_of, tree_event, editor_event, desk_turn, player_event, event, numbers_to, NobodyCanMove, CanPlay, IsFinished}
-use Rattle.tm_legal.proofs.Walks.{All-map, is_over, WayHolds, CaseDone}
+use Rattle.tm_legal.specs.Run.{cases_from, do_pids, places}
+use Rattle.tm_legal.specs.Legal.{Scene, Legal, state_at, is_of_supervisor, lines_of_editor, SupervisorActs, Supervised, TreesEnd, is_answer, is_some_end}
+use Rattle.tm_legal.specs.Cases.{IsLegalTake}
+use Rattle.tm_legal.specs.Play.{Player, Way, run_of, tree_event, editor_event, desk_turn, player_event, event, numbers_to, NobodyCanMove, CanPlay, HasEnded, IsFinished}
+use Rattle.tm_legal.proofs.Histories.{All-push}
+use Rattle.tm_legal.proofs.Walks.{All-map, is_over, WayHolds}
 use Rattle.tm_legal.proofs.Counts.{way-at}
 use Rattle.tm_legal.proofs.Desks.{Supervises, AfterDetach, AllOver}
 use Rattle.tm_legal.proofs.Scripts.{script-editor, scripts-done, over_count, counted-all}
@@ -25,7 +26,7 @@ use Rattle.tm_legal.proofs.Trees.{Idle, TreeMoves}
 use Rattle.tm_legal.proofs.TakeEvents.{tree-moves}
 use Rattle.tm_legal.proofs.Others.{EditorMoves, editor-moves}
 use Rattle.tm_legal.proofs.DeskEvents.{DeskStill, DeskMoves, desk-moves}
-use Rattle.tm_legal.proofs.Legality.{IsDone, takes_of, shows, owns, learns, all-cases, all-pids, all-takes, all-own, tree-at, ended-of, Below, below-done, seen-below}
+use Rattle.tm_legal.proofs.Legality.{IsDone, takes_of, legal-of, all-cases, all-pids, all-own, tree-at, ended-of, Below, below-done, seen-below}
 
 -- Lists
 
@@ -51,6 +52,10 @@ All-number P f (suc k) n lt all = go (cases_lt n k) (All-number P f k n)
 all-from-get : {A : Type 0} (P : A → Type 0) (xs : List A) → ((n : ℕ) (x : A) → slice_get xs n ≡ Some x → P x) → AllByRecursion P xs
 all-from-get P [] f = tt
 all-from-get P (x ∷ xs) f = (f 0 x refl, all-from-get P xs (λ n y at. f (suc n) y at))
+
+all-numbers : (P : ℕ → Type 0) (k : ℕ) → ((n : ℕ) → 0 < n → n ≤ k → P n) → AllByRecursion P (numbers_to k)
+all-numbers P zero f = tt
+all-numbers P (suc k) f = All-push P (numbers_to k) (suc k) (all-numbers P k (λ n pos le. f n pos (omega (arith, le)))) (f (suc k) (omega arith) (le_refl (suc k)))
 
 some-at : {A : Type 0} (xs : List A) (k : ℕ) → k < length xs → (x : A) × (slice_get xs k ≡ Some x)
 some-at [] k lt = absurd (omega arith)
@@ -158,13 +163,14 @@ module _ (scene : Scene) (can : CanPlay scene) (player : Player) (h : PlayHolds 
   all-lines = all-from-get (λ (lines : List (FileKind × Text)). lines ≡ []) player.scripts line-done
 
   -- nothing is left to do
-  pub finished : IsFinished player
+  pub finished : IsFinished (is_some scene.book) player
   finished =
       record {
         takes = All-map IsDone (λ (way : Way). way.begun ≡ None) player.ways (λ way done. done.idle) all-done;
         requests = All-map IsDone (λ (way : Way). do_pids way.items ≡ []) player.ways (λ way done. done.empty) all-done;
         lines = all-lines;
         queries = no-query;
+        ends = λ desk. all-numbers (HasEnded player.state) player.state.trees (all-over desk);
       }
 
   -- no turn has an event
@@ -267,22 +273,10 @@ module _ (scene : Scene) (can : CanPlay scene) (player : Player) (h : PlayHolds 
   -- the run is legal
   pub legal : Legal scene (run_of player)
   legal =
-      let done = all-done in
-      let each : AllByRecursion (CaseDone scene player.steps) (cases_from 1 scene.policy scene.trace (takes_of player.ways)) =
-      all-cases scene player.steps player.state (CaseDone scene player.steps) (λ t tree way held. held.ended) 1 scene.trace player.ways h.ways done in
-      record {
-        takes = record {
-          pids = all-pids scene player.steps player.state 1 scene.trace player.ways h.ways done;
-          looks = all-takes scene player.steps player.state (λ (t : Take). 0 < length t.looks) (λ c d. d.some) 1 scene.trace player.ways h.ways;
-        };
-        versions = All-map (CaseDone scene player.steps) (λ (c : Case). LooksRise player.steps c.now.floor c.taken.looks) (cases_from 1 scene.policy scene.trace (takes_of player.ways)) (λ c d. d.rises) each;
-        verdicts = All-map (CaseDone scene player.steps) (TakeHolds scene player.steps) (cases_from 1 scene.policy scene.trace (takes_of player.ways)) (λ c d. record { before = d.before; shown = shows scene player.steps c d }) each;
-        own_steps = All-map (CaseDone scene player.steps) (λ (c : Case). AllByRecursion (OwnSteps scene player.steps (subject_of c)) c.taken.looks) (cases_from 1 scene.policy scene.trace (takes_of player.ways)) (owns scene player.steps) each;
-        places = record { own = λ n. all-own n player.ways done ∙ h.counted n; edits = edits; replies = h.base.sane.true_to.replies };
-        supervisor = acts;
-        answers = all-takes scene player.steps player.state (TakeHears scene player.steps) (λ c d. record { learned = learns scene player.steps c d; follow = d.follows }) 1 scene.trace player.ways h.ways;
-        outcomes = All-map (CaseDone scene player.steps) (λ (c : Case). IfSome (last_look c.taken.looks) (EndsWith scene player.steps (subject_of c) c.taken)) (cases_from 1 scene.policy scene.trace (takes_of player.ways)) (λ c d. d.ends) each;
-      }
+      legal-of scene (run_of player) (all-pids scene player.steps player.state 1 scene.trace player.ways h.ways all-done)
+      (all-cases scene player.steps player.state (IsLegalTake scene player.steps) (λ t tree way held. held.ended) 1 scene.trace player.ways h.ways all-done)
+      (record { own = λ n. all-own n player.ways all-done ∙ h.counted n; edits = edits; replies = h.base.sane.true_to.replies })
+      acts
     where
       edits : (e : ℕ) (editor : Editor) → numbered scene.editors e ≡ Some editor → lines_of_editor e player.steps ≡ editor.lines
       edits zero editor there = absurd cc

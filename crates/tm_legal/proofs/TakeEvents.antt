@@ -1,4 +1,5 @@
--- The events of a take that has begun: its next own step, its Ask, the taking of its answer, and another look.
+-- The events of a take that has begun: its next own step, its Ask, the taking of its answer, and
+-- another look.
 use Rattle.std.proofs.Common.{◌≡◌, ◌≤◌, ◌<◌, ℕ, zero, suc, ◌+◌, ◌-◌, ◌*◌, List, [], ◌∷◌, ◌++◌, length, Bool, true, false, true≢false, refl, sym, ap, ◌∙◌, subst, arith, inl, inr, ◌⊎◌}
 use Rattle.std.specs.Prelude.{Option, Some, None, slice_get, slice_set, if◌then◌else◌, IsSome, is_some, option_map, flat_map}
 use Rattle.std.specs.List.{AllByRecursion, list_all}
@@ -17,14 +18,15 @@ use Rattle.tm_rules.specs.Grammar.{Grammar, IsGrammar}
 use Rattle.tm_rules.specs.Queries.{Standing, first_query, first_unanswered, numbered, answer_of}
 use Rattle.tm_legal.specs.Steps.{State, Applied, apply}
 use Rattle.tm_legal.specs.Run.{Situations, step_at, do_pids, seen, raised}
-use Rattle.tm_legal.specs.Legal.{Scene, state_at, steps_of_move, own_numbers, times, times_owned, is_own, is_end, is_attach, is_detach, is_answer, is_of_supervisor, is_some_end, LookLearns, is_retry, edit_line}
+use Rattle.tm_legal.specs.Legal.{Scene, state_at, steps_of_move, own_numbers, times, times_owned, is_own, is_end, is_attach, is_detach, is_answer, is_of_supervisor, is_some_end, LookHears, is_retry, edit_line}
+use Rattle.tm_legal.specs.Cases.{LookDone}
 use Rattle.tm_legal.specs.Play.{Player, InProgress, Stage, Way, on_way, after_step, after_answer, going_on, passed, first_look, stage_event, take_event, tree_event, retries_of, looks_left, steps_left, stage_left, way_left, unanswered, play_left}
+use Rattle.tm_legal.specs.Stages.{DomainIn, Ready, subject_now, Begins, Settles, ToAsk, Waits, StageHolds}
 use Rattle.tm_legal.proofs.Laws.{times-append}
-use Rattle.tm_legal.proofs.Kept.{DomainIn, Ready, Fits, ready-fits}
+use Rattle.tm_legal.proofs.Kept.{Fits, ready-fits}
 use Rattle.tm_legal.proofs.Asked.{move-ready}
 use Rattle.tm_legal.proofs.Histories.{All-push, raised-le, state_at-newest}
-use Rattle.tm_legal.proofs.Looked.{LookDone}
-use Rattle.tm_legal.proofs.Walks.{RisesTo-push, subject_now, Begins, Settles, ToAsk, Waits, StageHolds, Busy, Onward, WayHolds, WayHolds-later, Stands, passed-holds}
+use Rattle.tm_legal.proofs.Walks.{RisesTo-push, MayRetry, Busy, Onward, WayHolds, WayHolds-later, Stands, passed-holds}
 use Rattle.tm_legal.proofs.Takes.{move-few, owed_by, Running, take-goes, begun_with, Looks, look-holds, with_step, Stepped, next-holds}
 use Rattle.tm_legal.proofs.Hears.{held-holds, nobody-holds, answer-holds, again-done, again-follows}
 use Rattle.tm_legal.proofs.Onward.{own-onward, Asks, ask-done}
@@ -101,8 +103,8 @@ own-quiet g s (Step.End t) done ready fits = absurd ready
 
 module _ (scene : Scene) (grammar : IsGrammar scene.grammar) (player : Player) (n : ℕ) (way : Way) (h : PlayHolds scene player) (at : slice_get player.ways n ≡ Some way) (b : InProgress) (is : way.begun ≡ Some b) where
   -- a step that the take makes, and the take after it
-  tree-stepped : (step : Step) (reply : Reply) (b' : InProgress) (more : ℕ) → (let done : Applied = apply scene.grammar player.state step in done.reply ≡ Some reply → Onward step player.state done.state → Quiet step player.state done.state → IsOwn step reply → Retries (retries_of scene.book) done.state.queries.all → done.state.ended ≡ player.state.ended → unanswered done.state.queries.all ≤ more + unanswered player.state.queries.all → StageHolds scene (player.steps ++ (step, reply) ∷ []) done.state b' b'.stage → b'.request ≡ b.request → b'.now ≡ b.now → b'.before ≡ b.before → b'.looked ≡ b.looked → b'.look.version ≡ b.look.version → b'.look.own ≡ b.look.own ++ suc (length player.steps) ∷ [] → stage_left (retries_of scene.book) b'.retry b'.stage + more < stage_left (retries_of scene.book) b.retry b.stage → Moved scene player (Some (on_way scene.grammar (after_step_of scene.grammar player step reply) n (going_on scene.grammar way b'))))
-  tree-stepped step reply b' more replied on quiet own retries ended asked stage request now before looked version owns less =
+  tree-stepped : (step : Step) (reply : Reply) (b' : InProgress) (more : ℕ) → (let done : Applied = apply scene.grammar player.state step in done.reply ≡ Some reply → Onward step player.state done.state → Quiet step player.state done.state → IsOwn step reply → Retries (retries_of scene.book) done.state.queries.all → done.state.ended ≡ player.state.ended → unanswered done.state.queries.all ≤ more + unanswered player.state.queries.all → StageHolds scene (player.steps ++ (step, reply) ∷ []) done.state b' b'.stage → MayRetry scene b' → b'.request ≡ b.request → b'.now ≡ b.now → b'.before ≡ b.before → b'.looked ≡ b.looked → b'.look.version ≡ b.look.version → b'.look.own ≡ b.look.own ++ suc (length player.steps) ∷ [] → stage_left (retries_of scene.book) b'.retry b'.stage + more < stage_left (retries_of scene.book) b.retry b.stage → Moved scene player (Some (on_way scene.grammar (after_step_of scene.grammar player step reply) n (going_on scene.grammar way b'))))
+  tree-stepped step reply b' more replied on quiet own retries ended asked stage may request now before looked version owns less =
       record { next = next; is = refl; holds = holds; less = fewer }
     where
       t : WayOf scene player n way
@@ -143,7 +145,7 @@ module _ (scene : Scene) (grammar : IsGrammar scene.grammar) (player : Player) (
             base = base-way scene (after_step_of scene.grammar player step reply) n new (base-quiet scene player step reply h.base replied on quiet (λ none. own.lone) retries (rw ended h.base.ends));
             ways =
                 way-set (WayHolds scene player.steps player.state) (WayHolds scene (player.steps ++ (step, reply) ∷ []) s') 1 scene.trace player.ways n t.number t.tree new h.ways t.there t.numbered
-                (take-goes scene (player.steps ++ (step, reply) ∷ []) s' t.number t.tree way b' running stage)
+                (take-goes scene (player.steps ++ (step, reply) ∷ []) s' t.number t.tree way b' running stage may)
                 (λ m other v ne held. WayHolds-later scene player.steps step reply player.state s' on m other v (own.no_end m) held);
             counted = counts;
             scripts = scripts-other player.steps step reply 1 scene.editors player.scripts (λ e le. own.no_edit e) h.scripts;
@@ -185,7 +187,7 @@ module _ (scene : Scene) (grammar : IsGrammar scene.grammar) (player : Player) (
       moved : Moved scene player (Some (on_way scene.grammar (after_step_of scene.grammar player step fits.reply) n (going_on scene.grammar way (with_step b (suc (length player.steps)) steps.led rest))))
       moved =
           tree-stepped step fits.reply (with_step b (suc (length player.steps)) steps.led rest) 0 fits.replied on (own-quiet scene.grammar player.state step done settles.ready.0 fits) (own-is scene.grammar player.state.policy step fits.reply settles.ready.0)
-          (rw fits.others h.base.retries) (rw fits.others refl) (rw fits.others (omega arith)) steps.stage refl refl refl refl refl refl less
+          (rw fits.others h.base.retries) (rw fits.others refl) (rw fits.others (omega arith)) steps.stage (λ e. absurd cc) refl refl refl refl refl refl less
 
   t : WayOf scene player n way
   t = way-at (WayHolds scene player.steps player.state) 1 scene.trace player.ways n way h.ways at
@@ -258,21 +260,21 @@ module _ (scene : Scene) (grammar : IsGrammar scene.grammar) (player : Player) (
           let query = asks.query serial e in
           rw e
           (tree-stepped step (Reply.Ask (Held.Serial serial)) (after_step scene.grammar b [] (suc (length player.steps)) (Reply.Ask (Held.Serial serial))) 1 (asks.replied ∙ ap (λ held. Some (Reply.Ask held)) e) asks.onward quiet (own (Reply.Ask (Held.Serial serial))) retries asks.ended asked
-          (held-holds scene player.steps step player.state done.state b serial query.0 asks.onward begins to_ask query.1 query.2) refl refl refl refl refl refl
+          (held-holds scene player.steps step player.state done.state b serial query.0 asks.onward begins to_ask query.1 query.2) (λ e. absurd cc) refl refl refl refl refl refl
           (rw stage (omega arith)))
       by_held Held.Nobody e =
           rw e
           (tree-stepped step (Reply.Ask Held.Nobody) (after_step scene.grammar b [] (suc (length player.steps)) (Reply.Ask Held.Nobody)) 1 (asks.replied ∙ ap (λ held. Some (Reply.Ask held)) e) asks.onward quiet (own (Reply.Ask Held.Nobody)) retries asks.ended asked
-          (nobody-holds scene player.steps step player.state done.state b asks.onward begins to_ask) refl refl refl refl refl refl
+          (nobody-holds scene player.steps step player.state done.state b asks.onward begins to_ask) (λ e. absurd cc) refl refl refl refl refl refl
           (rw stage (omega arith)))
 
   -- the take further on, without a step
-  further : (b' : InProgress) → StageHolds scene player.steps player.state b' b'.stage → Running scene player.steps player.state t.number t.tree way.at way.items way.takes b' → ((c : ℕ) → times c (begun_own (Some b')) ≡ times c (begun_own (Some b))) → stage_left (retries_of scene.book) b'.retry b'.stage < stage_left (retries_of scene.book) b.retry b.stage → Moved scene player (Some (on_way scene.grammar player n (going_on scene.grammar way b')))
-  further b' stage running same less =
+  further : (b' : InProgress) → StageHolds scene player.steps player.state b' b'.stage → MayRetry scene b' → Running scene player.steps player.state t.number t.tree way.at way.items way.takes b' → ((c : ℕ) → times c (begun_own (Some b')) ≡ times c (begun_own (Some b))) → stage_left (retries_of scene.book) b'.retry b'.stage < stage_left (retries_of scene.book) b.retry b.stage → Moved scene player (Some (on_way scene.grammar player n (going_on scene.grammar way b')))
+  further b' stage may running same less =
       record {
         next = on_way scene.grammar player n (going_on scene.grammar way b');
         is = refl;
-        holds = replaced scene player n way (going_on scene.grammar way b') h at t (take-goes scene player.steps player.state t.number t.tree way b' running stage)
+        holds = replaced scene player n way (going_on scene.grammar way b') h at t (take-goes scene player.steps player.state t.number t.tree way b' running stage may)
             (λ c. going-own scene.grammar c way b' ∙ rw (is, same c, times-append c (own_numbers way.takes) (begun_own (Some b))) refl);
         less = less-way scene player n way (going_on scene.grammar way b') at
             (let most : ℕ = retries_of scene.book in
@@ -302,7 +304,7 @@ module _ (scene : Scene) (grammar : IsGrammar scene.grammar) (player : Player) (
       fewer e = rw (← waits.same_retry) (numbered-holds (Fewer most) player.state.queries.all serial waits.standing waits.there h.base.retries.0 (given Answered.Retry e))
 
       held : (a : Answered) → answer_of player.state.queries serial ≡ Some a → StageHolds scene player.steps player.state (after_answer scene.grammar b (length player.steps) a) (after_answer scene.grammar b (length player.steps) a).stage
-      held a e = answer-holds scene player.steps player.state newest b there serial a begins waits fewer e
+      held a e = answer-holds scene player.steps player.state newest b there serial a begins waits e
 
       ready : AllByRecursion (Ready scene.grammar player.state.policy) (steps_of_move b.before b.verdict)
       ready = move-ready scene.grammar player.state.policy b.before there b.verdict.mode b.verdict.reason b.verdict.name b.verdict.step b.verdict.target b.verdict.line begins.moves
@@ -318,16 +320,16 @@ module _ (scene : Scene) (grammar : IsGrammar scene.grammar) (player : Player) (
 
       by_answer : (a : Answered) → answer_of player.state.queries serial ≡ Some a → Moved scene player (Some (on_way scene.grammar player n (going_on scene.grammar way (after_answer scene.grammar b (length player.steps) a))))
       by_answer Answered.Yes e =
-          further (after_answer scene.grammar b (length player.steps) Answered.Yes) (held Answered.Yes e) (runs_on (after_answer scene.grammar b (length player.steps) Answered.Yes) refl refl refl refl refl) (same (after_answer scene.grammar b (length player.steps) Answered.Yes) refl refl)
+          further (after_answer scene.grammar b (length player.steps) Answered.Yes) (held Answered.Yes e) (λ looking. absurd cc) (runs_on (after_answer scene.grammar b (length player.steps) Answered.Yes) refl refl refl refl refl) (same (after_answer scene.grammar b (length player.steps) Answered.Yes) refl refl)
           (rw (stage, ready-left scene.grammar player.state.policy most b.retry (steps_of_move b.before b.verdict) ready) (omega (arith, few)))
       by_answer Answered.Retry e =
-          further (after_answer scene.grammar b (length player.steps) Answered.Retry) (held Answered.Retry e) (runs_on (after_answer scene.grammar b (length player.steps) Answered.Retry) refl refl refl refl refl) (same (after_answer scene.grammar b (length player.steps) Answered.Retry) refl refl)
+          further (after_answer scene.grammar b (length player.steps) Answered.Retry) (held Answered.Retry e) (λ looking. fewer e) (runs_on (after_answer scene.grammar b (length player.steps) Answered.Retry) refl refl refl refl refl) (same (after_answer scene.grammar b (length player.steps) Answered.Retry) refl refl)
           (rw stage (omega arith))
       by_answer Answered.No e =
-          further (after_answer scene.grammar b (length player.steps) Answered.No) (held Answered.No e) (runs_on (after_answer scene.grammar b (length player.steps) Answered.No) refl refl refl refl refl) (same (after_answer scene.grammar b (length player.steps) Answered.No) refl refl)
+          further (after_answer scene.grammar b (length player.steps) Answered.No) (held Answered.No e) (λ looking. absurd cc) (runs_on (after_answer scene.grammar b (length player.steps) Answered.No) refl refl refl refl refl) (same (after_answer scene.grammar b (length player.steps) Answered.No) refl refl)
           (rw stage (omega arith))
       by_answer Answered.Detached e =
-          further (after_answer scene.grammar b (length player.steps) Answered.Detached) (held Answered.Detached e) (runs_on (after_answer scene.grammar b (length player.steps) Answered.Detached) refl refl refl refl refl) (same (after_answer scene.grammar b (length player.steps) Answered.Detached) refl refl)
+          further (after_answer scene.grammar b (length player.steps) Answered.Detached) (held Answered.Detached e) (λ looking. absurd cc) (runs_on (after_answer scene.grammar b (length player.steps) Answered.Detached) refl refl refl refl refl) (same (after_answer scene.grammar b (length player.steps) Answered.Detached) refl refl)
           (rw stage (omega arith))
 
   wait-moves : (serial : ℕ) → b.stage ≡ Stage.Waiting serial → Begins scene player.steps player.state.policy b [] → Waits scene player.steps player.state.queries.all b serial → TreeMoves scene player n way (stage_event scene.grammar player n way b (Stage.Waiting serial))
@@ -339,9 +341,9 @@ module _ (scene : Scene) (grammar : IsGrammar scene.grammar) (player : Player) (
       go (Some answer) e = inl (hear-moves serial stage begins waits answer e)
 
   -- another look
-  again-moves : b.stage ≡ Stage.Looking → Begins scene player.steps player.state.policy b [] → LookLearns scene player.steps b.look → is_retry b.look.heard ≡ true → b.retry < retries_of scene.book → Moved scene player (stage_event scene.grammar player n way b Stage.Looking)
+  again-moves : b.stage ≡ Stage.Looking → Begins scene player.steps player.state.policy b [] → LookHears scene player.steps b.look → is_retry b.look.heard ≡ true → b.retry < retries_of scene.book → Moved scene player (stage_event scene.grammar player n way b Stage.Looking)
   unfolding stage_event
-  again-moves stage begins learned again fewer = rw looks.is (further b' looks.stage running same less)
+  again-moves stage begins heard again fewer = rw looks.is (further b' looks.stage (λ e. absurd cc) running same less)
     where
       most : ℕ
       most = retries_of scene.book
@@ -353,7 +355,7 @@ module _ (scene : Scene) (grammar : IsGrammar scene.grammar) (player : Player) (
       domain = rw runs.now runs.before
 
       done : AllByRecursion (LookDone scene player.steps (subject_now b)) (b.looked ++ b.look ∷ [])
-      done = again-done scene player.steps player.state b begins learned
+      done = again-done scene player.steps player.state b begins heard
 
       looks : Looks scene player b.now b.request (suc b.retry) (b.looked ++ b.look ∷ []) b.before
       looks = look-holds scene player b.now b.request (suc b.retry) (b.looked ++ b.look ∷ []) b.before grammar h.base.sane domain there is_asked done (again-follows scene player.steps player.state b begins again)
@@ -414,7 +416,7 @@ module _ (scene : Scene) (grammar : IsGrammar scene.grammar) (player : Player) (
       by_stage (Stage.Owing (step ∷ rest)) e (begins, inl settles) busy = inl (own-moves step rest e begins settles)
       by_stage (Stage.Owing (step ∷ rest)) e (begins, inr to_ask) busy = inl (ask_of step rest to_ask.text to_ask.is e begins to_ask)
       by_stage (Stage.Waiting serial) e (begins, waits) busy = wait-moves serial e begins waits
-      by_stage Stage.Looking e (begins, learned, again, fewer) busy = inl (again-moves e begins learned again fewer)
+      by_stage Stage.Looking e (begins, heard, again) busy = inl (again-moves e begins heard again (w.begun.fewer e))
 
 -- Trees
 

@@ -26,14 +26,16 @@ use Rattle.tm_legal.specs.Verdict.{is_granting}
 use Rattle.tm_legal.specs.Steps.{State}
 use Rattle.tm_rules.specs.Audit.{audit_text}
 use Rattle.tm_legal.specs.Run.{History, Situation, Situations, with_situation, after_take, at_start, Case, tree_cases, do_pids, seen, places}
-use Rattle.tm_legal.specs.Legal.{Scene, Subject, state_at, look_grants, grants_with, domain_after, steps_of_line, steps_of_move, steps_asked, made_number, opening_of, AfterAnswer, LookLearns, last_look, is_end}
+use Rattle.tm_legal.specs.Legal.{Scene, Subject, subject_of, state_at, look_grants, grants_with, domain_after, steps_of_line, steps_of_move, steps_asked, made_number, opening_of, AfterAnswer, LookHears, last_look, is_end}
+use Rattle.tm_legal.specs.Cases.{LookDone, IsLegalTake}
 use Rattle.tm_legal.specs.Play.{InProgress, Stage, Way, Player, taken, ended_way, going_on, look_at, entered, after_step}
+use Rattle.tm_legal.specs.Stages.{DomainIn, Ready, NotAsk, LineFits, NoMake, is_make, MoveFits, Leads, AllAgree, RisesTo, FollowsTo, subject_now, Begins, Settles, ToAsk, StageHolds}
 use Rattle.tm_legal.proofs.Plays.{IsTrueTo}
-use Rattle.tm_legal.proofs.Kept.{DomainIn, Sound, Ready, Ready-later, RepliesTo}
-use Rattle.tm_legal.proofs.Asked.{NotAsk, ask_or_not, ask-line, LineFits, NoMake, is_make, NoMake-append, EndsMake-append, MoveFits, judged, owed-ready, line-ready, All-append}
+use Rattle.tm_legal.proofs.Kept.{Sound, Ready-later, RepliesTo}
+use Rattle.tm_legal.proofs.Asked.{ask_or_not, ask-line, NoMake-append, EndsMake-append, judged, owed-ready, line-ready, All-append}
 use Rattle.tm_legal.proofs.Histories.{raised-le, All-push, state_at-newest}
-use Rattle.tm_legal.proofs.Looked.{Looked-step, LookDone, look-done, own-done, asks-with, learns-none, LookLearns-later, Leads, Leads-other, Leads-make, leads_into}
-use Rattle.tm_legal.proofs.Walks.{AllAgree, AllAgree-with, All-map, RisesTo, RisesTo-ends, FollowsTo, FollowsTo-ends, CaseDone, subject_now, Begins, Begins-later, Settles, ToAsk, StageHolds, Busy, Onward, is_over, WayHolds}
+use Rattle.tm_legal.proofs.Looked.{Looked-step, look-done, own-done, asks-with, hears-none, LookHears-later, Leads-other, Leads-make, leads_into}
+use Rattle.tm_legal.proofs.Walks.{AllAgree-with, All-map, RisesTo-ends, FollowsTo-ends, Begins-later, MayRetry, Busy, Onward, is_over, WayHolds}
 
 -- the steps that a verdict asks for at first
 abbrev pub owed_by : Scene → ℕ → ℕ → Verdict → List Step
@@ -48,7 +50,7 @@ pub record Running (scene : Scene) (history : History) (s : State) (t : ℕ) (tr
   pub pids : map (λ (k : Take). k.pid) takes ++ pid ∷ do_pids items ≡ do_pids tree.records
   pub agree : AllAgree s.policy (length history) walked at
   pub requests : list_all (item_is_request scene.grammar.is_path) (Item.Do pid b.request ∷ items) ≡ true
-  pub ended : AllByRecursion (CaseDone scene history) done
+  pub ended : AllByRecursion (IsLegalTake scene history) done
   pub numbered_so : AllByRecursion (λ (c : Case). c.tree ≡ t) done
   pub are_taken : map (λ (c : Case). c.taken) done ≡ takes
   pub now : b.now ≡ at pid
@@ -65,7 +67,7 @@ pub record Running (scene : Scene) (history : History) (s : State) (t : ℕ) (tr
 abbrev pub domain_of : InProgress → ℕ
 domain_of b = if look_grants b.look then unwrap_or b.after b.before else b.before
 
-ended-leads : (scene : Scene) (history : History) (p : Policy) (b : InProgress) → DomainIn p b.before → Settles scene history p b [] → (domain_after history b.before b.look ≡ Some (domain_of b)) × DomainIn p (domain_of b)
+pub ended-leads : (scene : Scene) (history : History) (p : Policy) (b : InProgress) → DomainIn p b.before → Settles scene history p b [] → (domain_after history b.before b.look ≡ Some (domain_of b)) × DomainIn p (domain_of b)
 ended-leads scene history p b there h = go (look_grants b.look) refl
   where
     go : (x : Bool) → look_grants b.look ≡ x → (domain_after history b.before b.look ≡ Some (domain_of b)) × DomainIn p (domain_of b)
@@ -87,6 +89,28 @@ All-flat n (look ∷ looks) h = All-append (λ k. k ≤ n) (seen look) (flat_map
 some-looks : (looks : List Look) (look : Look) → 0 < length (looks ++ look ∷ [])
 some-looks looks look = rw (length-append looks (look ∷ [])) (omega arith)
 
+-- a take that owes nothing is legal, where its process is in the domain that it began in and its
+-- looks have risen from its process's floor
+pub take-done : (scene : Scene) (history : History) (p : Policy) (t : ℕ) (walked : Situation) (low : ℕ) (b : InProgress) → walked.process ≡ b.now.process → walked.domain ≡ Some b.before → RisesTo history walked.floor b.looked low → low ≤ b.look.version → DomainIn p b.before → Begins scene history p b [] → Settles scene history p b [] → IsLegalTake scene history (record { tree = t; now = walked; request = b.request; taken = taken scene.grammar b })
+take-done scene history p t walked low b process domain rises above there begins goes =
+    let leads = ended-leads scene history p b there goes in
+    let last : LookDone scene history (subject_now b) b.look = look-done scene history (subject_now b) b.retry b.look b.verdict b.audit begins.line begins.looked goes.heard in
+    let looks : AllByRecursion (LookDone scene history (subject_now b)) (b.looked ++ b.look ∷ []) = All-push (LookDone scene history (subject_now b)) b.looked b.look begins.done last in
+    record {
+      some = some-looks b.looked b.look;
+      before = domain;
+      rises = RisesTo-ends history walked.floor b.looked low b.look above begins.looked.version rises;
+      looks = rw process looks;
+      follows = FollowsTo-ends history 0 b.looked b.retry b.look (asks-with history b.retry b.look (own-done scene history (subject_now b) b.retry b.look b.verdict b.audit begins.line begins.looked).1) goes.last begins.follow;
+      ends = rw (last_look-push b.looked b.look, process) (record { granted = refl; domain = leads.0; audit = rw begins.looked.judged begins.looked.audited });
+    }
+
+-- all that a legal take has seen is of the history
+pub take-sees : (scene : Scene) (history : History) (c : Case) → IsLegalTake scene history c → AllByRecursion (λ n. n ≤ length history) (flat_map seen c.taken.looks)
+take-sees scene history c h =
+    All-flat (length history) c.taken.looks
+    (All-map (LookDone scene history (subject_of c)) (λ (look : Look). AllByRecursion (λ n. n ≤ length history) (seen look)) c.taken.looks (λ look d. d.sees) h.looks)
+
 -- a take that owes nothing ends
 pub going-ends : (g : Grammar) (way : Way) (b : InProgress) → b.stage ≡ Stage.Owing [] → going_on g way b ≡ ended_way g way b
 going-ends g way b e = rw e refl
@@ -106,12 +130,12 @@ module _ (scene : Scene) (history : History) (s : State) (t : ℕ) (tree : Tree)
       let a = h.agree h.pid in
       let c : Case = record { tree = t; now = h.walked h.pid; request = b.request; taken = k } in
       let number : a.number ≡ b.before = same_some a.number b.before (sym a.numbered ∙ h.before) in
-      let leads = ended-leads scene history s.policy b (rw number at a.there) goes in
+      let there : DomainIn s.policy b.before = rw number at a.there in
+      let leads = ended-leads scene history s.policy b there goes in
       let process : (h.walked h.pid).process ≡ b.now.process = rw h.now a.process in
       let same : b.now.process.pid ≡ h.pid = rw h.now a.pid_is in
-      let last : LookDone scene history (subject_now b) b.look = look-done scene history (subject_now b) b.retry b.look b.verdict b.audit begins.line begins.looked goes.learned in
-      let looks : AllByRecursion (LookDone scene history (subject_now b)) k.looks = All-push (LookDone scene history (subject_now b)) b.looked b.look begins.done last in
-      let sees : AllByRecursion (λ n. n ≤ length history) (flat_map seen k.looks) = All-flat (length history) k.looks (All-map (LookDone scene history (subject_now b)) (λ (look : Look). AllByRecursion (λ n. n ≤ length history) (seen look)) k.looks (λ look d. d.sees) looks) in
+      let legal : IsLegalTake scene history c = take-done scene history s.policy t (h.walked h.pid) h.low b process (a.domain ∙ h.before) h.rises h.floor there begins goes in
+      let sees : AllByRecursion (λ n. n ≤ length history) (flat_map seen k.looks) = take-sees scene history c legal in
       record {
         walked = with_situation h.walked h.pid (after_take (h.walked h.pid) k);
         done = h.done ++ c ∷ [];
@@ -124,23 +148,15 @@ module _ (scene : Scene) (history : History) (s : State) (t : ℕ) (tree : Tree)
             (record { process = a.process; domain = refl; floor = raised-le (h.walked h.pid).floor (length history) (flat_map seen k.looks) a.floor sees; pid_is = a.pid_is; number = k.after; numbered = refl; there = leads.1 })
             h.agree);
         requests = (and_parts (item_is_request scene.grammar.is_path (Item.Do h.pid b.request)) (list_all (item_is_request scene.grammar.is_path) way.items) h.requests).1;
-        ended = All-push (CaseDone scene history) h.done c h.ended
-            (record {
-              some = some-looks b.looked b.look;
-              before = a.domain ∙ h.before;
-              rises = RisesTo-ends history (h.walked h.pid).floor b.looked h.low b.look h.floor begins.looked.version h.rises;
-              looks = rw process looks;
-              follows = FollowsTo-ends history 0 b.looked b.retry b.look (asks-with history b.retry b.look (own-done scene history (subject_now b) b.retry b.look b.verdict b.audit begins.line begins.looked).1) goes.last begins.follow;
-              ends = rw (last_look-push b.looked b.look, process) (record { granted = refl; domain = leads.0; audit = rw begins.looked.judged begins.looked.audited });
-            });
+        ended = All-push (IsLegalTake scene history) h.done c h.ended legal;
         numbered_so = All-push (λ (d : Case). d.tree ≡ t) h.done c h.numbered_so refl;
         taken = rw (map-append (λ (d : Case). d.taken) h.done (c ∷ []), h.are_taken) refl;
         begun = refl;
         over = rw h.not_over h.no_end;
       }
 
-  take-stays : (way : Way) (b : InProgress) → Busy b.stage → Running scene history s t tree way.at way.items way.takes b → StageHolds scene history s b b.stage → WayHolds scene history s t tree (going_on scene.grammar way b)
-  take-stays way b busy h stage =
+  take-stays : (way : Way) (b : InProgress) → Busy b.stage → Running scene history s t tree way.at way.items way.takes b → StageHolds scene history s b b.stage → MayRetry scene b → WayHolds scene history s t tree (going_on scene.grammar way b)
+  take-stays way b busy h stage fewer =
       rw (going-on scene.grammar way b b.stage refl busy)
       (record {
         walked = h.walked;
@@ -153,20 +169,20 @@ module _ (scene : Scene) (history : History) (s : State) (t : ℕ) (tree : Tree)
         ended = h.ended;
         numbered_so = h.numbered_so;
         taken = h.are_taken;
-        begun = record { pid = h.pid; line = refl; now = h.now; before = h.before; low = h.low; rises = h.rises; floor = h.floor; stage = stage; busy = busy };
+        begun = record { pid = h.pid; line = refl; now = h.now; before = h.before; low = h.low; rises = h.rises; floor = h.floor; stage = stage; fewer = fewer; busy = busy };
         over = rw h.not_over h.no_end;
       })
 
   -- a take goes on, or ends where it owes nothing
-  pub take-goes : (way : Way) (b : InProgress) → Running scene history s t tree way.at way.items way.takes b → StageHolds scene history s b b.stage → WayHolds scene history s t tree (going_on scene.grammar way b)
-  take-goes way b h stage = go b.stage refl stage
+  pub take-goes : (way : Way) (b : InProgress) → Running scene history s t tree way.at way.items way.takes b → StageHolds scene history s b b.stage → MayRetry scene b → WayHolds scene history s t tree (going_on scene.grammar way b)
+  take-goes way b h stage fewer = go b.stage refl stage
     where
       go : (x : Stage) → b.stage ≡ x → StageHolds scene history s b x → WayHolds scene history s t tree (going_on scene.grammar way b)
       go (Stage.Owing []) e (begins, inl settles) = rw (going-ends scene.grammar way b e) (take-ends way b h begins settles)
       go (Stage.Owing []) e (begins, inr to_ask) = absurd (let none : [] ≡ Step.Ask b.before b.retry to_ask.text ∷ [] = to_ask.is in cc)
-      go (Stage.Owing (step ∷ rest)) e held = take-stays way b (subst Busy (sym e) tt) h stage
-      go (Stage.Waiting serial) e held = take-stays way b (subst Busy (sym e) tt) h stage
-      go Stage.Looking e held = take-stays way b (subst Busy (sym e) tt) h stage
+      go (Stage.Owing (step ∷ rest)) e held = take-stays way b (subst Busy (sym e) tt) h stage fewer
+      go (Stage.Waiting serial) e held = take-stays way b (subst Busy (sym e) tt) h stage fewer
+      go Stage.Looking e held = take-stays way b (subst Busy (sym e) tt) h stage fewer
 
 -- A look
 
@@ -304,7 +320,7 @@ look-holds scene player now request retry looked d grammar sane domain there is 
     settles_or_asks scene player now request retry looked d v there line move (inr not) =
         inl
         (record {
-          learned = learns-none scene player.steps (begun_with scene player now request retry looked d v).look not refl;
+          heard = hears-none scene player.steps (begun_with scene player now request retry looked d v).look not refl;
           last = refl;
           ready = owed-ready scene.grammar player.state.policy d there retry v not line move (is_granting v.reason);
           leads = λ grants.
@@ -318,19 +334,19 @@ look-holds scene player now request retry looked d grammar sane domain there is 
 abbrev pub with_step : InProgress → ℕ → Option ℕ → List Step → InProgress
 with_step b number led rest = record b { look = record b.look { own = b.look.own ++ number ∷ [] }; after = led; stage = Stage.Owing rest }
 
--- a look with one own step more has learned the same
-learned_step-fields : (scene : Scene) (history more : History) (n version : ℕ) (mode : Option Mode) (reason : Reason) (move : Move) (own : List ℕ) (heard : Option Heard) → (let look : Look = record { version = version; mode = mode; reason = reason; step = move; own = own; heard = heard } in let next : Look = record { version = version; mode = mode; reason = reason; step = move; own = own ++ n ∷ []; heard = heard } in AllByRecursion (λ k. k ≤ length history) own → LookLearns scene history look → LookLearns scene (history ++ more) next)
-learned_step-fields scene history more n version mode Reason.Ask move [] heard bounds h = absurd h
-learned_step-fields scene history more n version mode Reason.Ask move (k ∷ own) heard bounds h =
-    let look : Look = record { version = version; mode = mode; reason = Reason.Ask; step = move; own = k ∷ own; heard = heard } in LookLearns-later scene history more look bounds h
-learned_step-fields scene history more n version mode (Reason.Entry place) move own heard bounds h = h
-learned_step-fields scene history more n version mode Reason.Disabled move own heard bounds h = h
-learned_step-fields scene history more n version mode Reason.Permissive move own heard bounds h = h
-learned_step-fields scene history more n version mode Reason.Quota move own heard bounds h = h
-learned_step-fields scene history more n version mode Reason.Learn move own heard bounds h = h
-learned_step-fields scene history more n version mode Reason.NoEntry move own heard bounds h = h
-learned_step-fields scene history more n version mode Reason.NotReady move own heard bounds h = h
-learned_step-fields scene history more n version mode Reason.NoManual move own heard bounds h = h
+-- a look with one own step more has heard the same
+heard_step-fields : (scene : Scene) (history more : History) (n version : ℕ) (mode : Option Mode) (reason : Reason) (move : Move) (own : List ℕ) (heard : Option Heard) → (let look : Look = record { version = version; mode = mode; reason = reason; step = move; own = own; heard = heard } in let next : Look = record { version = version; mode = mode; reason = reason; step = move; own = own ++ n ∷ []; heard = heard } in AllByRecursion (λ k. k ≤ length history) own → LookHears scene history look → LookHears scene (history ++ more) next)
+heard_step-fields scene history more n version mode Reason.Ask move [] heard bounds h = absurd h
+heard_step-fields scene history more n version mode Reason.Ask move (k ∷ own) heard bounds h =
+    let look : Look = record { version = version; mode = mode; reason = Reason.Ask; step = move; own = k ∷ own; heard = heard } in LookHears-later scene history more look bounds h
+heard_step-fields scene history more n version mode (Reason.Entry place) move own heard bounds h = h
+heard_step-fields scene history more n version mode Reason.Disabled move own heard bounds h = h
+heard_step-fields scene history more n version mode Reason.Permissive move own heard bounds h = h
+heard_step-fields scene history more n version mode Reason.Quota move own heard bounds h = h
+heard_step-fields scene history more n version mode Reason.Learn move own heard bounds h = h
+heard_step-fields scene history more n version mode Reason.NoEntry move own heard bounds h = h
+heard_step-fields scene history more n version mode Reason.NotReady move own heard bounds h = h
+heard_step-fields scene history more n version mode Reason.NoManual move own heard bounds h = h
 
 pub record Stepped (scene : Scene) (history : History) (s' : State) (b : InProgress) (rest : List Step) (reply : Reply) (step : Step) : Type 0 where
   pub led : Option ℕ
@@ -341,7 +357,7 @@ module _ (scene : Scene) (history : History) (s s' : State) (b : InProgress) (re
   -- the looks before, and the look with one own step more
   pub step-begins : (step : Step) (reply : Reply) → Onward step s s' → (led : Option ℕ) → Begins scene history s.policy b (step ∷ rest) → Begins scene (history ++ (step, reply) ∷ []) s'.policy (with_step b (suc (length history)) led rest) rest
   step-begins step reply on led h =
-      let later = Begins-later scene history step reply s s' on b (step ∷ rest) h in
+      let later = Begins-later scene history ((step, reply) ∷ []) s.policy s'.policy on.evolves.keeps b (step ∷ rest) h in
       record {
         looked = Looked-step scene history (subject_now b) b.retry b.look b.verdict step reply rest b.audit h.looked;
         line = h.line;
@@ -353,7 +369,7 @@ module _ (scene : Scene) (history : History) (s s' : State) (b : InProgress) (re
   step-settles : (step : Step) (reply : Reply) → Onward step s s' → (led : Option ℕ) → Begins scene history s.policy b (step ∷ rest) → Settles scene history s.policy b (step ∷ rest) → (look_grants b.look ≡ true → Leads (history ++ (step, reply) ∷ []) s'.policy b.look.step (b.look.own ++ suc (length history) ∷ []) led rest) → Settles scene (history ++ (step, reply) ∷ []) s'.policy (with_step b (suc (length history)) led rest) rest
   step-settles step reply on led begins h leads =
       record {
-        learned = learned_step-fields scene history ((step, reply) ∷ []) (suc (length history)) b.look.version b.look.mode b.look.reason b.look.step b.look.own b.look.heard begins.looked.bounds h.learned;
+        heard = heard_step-fields scene history ((step, reply) ∷ []) (suc (length history)) b.look.version b.look.mode b.look.reason b.look.step b.look.own b.look.heard begins.looked.bounds h.heard;
         last = h.last;
         ready = All-map (Ready scene.grammar s.policy) (Ready scene.grammar s'.policy) rest (λ owed. Ready-later scene.grammar s.policy s'.policy owed on.evolves.keeps) h.ready.1;
         leads = leads;

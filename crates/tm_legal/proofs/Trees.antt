@@ -1,4 +1,5 @@
--- Each event of a tree keeps what a player keeps and leaves less to do; a tree without an event waits for an answer, or is done.
+-- Each event of a tree keeps what a player keeps and leaves less to do; a tree without an event
+-- waits for an answer, or is done.
 use Rattle.std.proofs.Common.{◌≡◌, ◌≤◌, ◌<◌, ℕ, zero, suc, ◌+◌, ◌-◌, ◌*◌, List, [], ◌∷◌, ◌++◌, length, Bool, true, false, true≢false, refl, sym, ap, ◌∙◌, subst, arith, inl, inr, ◌⊎◌}
 use Rattle.std.specs.Prelude.{Option, Some, None, slice_get, slice_set, if◌then◌else◌, ◌==◌, ◌||◌, not, IsSome, is_some, option_map, flat_map}
 use Rattle.std.specs.List.{AllByRecursion, list_all}
@@ -19,11 +20,12 @@ use Rattle.tm_legal.specs.Steps.{State, Applied, apply}
 use Rattle.tm_legal.specs.Run.{History, Situation, Situations, do_pids, seen, places, Case}
 use Rattle.tm_legal.specs.Legal.{Scene, subject_of, own_numbers, times, is_end, is_attach}
 use Rattle.tm_rules.specs.Grammar.{IsGrammar}
+use Rattle.tm_legal.specs.Cases.{LookDone, IsLegalTake}
 use Rattle.tm_legal.specs.Play.{Player, Settled, InProgress, Stage, Way, settle, on_way, going_on, first_look, end_tree, retries_of, looks_left, steps_left, stage_left, way_left, ways_left, lines_left, unanswered, desk_left, left_with, play_left}
+use Rattle.tm_legal.specs.Stages.{Settles, ToAsk}
 use Rattle.tm_legal.proofs.Laws.{times-append}
 use Rattle.tm_legal.proofs.Histories.{places-push}
-use Rattle.tm_legal.proofs.Looked.{LookDone}
-use Rattle.tm_legal.proofs.Walks.{All-map, CaseDone, Settles, ToAsk, is_over, EndsAs, WayHolds, WayHolds-onward, WayHolds-later, Stands}
+use Rattle.tm_legal.proofs.Walks.{All-map, is_over, EndsAs, WayHolds, WayHolds-onward, WayHolds-later, Stands}
 use Rattle.tm_legal.proofs.Takes.{All-flat, owed_by, owed-few, Running, take-goes, begun_with, look-holds}
 use Rattle.tm_legal.proofs.Onward.{EndDone, end-done, over-put, length-put}
 use Rattle.tm_legal.proofs.Counts.{EachWay, way-at, way-set, begun_own-is, way_own, count_own, going-own, counted-other}
@@ -194,7 +196,7 @@ module _ (scene : Scene) (grammar : IsGrammar scene.grammar) (player : Player) (
       (record {
         next = on_way scene.grammar player n new;
         is = rw looks.is refl;
-        holds = replaced scene player n way new h at k (take-goes scene player.steps player.state k.number k.tree before b running looks.stage)
+        holds = replaced scene player n way new h at k (take-goes scene player.steps player.state k.number k.tree before b running looks.stage (λ e. absurd cc))
             (λ c. going-own scene.grammar c before b ∙ rw (begun_own-is c b) (first-own c idle));
         less = less-way scene player n way new at less;
       })
@@ -220,7 +222,7 @@ module _ (scene : Scene) (grammar : IsGrammar scene.grammar) (player : Player) (
       rw over (
         suc (length player.steps),
         rw (places-push (is_end k.number) player.steps (Step.End k.number) Reply.End (eq-eqb k.number k.number refl), (rw open_ at k.holds.over)) refl,
-        All-map (CaseDone scene player.steps) (λ (c : Case). AllByRecursion (λ version. version < suc (length player.steps)) (flat_map seen c.taken.looks)) k.holds.done (λ c done. below c.taken.looks (All-map (LookDone scene player.steps (subject_of c)) (λ (look : Look). AllByRecursion (λ version. version ≤ length player.steps) (seen look)) c.taken.looks (λ look d. d.sees) done.looks)) k.holds.ended,
+        All-map (IsLegalTake scene player.steps) (λ (c : Case). AllByRecursion (λ version. version < suc (length player.steps)) (flat_map seen c.taken.looks)) k.holds.done (λ c done. below c.taken.looks (All-map (LookDone scene player.steps (subject_of c)) (λ (look : Look). AllByRecursion (λ version. version ≤ length player.steps) (seen look)) c.taken.looks (λ look d. d.sees) done.looks)) k.holds.ended,
         idle,
         empty,
       )

@@ -1,46 +1,32 @@
--- A tree on its way: the walk over its lines as far as it has come, the takes that have ended, and the take that has begun.
-use Rattle.std.proofs.Common.{◌≡◌, ◌≤◌, ◌<◌, ℕ, suc, List, [], ◌∷◌, ◌++◌, length, map, Bool, true, false, refl, sym, ap, ◌∙◌, subst, arith, inl, inr, ◌⊎◌}
+-- A tree on its way: the walk over its lines as far as it has come, the takes that have ended, and
+-- the take that has begun.
+use Rattle.std.proofs.Common.{◌≡◌, ◌≤◌, ◌<◌, ℕ, suc, List, [], ◌∷◌, ◌++◌, length, map, Bool, true, false, refl, sym, ap, ◌∙◌, subst, arith, inl, inr}
 use Rattle.std.specs.Prelude.{Option, Some, None, if◌then◌else◌, ◌==◌, IfSome, flat_map}
 use Rattle.std.specs.List.{AllByRecursion, list_all, list_any}
 use Rattle.std.proofs.lemmas.Bool.{eqb-true}
-use Rattle.tm_word.specs.Words.{Text}
 use Rattle.tm_types.specs.declared.policy.Policy.{Policy}
 use Rattle.tm_types.specs.declared.request.Ids.{Ids}
 use Rattle.tm_types.specs.declared.request.Item.{Item}
 use Rattle.tm_types.specs.declared.request.Tree.{Tree}
 use Rattle.tm_types.specs.declared.step.Step.{Step}
 use Rattle.tm_types.specs.declared.step.Reply.{Reply}
-use Rattle.tm_types.specs.declared.step.Held.{Held}
 use Rattle.tm_types.specs.declared.step.Look.{Look}
 use Rattle.tm_types.specs.declared.step.Take.{Take}
-use Rattle.tm_types.specs.declared.verdict.Reason.{Reason}
 use Rattle.tm_rules.specs.Requests.{item_is_request}
 use Rattle.tm_rules.specs.Queries.{Standing, numbered}
 use Rattle.tm_legal.specs.Steps.{State}
-use Rattle.tm_legal.specs.Run.{History, Situation, Situations, with_situation, with_ids, forked, at_start, Case, tree_cases, do_pids, seen, raised, reply_at, places}
-use Rattle.tm_legal.specs.Legal.{Scene, Subject, subject_of, look_grants, LooksRise, LooksFollow, LookLearns, AsksWith, EndsWith, is_retry, is_end, last_look}
-use Rattle.tm_legal.specs.Play.{InProgress, Stage, Way, passed, entered, retries_of}
+use Rattle.tm_legal.specs.Run.{History, Situation, Situations, with_situation, with_ids, forked, at_start, Case, tree_cases, do_pids, seen, raised, places}
+use Rattle.tm_legal.specs.Legal.{Scene, Subject, subject_of, LooksRise, LooksFollow, AsksWith, EndsWith, is_retry, is_end, last_look}
+use Rattle.tm_legal.specs.Cases.{LookDone, IsLegalTake}
+use Rattle.tm_legal.specs.Play.{InProgress, Stage, Way, passed, retries_of}
+use Rattle.tm_legal.specs.Stages.{Agrees, AllAgree, RisesTo, FollowsTo, subject_now, Begins, Settles, StageHolds, Ready}
 use Rattle.tm_legal.proofs.Laws.{state_at-later}
-use Rattle.tm_legal.proofs.Kept.{DomainIn, DomainIn-later, Keeps, Evolves, Ready, Ready-later}
-use Rattle.tm_legal.proofs.Asked.{LineFits, MoveFits, MoveFits-later}
+use Rattle.tm_legal.proofs.Kept.{DomainIn-later, Keeps, Evolves, Ready-later}
+use Rattle.tm_legal.proofs.Asked.{MoveFits-later}
 use Rattle.tm_legal.proofs.Histories.{reply_at-later, domain_after-later, places-other}
-use Rattle.tm_legal.proofs.Looked.{Looked, Looked-later, LookDone, LookDone-later, LookLearns-later, AsksWith-later, Leads, Leads-later, longer}
+use Rattle.tm_legal.proofs.Looked.{Looked-later, LookDone-later, LookHears-later, AsksWith-later, Leads-later, longer}
 
 -- Processes
-
--- the walk and the play have the same process in the same domain, which is there; the walk's floor is no newer than the history
-pub record Agrees (p : Policy) (n : ℕ) (pid : ℕ) (walked played : Situation) : Type 0 where
-  pub process : walked.process ≡ played.process
-  pub domain : walked.domain ≡ played.domain
-  pub floor : walked.floor ≤ n
-  pub pid_is : played.process.pid ≡ pid
-  pub number : ℕ
-  pub numbered : played.domain ≡ Some number
-  pub there : DomainIn p number
-
--- of every process
-abbrev pub AllAgree : Policy → ℕ → Situations → Situations → Type 0
-AllAgree p n walked played = (pid : ℕ) → Agrees p n pid (walked pid) (played pid)
 
 pub AllAgree-later : (p q : Policy) (n m : ℕ) (walked played : Situations) → Keeps p q → n ≤ m → AllAgree p n walked played → AllAgree q m walked played
 AllAgree-later p q n m walked played keeps le h pid =
@@ -63,11 +49,6 @@ All-map P Q (x ∷ xs) f h = (f x h.0, All-map P Q xs f h.1)
 
 -- Looks in their order
 
--- these looks rise from a floor, and lift it as high as this
-abbrev pub RisesTo : History → ℕ → List Look → ℕ → Type 0
-RisesTo history floor [] low = floor ≡ low
-RisesTo history floor (look ∷ looks) low = (floor ≤ look.version) × (look.version ≤ length history) × RisesTo history (raised floor (seen look)) looks low
-
 pub RisesTo-later : (history more : History) (floor : ℕ) (looks : List Look) (low : ℕ) → RisesTo history floor looks low → RisesTo (history ++ more) floor looks low
 RisesTo-later history more floor [] low h = h
 RisesTo-later history more floor (look ∷ looks) low h = (h.0, (let le : length history ≤ length (history ++ more) = longer history more in omega (arith, h.1)), RisesTo-later history more (raised floor (seen look)) looks low h.2)
@@ -85,11 +66,6 @@ RisesTo-ends history floor (first ∷ looks) low look le at h = (h.0, h.1, Rises
 LooksRise-later : (history more : History) (floor : ℕ) (looks : List Look) → LooksRise history floor looks → LooksRise (history ++ more) floor looks
 LooksRise-later history more floor [] h = tt
 LooksRise-later history more floor (look ∷ looks) h = (h.0, (let le : length history ≤ length (history ++ more) = longer history more in omega (arith, h.1)), LooksRise-later history more (raised floor (seen look)) looks h.2)
-
--- these looks were followed by another each, and the next has this retry number
-abbrev pub FollowsTo : History → ℕ → List Look → ℕ → Type 0
-FollowsTo history k [] retry = k ≡ retry
-FollowsTo history k (look ∷ looks) retry = AsksWith history k look × (is_retry look.heard ≡ true) × FollowsTo history (suc k) looks retry
 
 pub FollowsTo-push : (history : History) (k : ℕ) (looks : List Look) (retry : ℕ) (look : Look) → AsksWith history retry look → is_retry look.heard ≡ true → FollowsTo history k looks retry → FollowsTo history k (looks ++ look ∷ []) (suc retry)
 FollowsTo-push history k [] retry look asks again h = (subst (λ r. AsksWith history r look) (sym h) asks, again, ap suc h)
@@ -112,15 +88,6 @@ module _ (scene : Scene) (history more : History) (s : Subject) where
 
 -- Takes that have ended
 
--- a `do` line whose take has ended
-pub record CaseDone (scene : Scene) (history : History) (c : Case) : Type 0 where
-  pub some : 0 < length c.taken.looks
-  pub before : c.now.domain ≡ Some c.taken.before
-  pub rises : LooksRise history c.now.floor c.taken.looks
-  pub looks : AllByRecursion (LookDone scene history (subject_of c)) c.taken.looks
-  pub follows : LooksFollow history 0 c.taken.looks
-  pub ends : IfSome (last_look c.taken.looks) (EndsWith scene history (subject_of c) c.taken)
-
 ends-later : (scene : Scene) (history more : History) (s : Subject) (taken : Take) (looks : List Look) → AllByRecursion (LookDone scene history s) looks → IfSome (last_look looks) (EndsWith scene history s taken) → IfSome (last_look looks) (EndsWith scene (history ++ more) s taken)
 ends-later scene history more s taken [] done h = tt
 ends-later scene history more s taken (look ∷ []) done h =
@@ -131,8 +98,8 @@ ends-later scene history more s taken (look ∷ []) done h =
     }
 ends-later scene history more s taken (look ∷ next ∷ looks) done h = ends-later scene history more s taken (next ∷ looks) done.1 h
 
-pub CaseDone-later : (scene : Scene) (history more : History) (c : Case) → CaseDone scene history c → CaseDone scene (history ++ more) c
-CaseDone-later scene history more c h =
+pub IsLegalTake-later : (scene : Scene) (history more : History) (c : Case) → IsLegalTake scene history c → IsLegalTake scene (history ++ more) c
+IsLegalTake-later scene history more c h =
     record {
       some = h.some;
       before = h.before;
@@ -144,51 +111,9 @@ CaseDone-later scene history more c h =
 
 -- The take that has begun
 
--- who asks, in which domain
-abbrev pub subject_now : InProgress → Subject
-subject_now b = record { domain = b.before; process = b.now.process; request = b.request }
-
--- the looks before, the look that it is at, and where its verdict can lead
-pub record Begins (scene : Scene) (history : History) (p : Policy) (b : InProgress) (rest : List Step) : Type 0 where
-  pub looked : Looked scene history (subject_now b) b.retry b.look b.verdict rest b.audit
-  pub line : LineFits scene.grammar b.verdict.reason b.verdict.line
-  pub moves : MoveFits scene.grammar p b.before b.verdict.step b.verdict.target
-  pub done : AllByRecursion (LookDone scene history (subject_now b)) b.looked
-  pub follow : FollowsTo history 0 b.looked b.retry
-
--- all was heard, and this is owed
-pub record Settles (scene : Scene) (history : History) (p : Policy) (b : InProgress) (rest : List Step) : Type 0 where
-  pub learned : LookLearns scene history b.look
-  pub last : is_retry b.look.heard ≡ false
-  pub ready : AllByRecursion (Ready scene.grammar p) rest
-  pub leads : look_grants b.look ≡ true → Leads history p b.look.step b.look.own b.after rest
-
--- somebody is to be asked
-pub record ToAsk (scene : Scene) (b : InProgress) (rest : List Step) : Type 0 where
-  pub ask : b.look.reason ≡ Reason.Ask
-  pub none : b.look.own ≡ []
-  pub unheard : b.look.heard ≡ None
-  pub text : Text
-  pub is : rest ≡ Step.Ask b.before b.retry text ∷ []
-  pub led : b.after ≡ entered scene.grammar b.look.step
-
--- somebody was asked
-pub record Waits (scene : Scene) (history : History) (queries : List Standing) (b : InProgress) (serial : ℕ) : Type 0 where
-  pub ask : b.look.reason ≡ Reason.Ask
-  pub number : ℕ
-  pub own : b.look.own ≡ number ∷ []
-  pub unheard : b.look.heard ≡ None
-  pub replied : reply_at history number ≡ Some (Reply.Ask (Held.Serial serial))
-  pub led : b.after ≡ entered scene.grammar b.look.step
-  pub standing : Standing
-  pub there : numbered queries serial ≡ Some standing
-  pub same_retry : standing.query.retry ≡ b.retry
-
--- by what the take waits for
-abbrev pub StageHolds : Scene → History → State → InProgress → Stage → Type 0
-StageHolds scene history state b (Stage.Owing rest) = Begins scene history state.policy b rest × (Settles scene history state.policy b rest ⊎ ToAsk scene b rest)
-StageHolds scene history state b (Stage.Waiting serial) = Begins scene history state.policy b [] × Waits scene history state.queries.all b serial
-StageHolds scene history state b Stage.Looking = Begins scene history state.policy b [] × LookLearns scene history b.look × (is_retry b.look.heard ≡ true) × (b.retry < retries_of scene.book)
+-- another look is one of those that the book may ask for
+abbrev pub MayRetry : Scene → InProgress → Type 0
+MayRetry scene b = b.stage ≡ Stage.Looking → b.retry < retries_of scene.book
 
 -- the take hasn't ended
 abbrev pub Busy : Stage → Type 0
@@ -213,49 +138,49 @@ pub record Onward (step : Step) (s s' : State) : Type 0 where
   pub editors : s'.editors ≡ s.editors
   pub trees : s'.trees ≡ s.trees
 
-module _ (scene : Scene) (history : History) (step : Step) (r : Reply) (s s' : State) (on : Onward step s s') where
-  more : History
-  more = (step, r) ∷ []
-
-  pub Begins-later : (b : InProgress) (rest : List Step) → Begins scene history s.policy b rest → Begins scene (history ++ (step, r) ∷ []) s'.policy b rest
+-- however many steps follow, whoever makes them
+module _ (scene : Scene) (history more : History) (p q : Policy) (keeps : Keeps p q) where
+  pub Begins-later : (b : InProgress) (rest : List Step) → Begins scene history p b rest → Begins scene (history ++ more) q b rest
   Begins-later b rest h =
       record {
-        looked = Looked-later scene history ((step, r) ∷ []) (subject_now b) b.retry b.look b.verdict rest b.audit h.looked;
+        looked = Looked-later scene history more (subject_now b) b.retry b.look b.verdict rest b.audit h.looked;
         line = h.line;
-        moves = MoveFits-later scene.grammar s.policy s'.policy b.before b.verdict.step b.verdict.target on.evolves.keeps h.moves;
-        done = All-map (LookDone scene history (subject_now b)) (LookDone scene (history ++ (step, r) ∷ []) (subject_now b)) b.looked (LookDone-later scene history ((step, r) ∷ []) (subject_now b)) h.done;
-        follow = FollowsTo-later scene history ((step, r) ∷ []) (subject_now b) 0 b.looked b.retry h.done h.follow;
+        moves = MoveFits-later scene.grammar p q b.before b.verdict.step b.verdict.target keeps h.moves;
+        done = All-map (LookDone scene history (subject_now b)) (LookDone scene (history ++ more) (subject_now b)) b.looked (LookDone-later scene history more (subject_now b)) h.done;
+        follow = FollowsTo-later scene history more (subject_now b) 0 b.looked b.retry h.done h.follow;
       }
 
-  StageHolds-later : (b : InProgress) (stage : Stage) → StageHolds scene history s b stage → StageHolds scene (history ++ (step, r) ∷ []) s' b stage
-  StageHolds-later b (Stage.Owing rest) (begins, inl settles) = (
-    Begins-later b rest begins,
-    inl
-        (record {
-          learned = LookLearns-later scene history ((step, r) ∷ []) b.look begins.looked.bounds settles.learned;
-          last = settles.last;
-          ready = All-map (Ready scene.grammar s.policy) (Ready scene.grammar s'.policy) rest (λ owed. Ready-later scene.grammar s.policy s'.policy owed on.evolves.keeps) settles.ready;
-          leads = λ grants. Leads-later history ((step, r) ∷ []) s.policy s'.policy b.look.step b.look.own b.after rest on.evolves.keeps begins.looked.bounds (settles.leads grants);
-        }),
-  )
-  StageHolds-later b (Stage.Owing rest) (begins, inr to_ask) = (Begins-later b rest begins, inr to_ask)
-  StageHolds-later b (Stage.Waiting serial) (begins, waits) =
-      let (standing, there, same) = on.standing serial waits.standing waits.there in
-      let bound : waits.number ≤ length history = (rw waits.own at begins.looked.bounds).0 in (
-        Begins-later b [] begins,
-        record {
-          ask = waits.ask;
-          number = waits.number;
-          own = waits.own;
-          unheard = waits.unheard;
-          replied = reply_at-later history ((step, r) ∷ []) waits.number bound ∙ waits.replied;
-          led = waits.led;
-          standing = standing;
-          there = there;
-          same_retry = rw same waits.same_retry;
-        },
-      )
-  StageHolds-later b Stage.Looking (begins, learned, again, fewer) = (Begins-later b [] begins, LookLearns-later scene history ((step, r) ∷ []) b.look begins.looked.bounds learned, again, fewer)
+  Settles-later : (b : InProgress) (rest : List Step) → Begins scene history p b rest → Settles scene history p b rest → Settles scene (history ++ more) q b rest
+  Settles-later b rest begins h =
+      record {
+        heard = LookHears-later scene history more b.look begins.looked.bounds h.heard;
+        last = h.last;
+        ready = All-map (Ready scene.grammar p) (Ready scene.grammar q) rest (λ owed. Ready-later scene.grammar p q owed keeps) h.ready;
+        leads = λ grants. Leads-later history more p q b.look.step b.look.own b.after rest keeps begins.looked.bounds (h.leads grants);
+      }
+
+pub StageHolds-later : (scene : Scene) (history more : History) (s s' : State) → Keeps s.policy s'.policy → StandingKeeps s.queries.all s'.queries.all → (b : InProgress) (stage : Stage) → StageHolds scene history s b stage → StageHolds scene (history ++ more) s' b stage
+StageHolds-later scene history more s s' keeps stands b (Stage.Owing rest) (begins, inl settles) =
+    (Begins-later scene history more s.policy s'.policy keeps b rest begins, inl (Settles-later scene history more s.policy s'.policy keeps b rest begins settles))
+StageHolds-later scene history more s s' keeps stands b (Stage.Owing rest) (begins, inr to_ask) = (Begins-later scene history more s.policy s'.policy keeps b rest begins, inr to_ask)
+StageHolds-later scene history more s s' keeps stands b (Stage.Waiting serial) (begins, waits) =
+    let (standing, there, same) = stands serial waits.standing waits.there in
+    let bound : waits.number ≤ length history = (rw waits.own at begins.looked.bounds).0 in (
+      Begins-later scene history more s.policy s'.policy keeps b [] begins,
+      record {
+        ask = waits.ask;
+        number = waits.number;
+        own = waits.own;
+        unheard = waits.unheard;
+        replied = reply_at-later history more waits.number bound ∙ waits.replied;
+        led = waits.led;
+        standing = standing;
+        there = there;
+        same_retry = rw same waits.same_retry;
+      },
+    )
+StageHolds-later scene history more s s' keeps stands b Stage.Looking (begins, heard, again) =
+    (Begins-later scene history more s.policy s'.policy keeps b [] begins, LookHears-later scene history more b.look begins.looked.bounds heard, again)
 
 -- A tree
 
@@ -269,6 +194,7 @@ pub record TakeHolds (scene : Scene) (history : History) (s : State) (walked pla
   pub rises : RisesTo history (walked pid).floor b.looked low
   pub floor : low ≤ b.look.version
   pub stage : StageHolds scene history s b b.stage
+  pub fewer : MayRetry scene b
   pub busy : Busy b.stage
 
 -- the walk stands at the next line, or at that of the take that has begun
@@ -290,7 +216,7 @@ pub record WayHolds (scene : Scene) (history : History) (s : State) (t : ℕ) (t
   pub pids : map (λ (k : Take). k.pid) way.takes ++ do_pids left ≡ do_pids tree.records
   pub agree : AllAgree s.policy (length history) walked way.at
   pub requests : list_all (item_is_request scene.grammar.is_path) left ≡ true
-  pub ended : AllByRecursion (CaseDone scene history) done
+  pub ended : AllByRecursion (IsLegalTake scene history) done
   pub numbered_so : AllByRecursion (λ (c : Case). c.tree ≡ t) done
   pub taken : map (λ (c : Case). c.taken) done ≡ way.takes
   pub begun : BegunHolds scene history s walked way.at way.items left way.begun
@@ -308,7 +234,8 @@ module _ (scene : Scene) (history : History) (step : Step) (r : Reply) (s s' : S
         low = h.low;
         rises = RisesTo-later history ((step, r) ∷ []) (walked h.pid).floor b.looked h.low h.rises;
         floor = h.floor;
-        stage = StageHolds-later scene history step r s s' on b b.stage h.stage;
+        stage = StageHolds-later scene history ((step, r) ∷ []) s s' on.evolves.keeps on.standing b b.stage h.stage;
+        fewer = h.fewer;
         busy = h.busy;
       }
 
@@ -327,7 +254,7 @@ module _ (scene : Scene) (history : History) (step : Step) (r : Reply) (s s' : S
         pids = h.pids;
         agree = AllAgree-later s.policy s'.policy (length history) (length (history ++ (step, r) ∷ [])) h.walked way.at on.evolves.keeps (longer history ((step, r) ∷ [])) h.agree;
         requests = h.requests;
-        ended = All-map (CaseDone scene history) (CaseDone scene (history ++ (step, r) ∷ [])) h.done (CaseDone-later scene history ((step, r) ∷ [])) h.ended;
+        ended = All-map (IsLegalTake scene history) (IsLegalTake scene (history ++ (step, r) ∷ [])) h.done (IsLegalTake-later scene history ((step, r) ∷ [])) h.ended;
         numbered_so = h.numbered_so;
         taken = h.taken;
         begun = BegunHolds-later h.walked way.at way.items h.left way.begun h.begun;

@@ -1,16 +1,13 @@
 -- Address arguments: what is written is read again, and what is read can be written.
-use Rattle.std.proofs.Common.{◌≡◌, ℕ, ◌+◌, ◌-◌, ◌*◌, ◌/◌, ◌%◌, ◌<◌, ◌≤◌, ◌^◌, ◌==◌, nat_lt, nat_le, Bool, true, false, cond, ◌&&◌, List, [], ◌∷◌, ◌++◌, length, take, drop, Option, Some, None, option_map, option_and_then, IfSome, Result, Ok, Err, inl, inr, refl, sym, ap, subst, ◌∙◌, arith}
+use Rattle.std.proofs.Common.{◌≡◌, ℕ, ◌+◌, ◌-◌, ◌*◌, ◌/◌, ◌%◌, ◌<◌, ◌≤◌, ◌^◌, ◌==◌, nat_le, Bool, true, false, cond, ◌&&◌, List, [], ◌∷◌, ◌++◌, length, take, drop, Option, Some, None, option_map, option_and_then, IfSome, Result, Ok, Err, inl, inr, refl, sym, ap, subst, ◌∙◌, arith}
 use Rattle.std.proofs.lemmas.Bool.{eqb-true, ltb-true, lt-ltb, leb-true, le-leb}
 use Rattle.std.specs.List.{list_any, position, slice_split}
 use Rattle.std.specs.Str.Parse.{digits_value}
 use Rattle.tm_word.specs.Words.{Text}
 use Rattle.tm_number.specs.declared.Addr.{Addr}
 use Rattle.tm_number.specs.declared.AddrRange.{AddrRange}
-use Rattle.tm_number.specs.declared.Base.{Base}
-use Rattle.tm_number.specs.declared.Number.{Number}
-use Rattle.tm_number.specs.declared.text.NumberFault.{NumberFault}
 use Rattle.tm_number.specs.Addresses.{addr_le}
-use Rattle.tm_number.specs.Numbers.{is_numeral, number_of, plain_of}
+use Rattle.tm_number.specs.Numbers.{is_numeral}
 use Rattle.tm_number.proofs.NumberLaws.{plain_small, value_below}
 use Rattle.tm_addr.specs.declared.reading.AddrFault.{AddrFault}
 use Rattle.tm_addr.specs.Reading.{octet_of, quad_of, v4_at, v4_of, group_of, with_group, with_quad, with_last, last_of, groups_after, few, groups, side_of, gap_at, whole, around, v6_at, v6_of, found_as, addr_of, single, same_family, ends_of, range, range_at, range_of}

@@ -4,6 +4,7 @@ use Rattle.std.specs.Prelude.{codes}
 use Rattle.std.proofs.lemmas.Bool.{eqb-true}
 use Rattle.tm_word.specs.Texts.{texts_equal, begins_with_byte}
 use Rattle.std.specs.List.{list_all}
+use Rattle.std.specs.Result.{is_ok}
 use Rattle.std.proofs.lemmas.List.Splits.{join_with_byte-slice_split}
 use Rattle.tm_word.specs.Words.{Text}
 use Rattle.tm_word.specs.Spelling.{joined}
@@ -12,7 +13,7 @@ use Rattle.tm_rules.specs.Words.{DomainName}
 use Rattle.tm_rules.specs.Transition.{is_namespace_word, is_domain_name, root_name}
 use Rattle.tm_pattern.specs.Reading.{pattern_of}
 use Rattle.tm_domain.specs.declared.DomainFault.{DomainFault}
-use Rattle.tm_domain.specs.Names.{is_pattern, is_path, is_read, domain_of}
+use Rattle.tm_domain.specs.Names.{is_path, is_read, domain_of}
 use Rattle.tm_domain.proofs.NameLaws.{same_name, right_name}
 use Rattle.tm_word.proofs.Cuts.{pieces_of}
 use Rattle.tm_line.specs.Lines.{spaced}
@@ -26,7 +27,7 @@ use Rattle.tm_line.proofs.Steps.{bind_ok, ok_is, kinded_ok, both, not_true}
 
 pub path_begins : (word : Text) → is_path word ≡ true → begins_with_byte 47 word ≡ true
 unfolding is_path
-path_begins word h = (both (begins_with_byte 47 word) (is_pattern (pattern_of word)) h).0
+path_begins word h = (both (begins_with_byte 47 word) (is_ok (pattern_of word)) h).0
 
 record Front (paths more : List Text) : Type 0 where
   pub taken : take (paths_in (paths ++ more)) (paths ++ more) ≡ paths

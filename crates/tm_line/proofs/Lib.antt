@@ -1,3 +1,4 @@
+pub mod Masks
 pub mod JoinLaws
 pub mod OnePerm
 pub mod Steps

@@ -24,7 +24,7 @@ use Rattle.tm_line.specs.Lines.{or_kind}
 use Rattle.tm_line.specs.Printing.{number_spelling}
 use Rattle.tm_line.specs.Written.{is_range, is_number}
 use Rattle.tm_word.specs.Texts.{begins_with_byte}
-use Rattle.tm_line.proofs.Steps.{bind_ok, ok_is, kinded_ok, chosen, both}
+use Rattle.tm_line.proofs.Steps.{bind_ok, ok_is, kinded_ok, both}
 use Rattle.tm_line.proofs.GroupLaws.{or_again, or_one, or_found}
 
 -- ---- ranges that are read

@@ -1,4 +1,5 @@
--- Lists of permissions: each set of a row is printed so that it is read again, and what is read is a set of the row.
+-- Lists of permissions: each set of a row is printed so that it is read again, and what is read is
+-- a set of the row.
 use Rattle.std.proofs.Common.{◌≡◌, ℕ, zero, suc, ◌+◌, ◌*◌, ◌^◌, ◌<◌, ◌≤◌, ◌==◌, nat_lt, Bool, true, false, cond, ◌&&◌, List, [], ◌∷◌, length, Option, Some, None, Ok, ◌⊎◌, inl, inr, refl, sym, ap, subst, ◌∙◌, arith}
 use Rattle.std.specs.Prelude.{bit_or}
 use Rattle.std.proofs.Math.Pow.{pow-lt}

@@ -39,7 +39,8 @@ use Rattle.tm_pattern.proofs.RightLaws.{read-right}
 use Rattle.tm_word.specs.Texts.{texts_equal, is_solid, is_word, begins_with_byte}
 use Rattle.tm_rules.specs.Words.{DomainName}
 use Rattle.tm_rules.specs.Transition.{is_namespace_word, is_domain_name, root_name}
-use Rattle.tm_domain.specs.Names.{is_path, is_pattern}
+use Rattle.std.specs.Result.{is_ok}
+use Rattle.tm_domain.specs.Names.{is_path}
 use Rattle.tm_domain.proofs.NameLaws.{same_texts}
 use Rattle.tm_line.specs.declared.permissions.Row.{Row}
 use Rattle.tm_line.specs.Lines.{spaced}
@@ -348,7 +349,7 @@ perms_is acl_row bits h = perms_text acl_row bits (perms_spelling acl_row bits) 
 
 -- ---- the parts of a domain name are words
 
-pattern_text : (text : Text) (r : Result Pattern PatternFault) → pattern_of text ≡ r → is_pattern r ≡ true → is_solid text ≡ true
+pattern_text : (text : Text) (r : Result Pattern PatternFault) → pattern_of text ≡ r → is_ok r ≡ true → is_solid text ≡ true
 pattern_text text (Ok p) e h = subst (λ t. is_solid t ≡ true) (sym (pattern_found text p e)) (pattern_solid p (read-right text p e))
 pattern_text text (Err fault) e h = absurd cc
 
@@ -359,7 +360,7 @@ slash_text (b ∷ text) h k = word_from b text k
 pub path_is : (text : Text) → is_path text ≡ true → is_word text ≡ true
 unfolding is_path
 path_is text h =
-    let t = both (begins_with_byte 47 text) (is_pattern (pattern_of text)) h in
+    let t = both (begins_with_byte 47 text) (is_ok (pattern_of text)) h in
     slash_text text t.0 (pattern_text text (pattern_of text) refl t.1)
 
 paths_are : (paths : List Text) → list_all is_path paths ≡ true → list_all is_word paths ≡ true

@@ -46,9 +46,11 @@ unfoldable pub addr_range_word : Text → Result AddrRange LineKind
 addr_range_word text = kinded LineKind.Address (addr_range_of text)
 
 -- `@GROUP`, or what this reads
-abbrev pub group_or : {A : Type 0} → (Word → A) → (Text → Result A LineKind) → Text → Result A LineKind
+abbrev pub group_or : {A : Type 0} → (Word → A) → (Text → Result A LineKind) → Text
+    → Result A LineKind
 group_or group one [] = one []
-group_or group one (b ∷ word) = if b == 64 then (group_word word >>= λ name. Ok (group name)) else one (b ∷ word)
+group_or group one (b ∷ word) =
+    if b == 64 then (group_word word >>= λ name. Ok (group name)) else one (b ∷ word)
 
 -- no group: one pattern, not empty; one range of numbers; one range of addresses
 abbrev pub one_name : Text → Result NameUnion LineKind

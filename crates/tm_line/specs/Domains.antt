@@ -21,7 +21,9 @@ paths_in words = prefix_len (begins_with_byte 47) words
 -- a domain name that takes its namespace word and the words after it that begin with `/`
 unfoldable pub domain_at : List Text → Result (DomainName × List Text) LineKind
 domain_at [] = Err LineKind.Arity
-domain_at (word ∷ words) = domain_words (word ∷ take (paths_in words) words) >>= λ name. Ok (name, drop (paths_in words) words)
+domain_at (word ∷ words) =
+    domain_words (word ∷ take (paths_in words) words)
+    >>= λ name. Ok (name, drop (paths_in words) words)
 
 -- a domain name that runs to the line's end
 unfoldable pub domain_to_end : List Text → Result DomainName LineKind

@@ -31,7 +31,8 @@ is_name (NameUnion.Group group) = is_group group
 
 -- both ends below 2^64 and in order
 abbrev pub is_range : Range → Bool
-is_range r = nat_lt r.low.value (2 ^ 64) && nat_lt r.high.value (2 ^ 64) && nat_le r.low.value r.high.value
+is_range r =
+    nat_lt r.low.value (2 ^ 64) && nat_lt r.high.value (2 ^ 64) && nat_le r.low.value r.high.value
 
 -- a group, or a range of numbers
 unfoldable pub is_number : NumberUnion → Bool

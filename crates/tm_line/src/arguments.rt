@@ -6,6 +6,7 @@ ghost use Rattle.tm_line.specs.Arguments.{one_name, one_number, one_address, gro
 
 use std::alloc::Global;
 use tm_addr::read_addr_range;
+use tm_domain::is_path;
 use tm_list::Seq;
 use tm_number::{AddrRange, Range, read_range};
 use tm_pattern::{PatternFault, read_pattern};
@@ -14,7 +15,8 @@ use tm_types::step::LineFault;
 use tm_types::unions::{AddrUnion, NameUnion, NumberUnion};
 use tm_word::{Pattern, Text, Word, spelled_word};
 
-/// Reads the name of a group, without the `@` in front: a spelled word that is not empty. Errors: `Name`.
+/// Reads the name of a group, without the `@` in front: a spelled word that is not empty. Errors:
+/// `Name`.
 #[tactic(auto, unfolding(crate::specs::Arguments::group_word))]
 pub fn group_word(alloc: Global, text: &[u8]) -> Result<Word, LineFault>
     ensures { Gives line_cause (λ word. word) result (group_word text.now) }
@@ -40,31 +42,20 @@ pub fn pattern_word(alloc: Global, text: &[u8]) -> Result<Pattern, LineFault>
     match read_pattern(alloc, text) {
         Ok(pattern) => Ok(pattern),
         Err(PatternFault::NoMemory) => Err(LineFault::NoMemory),
-        Err(PatternFault::BadElement(_)) => Err(LineFault::Kind(LineKind::Name)),
-        Err(PatternFault::LoneBrace(_)) => Err(LineFault::Kind(LineKind::Name)),
-        Err(PatternFault::EmptyPart(_)) => Err(LineFault::Kind(LineKind::Name)),
+        Err(_) => Err(LineFault::Kind(LineKind::Name)),
     }
 }
 
-/// Reads a path, which is a pattern that begins with `/`, and keeps it as it is written. Errors: `Name`.
-#[tactic(auto, unfolding(crate::specs::Arguments::path_word, tm_domain::specs::Names::is_path))]
+/// Reads a path, which is a pattern that begins with `/`, and keeps it as it is written. Errors:
+/// `Name`.
+#[tactic(auto, unfolding(crate::specs::Arguments::path_word))]
 pub fn path_word(alloc: Global, text: &[u8]) -> Result<Text, LineFault>
     ensures { Gives line_cause (λ path. path) result (path_word text.now) }
 {
-    match text {
-        [] => Err(LineFault::Kind(LineKind::Name)),
-        [first, ..] => {
-            if *first != b'/' {
-                return Err(LineFault::Kind(LineKind::Name));
-            }
-            match read_pattern(alloc, text) {
-                Ok(_) => Ok(Seq::from_bytes(alloc, text)?),
-                Err(PatternFault::NoMemory) => Err(LineFault::NoMemory),
-                Err(PatternFault::BadElement(_)) => Err(LineFault::Kind(LineKind::Name)),
-                Err(PatternFault::LoneBrace(_)) => Err(LineFault::Kind(LineKind::Name)),
-                Err(PatternFault::EmptyPart(_)) => Err(LineFault::Kind(LineKind::Name)),
-            }
-        }
+    if is_path(text) {
+        Ok(Seq::from_bytes(alloc, text)?)
+    } else {
+        Err(LineFault::Kind(LineKind::Name))
     }
 }
 
@@ -99,7 +90,8 @@ fn one_name(alloc: Global, word: &[u8]) -> Result<NameUnion, LineFault>
     }
 }
 
-/// Reads a name argument: `@GROUP`, or a pattern that isn't empty and doesn't begin with `@`. Errors: `Name`.
+/// Reads a name argument: `@GROUP`, or a pattern that isn't empty and doesn't begin with `@`.
+/// Errors: `Name`.
 #[tactic(auto, unfolding(crate::specs::Arguments::name_word))]
 pub fn name_word(alloc: Global, word: &[u8]) -> Result<NameUnion, LineFault>
     ensures { Gives line_cause (λ name. name) result (name_word word.now) }
@@ -133,7 +125,8 @@ fn one_address(word: &[u8]) -> Result<AddrUnion, LineFault>
     Ok(AddrUnion::One(addr_range_word(word)?))
 }
 
-/// Reads an address argument: `@GROUP` or a range of addresses. Errors: `Name` at a wrong group, else `Address`.
+/// Reads an address argument: `@GROUP` or a range of addresses. Errors: `Name` at a wrong group,
+/// else `Address`.
 #[tactic(auto, unfolding(crate::specs::Arguments::address_word))]
 pub fn address_word(alloc: Global, word: &[u8]) -> Result<AddrUnion, LineFault>
     ensures { Gives line_cause (λ address. address) result (address_word word.now) }
@@ -144,7 +137,8 @@ pub fn address_word(alloc: Global, word: &[u8]) -> Result<AddrUnion, LineFault>
     }
 }
 
-/// Reads a plain number from 0 to 255, as profiles and groups of lines have. Errors: `Number`. Takes no memory.
+/// Reads a plain number from 0 to 255, as profiles and groups of lines have. Errors: `Number`.
+/// Takes no memory.
 #[tactic(auto, unfolding(crate::specs::Arguments::plain_word))]
 pub fn small_number(text: &[u8]) -> Result<u8, LineFault>
     ensures { GivesNow line_cause (λ n. n) result (plain_word 256 text.now) }
@@ -166,7 +160,8 @@ pub fn plain_number(text: &[u8]) -> Result<u32, LineFault>
     }
 }
 
-/// Reads a name argument at the front, and answers the words after it. Errors: `Arity` where no word is left, `Name`.
+/// Reads a name argument at the front, and answers the words after it. Errors: `Arity` where no
+/// word is left, `Name`.
 #[tactic(auto, unfolding(crate::specs::Arguments::name_at))]
 pub fn name_at(alloc: Global, words: &[Text]) -> Result<(NameUnion, &[Text]), LineFault>
     ensures { Gives line_cause (λ x. (x.0, x.1.now)) result (name_at words.now) }
@@ -177,8 +172,8 @@ pub fn name_at(alloc: Global, words: &[Text]) -> Result<(NameUnion, &[Text]), Li
     }
 }
 
-/// Reads a number argument at the front, and answers the words after it. Errors: `Arity` where no word is left, `Name` at a wrong
-/// group, else `Number`.
+/// Reads a number argument at the front, and answers the words after it. Errors: `Arity` where no
+/// word is left, `Name` at a wrong group, else `Number`.
 #[tactic(auto, unfolding(crate::specs::Arguments::number_at))]
 pub fn number_at(alloc: Global, words: &[Text]) -> Result<(NumberUnion, &[Text]), LineFault>
     ensures { Gives line_cause (λ x. (x.0, x.1.now)) result (number_at words.now) }
@@ -189,8 +184,8 @@ pub fn number_at(alloc: Global, words: &[Text]) -> Result<(NumberUnion, &[Text])
     }
 }
 
-/// Reads an address argument at the front, and answers the words after it. Errors: `Arity` where no word is left, `Name` at a
-/// wrong group, else `Address`.
+/// Reads an address argument at the front, and answers the words after it. Errors: `Arity` where no
+/// word is left, `Name` at a wrong group, else `Address`.
 #[tactic(auto, unfolding(crate::specs::Arguments::address_at))]
 pub fn address_at(alloc: Global, words: &[Text]) -> Result<(AddrUnion, &[Text]), LineFault>
     ensures { Gives line_cause (λ x. (x.0, x.1.now)) result (address_at words.now) }

@@ -22,9 +22,7 @@ fn domain_of_words(alloc: Global, first: &[u8], rest: &[Text]) -> Result<DomainN
     match read_domain(alloc, &text) {
         Ok(name) => Ok(name),
         Err(DomainFault::NoMemory) => Err(LineFault::NoMemory),
-        Err(DomainFault::NoNamespace) => Err(LineFault::Kind(LineKind::Domain)),
-        Err(DomainFault::BadPath(_)) => Err(LineFault::Kind(LineKind::Domain)),
-        Err(DomainFault::TooLong) => Err(LineFault::Kind(LineKind::Domain)),
+        Err(_) => Err(LineFault::Kind(LineKind::Domain)),
     }
 }
 
@@ -40,8 +38,8 @@ fn paths_in(words: &[Text]) -> usize
     count
 }
 
-/// Reads a domain name at the front, which takes its namespace word and the words after it that begin with `/`, and answers the
-/// words after it. Errors: `Arity` where no word is left, `Domain`.
+/// Reads a domain name at the front, which takes its namespace word and the words after it that
+/// begin with `/`, and answers the words after it. Errors: `Arity` where no word is left, `Domain`.
 #[tactic(auto, unfolding(crate::specs::Domains::domain_at))]
 pub fn domain_at(alloc: Global, words: &[Text]) -> Result<(DomainName, &[Text]), LineFault>
     ensures { Gives line_cause (λ x. (x.0, x.1.now)) result (domain_at words.now) }
@@ -56,7 +54,8 @@ pub fn domain_at(alloc: Global, words: &[Text]) -> Result<(DomainName, &[Text]),
     }
 }
 
-/// Reads a domain name that runs to the line's end. Errors: `Arity` where no word is left, `Domain`.
+/// Reads a domain name that runs to the line's end. Errors: `Arity` where no word is left,
+/// `Domain`.
 #[tactic(auto, unfolding(crate::specs::Domains::domain_to_end))]
 pub fn domain_to_end(alloc: Global, words: &[Text]) -> Result<DomainName, LineFault>
     ensures { Gives line_cause (λ name. name) result (domain_to_end words.now) }

@@ -1,6 +1,6 @@
-//! What the readers and printers of lines share: keywords, lists of permissions, arguments of one word or of a domain name, and the namespace word in front.
-//! Stands on the word, number, address, pattern, types, rules and domain crates, whose grammars of single words it cites.
-//! Promises that each step gives what its reading function on words gives, that each printer appends the one text, and that what is printed is read again as the value printed.
+//! What the readers and printers of lines share: keywords, permissions, arguments, domain names.
+//! It stands on the crates of words, numbers, addresses, patterns and domain names.
+//! It promises what its reading functions give, one text a value, and that it is read again.
 #![tactic(auto)]
 
 mod arguments;

@@ -1,5 +1,6 @@
 //! The namespace word that a policy line may begin with, by the grammar of names of tm_domain.
-//! Promises that the namespace is that of its reading function, `<kernel>` where none is written, and that a namespace word is read whatever follows it.
+//! Promises that the namespace is that of its reading function, `<kernel>` where none is written,
+//! and that a namespace word is read whatever follows it.
 
 ghost use Rattle.std.specs.Prelude.{◌≡◌, ◌==◌, ◌∷◌, List, true, Ok};
 ghost use Rattle.tm_word.specs.Words.{Text};
@@ -32,17 +33,17 @@ fn namespace_of(alloc: Global, word: &[u8]) -> Result<Text, LineFault>
     }
     match read_domain(alloc, word) {
         Ok(name) => Ok(name),
-        Err(DomainFault::NoNamespace) => Err(LineFault::Kind(LineKind::Domain)),
-        Err(DomainFault::BadPath(_)) => Err(LineFault::Kind(LineKind::Domain)),
-        Err(DomainFault::TooLong) => Err(LineFault::Kind(LineKind::Domain)),
         Err(DomainFault::NoMemory) => Err(LineFault::NoMemory),
+        Err(_) => Err(LineFault::Kind(LineKind::Domain)),
     }
 }
 
-/// Reads the namespace word that may stand at the front of a line's words: `<kernel>` or a path in angle brackets. Answers the
-/// namespace, which is `<kernel>` where no such word stands there, and the words after it.
+/// Reads the namespace word that may stand at the front of a line's words: `<kernel>` or a path in
+/// angle brackets. Answers the namespace, which is `<kernel>` where no such word stands there, and
+/// the words after it.
 ///
-/// Errors: kind `Domain` where the first word begins with `<` and is no namespace word, or want of memory.
+/// Errors: kind `Domain` where the first word begins with `<` and is no namespace word, or want of
+/// memory.
 #[tactic(auto, unfolding(crate::specs::Namespaces::namespace_at))]
 pub fn namespace_at(alloc: Global, words: &[Text]) -> Result<(Text, &[Text]), LineFault>
     ensures { Gives line_cause (λ x. (x.0, x.1.now)) result (namespace_at words.now) }
@@ -59,10 +60,13 @@ pub fn namespace_at(alloc: Global, words: &[Text]) -> Result<(Text, &[Text]), Li
     }
 }
 
-/// A law, nothing to run: a namespace word begins with `<` and is read whatever follows it, `<kernel>` is one, and each namespace that is read is one.
+/// A law, nothing to run: a namespace word begins with `<` and is read whatever follows it,
+/// `<kernel>` is one, and each namespace that is read is one.
 pub fn namespaces()
-    ensures named { (name : Text) (words : List Text) → IsNamespace name → namespace_at (name ∷ words) ≡ Ok (name, words) }
+    ensures named { (name : Text) (words : List Text) → IsNamespace name
+        → namespace_at (name ∷ words) ≡ Ok (name, words) }
     ensures front { (name : Text) → IsNamespace name → opens name ≡ true }
     ensures kernel { IsNamespace kernel }
-    ensures found { (words : List Text) (name : Text) (rest : List Text) → namespace_at words ≡ Ok (name, rest) → IsNamespace name }
+    ensures found { (words : List Text) (name : Text) (rest : List Text)
+        → namespace_at words ≡ Ok (name, rest) → IsNamespace name }
 {}

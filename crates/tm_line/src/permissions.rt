@@ -1,14 +1,14 @@
 //! Lists of permissions.
-ghost use Rattle.std.specs.Prelude.{◌≡◌, [], ◌++◌, Bool, Ok, ⊤, MatchOption, IfOk, OnOk, OnErr};
+ghost use Rattle.std.specs.Prelude.{◌≡◌, ◌++◌, map, Bool, Ok, ⊤, MatchOption, IfOk, OnOk, OnErr};
 ghost use Rattle.tm_word.specs.Gives.{Gives};
 ghost use Rattle.tm_line.specs.Lines.{line_cause};
-ghost use Rattle.tm_line.specs.Permissions.{mask_in, starts_in, pieces_of, bits_of, finishes, perms_of, perm_on, perms_spelling};
+ghost use Rattle.tm_line.specs.Permissions.{names, masked, mask_in, starts_in, pieces_of, bits_of, finishes, perms_of, perm_on, perms_spelling};
 
 use crate::words::keyword_kind;
 use std::alloc::Global;
 use tm_list::{NoMemory, Seq};
 use tm_types::step::LineFault;
-use tm_word::{Text, begins, bytes_equal, place_of};
+use tm_word::{Text, begins_in, name_of, place_of, value_of};
 
 /// The rows of permissions: those that one line may have together.
 #[derive(Clone, Copy)]
@@ -27,188 +27,56 @@ pub enum Row {
     Sending,
 }
 
-fn mask_path(piece: &[u8]) -> Option<u16>
-    ensures { result ≡ mask_in Row.Path piece.now }
+/// The permissions of a row in order, each with its bit: the one table by which they are read and
+/// printed.
+fn masks(acl_row: Row) -> &'static [(&'static str, u16)]
+    ensures { map (λ row. (row.0.now, row.1)) result.now ≡ masked 1 (names acl_row) }
 {
-    if bytes_equal(piece, b"execute") {
-        return Some(1);
+    match acl_row {
+        Row::Path => &[
+            ("execute", 1),
+            ("read", 2),
+            ("write", 4),
+            ("append", 8),
+            ("unlink", 16),
+            ("getattr", 32),
+            ("rmdir", 64),
+            ("truncate", 128),
+            ("symlink", 256),
+            ("chroot", 512),
+            ("unmount", 1024),
+        ],
+        Row::PathNumber => &[
+            ("create", 1),
+            ("mkdir", 2),
+            ("mkfifo", 4),
+            ("mksock", 8),
+            ("ioctl", 16),
+            ("chmod", 32),
+            ("chown", 64),
+            ("chgrp", 128),
+        ],
+        Row::Device => &[("mkblock", 1), ("mkchar", 2)],
+        Row::Pair => &[("link", 1), ("rename", 2), ("pivot_root", 4)],
+        Row::Listening => &[("bind", 1), ("listen", 2), ("connect", 4)],
+        Row::Sending => &[("bind", 1), ("send", 2)],
     }
-    if bytes_equal(piece, b"read") {
-        return Some(2);
-    }
-    if bytes_equal(piece, b"write") {
-        return Some(4);
-    }
-    if bytes_equal(piece, b"append") {
-        return Some(8);
-    }
-    if bytes_equal(piece, b"unlink") {
-        return Some(16);
-    }
-    if bytes_equal(piece, b"getattr") {
-        return Some(32);
-    }
-    if bytes_equal(piece, b"rmdir") {
-        return Some(64);
-    }
-    if bytes_equal(piece, b"truncate") {
-        return Some(128);
-    }
-    if bytes_equal(piece, b"symlink") {
-        return Some(256);
-    }
-    if bytes_equal(piece, b"chroot") {
-        return Some(512);
-    }
-    if bytes_equal(piece, b"unmount") {
-        return Some(1024);
-    }
-    None
-}
-
-fn mask_path_number(piece: &[u8]) -> Option<u16>
-    ensures { result ≡ mask_in Row.PathNumber piece.now }
-{
-    if bytes_equal(piece, b"create") {
-        return Some(1);
-    }
-    if bytes_equal(piece, b"mkdir") {
-        return Some(2);
-    }
-    if bytes_equal(piece, b"mkfifo") {
-        return Some(4);
-    }
-    if bytes_equal(piece, b"mksock") {
-        return Some(8);
-    }
-    if bytes_equal(piece, b"ioctl") {
-        return Some(16);
-    }
-    if bytes_equal(piece, b"chmod") {
-        return Some(32);
-    }
-    if bytes_equal(piece, b"chown") {
-        return Some(64);
-    }
-    if bytes_equal(piece, b"chgrp") {
-        return Some(128);
-    }
-    None
-}
-
-fn mask_device(piece: &[u8]) -> Option<u16>
-    ensures { result ≡ mask_in Row.Device piece.now }
-{
-    if bytes_equal(piece, b"mkblock") {
-        return Some(1);
-    }
-    if bytes_equal(piece, b"mkchar") {
-        return Some(2);
-    }
-    None
-}
-
-fn mask_pair(piece: &[u8]) -> Option<u16>
-    ensures { result ≡ mask_in Row.Pair piece.now }
-{
-    if bytes_equal(piece, b"link") {
-        return Some(1);
-    }
-    if bytes_equal(piece, b"rename") {
-        return Some(2);
-    }
-    if bytes_equal(piece, b"pivot_root") {
-        return Some(4);
-    }
-    None
-}
-
-fn mask_listening(piece: &[u8]) -> Option<u16>
-    ensures { result ≡ mask_in Row.Listening piece.now }
-{
-    if bytes_equal(piece, b"bind") {
-        return Some(1);
-    }
-    if bytes_equal(piece, b"listen") {
-        return Some(2);
-    }
-    if bytes_equal(piece, b"connect") {
-        return Some(4);
-    }
-    None
-}
-
-fn mask_sending(piece: &[u8]) -> Option<u16>
-    ensures { result ≡ mask_in Row.Sending piece.now }
-{
-    if bytes_equal(piece, b"bind") {
-        return Some(1);
-    }
-    if bytes_equal(piece, b"send") {
-        return Some(2);
-    }
-    None
 }
 
 /// The bit of a permission of the row: bit i for the one at place i.
+#[tactic(auto, using(crate::proofs::Masks::mask_of))]
 pub fn mask_in(acl_row: Row, piece: &[u8]) -> Option<u16>
     ensures { result ≡ mask_in acl_row piece.now }
 {
-    match acl_row {
-        Row::Path => mask_path(piece),
-        Row::PathNumber => mask_path_number(piece),
-        Row::Device => mask_device(piece),
-        Row::Pair => mask_pair(piece),
-        Row::Listening => mask_listening(piece),
-        Row::Sending => mask_sending(piece),
-    }
-}
-
-fn starts_path(piece: &[u8]) -> bool
-    ensures { result ≡ starts_in Row.Path piece.now }
-{
-    begins(piece, b"execute")
-        || begins(piece, b"read")
-        || begins(piece, b"write")
-        || begins(piece, b"append")
-        || begins(piece, b"unlink")
-        || begins(piece, b"getattr")
-        || begins(piece, b"rmdir")
-        || begins(piece, b"truncate")
-        || begins(piece, b"symlink")
-        || begins(piece, b"chroot")
-        || begins(piece, b"unmount")
-}
-
-fn starts_path_number(piece: &[u8]) -> bool
-    ensures { result ≡ starts_in Row.PathNumber piece.now }
-{
-    begins(piece, b"create")
-        || begins(piece, b"mkdir")
-        || begins(piece, b"mkfifo")
-        || begins(piece, b"mksock")
-        || begins(piece, b"ioctl")
-        || begins(piece, b"chmod")
-        || begins(piece, b"chown")
-        || begins(piece, b"chgrp")
+    value_of(masks(acl_row), piece)
 }
 
 /// Whether a text is a front of a permission of the row, or one.
+#[tactic(auto, using(crate::proofs::Masks::front_of))]
 pub fn starts_in(acl_row: Row, piece: &[u8]) -> bool
     ensures { result ≡ starts_in acl_row piece.now }
 {
-    match acl_row {
-        Row::Path => starts_path(piece),
-        Row::PathNumber => starts_path_number(piece),
-        Row::Device => begins(piece, b"mkblock") || begins(piece, b"mkchar"),
-        Row::Pair => begins(piece, b"link")
-            || begins(piece, b"rename")
-            || begins(piece, b"pivot_root"),
-        Row::Listening => begins(piece, b"bind")
-            || begins(piece, b"listen")
-            || begins(piece, b"connect"),
-        Row::Sending => begins(piece, b"bind") || begins(piece, b"send"),
-    }
+    begins_in(masks(acl_row), piece)
 }
 
 /// What stands between the slashes of a word.
@@ -254,7 +122,8 @@ fn finishes(acl_row: Row, pieces: &[Text]) -> bool
 // The bits of a word that is one permission of the row, without a `/`.
 #[tactic(auto, using(crate::proofs::OnePerm::one_perm))]
 fn one_perm(acl_row: Row, word: &[u8]) -> Option<u16>
-    ensures { MatchOption result ⊤ (λ bits. (last : Bool) → perms_of acl_row word.now last ≡ Ok bits) }
+    ensures { MatchOption result ⊤
+        (λ bits. (last : Bool) → perms_of acl_row word.now last ≡ Ok bits) }
 {
     match place_of(b'/', word) {
         Some(_) => None,
@@ -265,9 +134,11 @@ fn one_perm(acl_row: Row, word: &[u8]) -> Option<u16>
     }
 }
 
-/// Reads permissions of a row, joined by `/` in any order and repeated; `last` says whether the word is the line's last one.
+/// Reads permissions of a row, joined by `/` in any order and repeated; `last` says whether the
+/// word is the line's last one.
 ///
-/// Errors: `Arity` where the last word is an unfinished list, else `Keyword` where a piece of the word is no permission of the row.
+/// Errors: `Arity` where the last word is an unfinished list, else `Keyword` where a piece of the
+/// word is no permission of the row.
 #[tactic(auto, unfolding(crate::specs::Permissions::perms_of))]
 pub fn read_perms(alloc: Global, acl_row: Row, word: &[u8], last: bool) -> Result<u16, LineFault>
     ensures { Gives line_cause (λ bits. bits) result (perms_of acl_row word.now last) }
@@ -299,141 +170,28 @@ fn push_perm(bits: u16, mask: u16, name: &[u8], text: &mut Vec<u8>) -> Result<()
     text.extend_from_slice(name)
 }
 
-fn path_text(alloc: Global, bits: u16) -> Result<Vec<u8>, NoMemory>
-    ensures { IfOk result (λ text. text.items ≡ perms_spelling Row.Path bits) }
-{
-    let mut text = Vec::new(alloc);
-    push_perm(bits, 1, b"execute", &mut text)?;
-    push_perm(bits, 2, b"read", &mut text)?;
-    push_perm(bits, 4, b"write", &mut text)?;
-    push_perm(bits, 8, b"append", &mut text)?;
-    push_perm(bits, 16, b"unlink", &mut text)?;
-    push_perm(bits, 32, b"getattr", &mut text)?;
-    push_perm(bits, 64, b"rmdir", &mut text)?;
-    push_perm(bits, 128, b"truncate", &mut text)?;
-    push_perm(bits, 256, b"symlink", &mut text)?;
-    push_perm(bits, 512, b"chroot", &mut text)?;
-    push_perm(bits, 1024, b"unmount", &mut text)?;
-    Ok(text)
-}
-
-fn path_number_text(alloc: Global, bits: u16) -> Result<Vec<u8>, NoMemory>
-    ensures { IfOk result (λ text. text.items ≡ perms_spelling Row.PathNumber bits) }
-{
-    let mut text = Vec::new(alloc);
-    push_perm(bits, 1, b"create", &mut text)?;
-    push_perm(bits, 2, b"mkdir", &mut text)?;
-    push_perm(bits, 4, b"mkfifo", &mut text)?;
-    push_perm(bits, 8, b"mksock", &mut text)?;
-    push_perm(bits, 16, b"ioctl", &mut text)?;
-    push_perm(bits, 32, b"chmod", &mut text)?;
-    push_perm(bits, 64, b"chown", &mut text)?;
-    push_perm(bits, 128, b"chgrp", &mut text)?;
-    Ok(text)
-}
-
-fn device_text(alloc: Global, bits: u16) -> Result<Vec<u8>, NoMemory>
-    ensures { IfOk result (λ text. text.items ≡ perms_spelling Row.Device bits) }
-{
-    let mut text = Vec::new(alloc);
-    push_perm(bits, 1, b"mkblock", &mut text)?;
-    push_perm(bits, 2, b"mkchar", &mut text)?;
-    Ok(text)
-}
-
-fn pair_text(alloc: Global, bits: u16) -> Result<Vec<u8>, NoMemory>
-    ensures { IfOk result (λ text. text.items ≡ perms_spelling Row.Pair bits) }
-{
-    let mut text = Vec::new(alloc);
-    push_perm(bits, 1, b"link", &mut text)?;
-    push_perm(bits, 2, b"rename", &mut text)?;
-    push_perm(bits, 4, b"pivot_root", &mut text)?;
-    Ok(text)
-}
-
-fn listening_text(alloc: Global, bits: u16) -> Result<Vec<u8>, NoMemory>
-    ensures { IfOk result (λ text. text.items ≡ perms_spelling Row.Listening bits) }
-{
-    let mut text = Vec::new(alloc);
-    push_perm(bits, 1, b"bind", &mut text)?;
-    push_perm(bits, 2, b"listen", &mut text)?;
-    push_perm(bits, 4, b"connect", &mut text)?;
-    Ok(text)
-}
-
-fn sending_text(alloc: Global, bits: u16) -> Result<Vec<u8>, NoMemory>
-    ensures { IfOk result (λ text. text.items ≡ perms_spelling Row.Sending bits) }
-{
-    let mut text = Vec::new(alloc);
-    push_perm(bits, 1, b"bind", &mut text)?;
-    push_perm(bits, 2, b"send", &mut text)?;
-    Ok(text)
-}
-
+#[tactic(auto, using(crate::proofs::Masks::text_of))]
 fn perms_text(alloc: Global, acl_row: Row, bits: u16) -> Result<Vec<u8>, NoMemory>
     ensures { IfOk result (λ text. text.items ≡ perms_spelling acl_row bits) }
 {
-    match acl_row {
-        Row::Path => path_text(alloc, bits),
-        Row::PathNumber => path_number_text(alloc, bits),
-        Row::Device => device_text(alloc, bits),
-        Row::Pair => pair_text(alloc, bits),
-        Row::Listening => listening_text(alloc, bits),
-        Row::Sending => sending_text(alloc, bits),
+    let mut text = Vec::new(alloc);
+    let table = masks(acl_row);
+    for (name, mask) in table {
+        push_perm(bits, *mask, name.as_bytes(), &mut text)?;
     }
+    Ok(text)
 }
 
-// The name of the one permission of a path that is set; None where none or several are.
-#[tactic(auto, unfolding(crate::specs::Permissions::perm_on))]
-fn only_path(bits: u16) -> Option<&'static [u8]>
-    ensures { MatchOption result ⊤ (λ name. perms_spelling Row.Path bits ≡ name.now) }
-{
-    match bits {
-        1 => Some(b"execute"),
-        2 => Some(b"read"),
-        4 => Some(b"write"),
-        8 => Some(b"append"),
-        16 => Some(b"unlink"),
-        32 => Some(b"getattr"),
-        64 => Some(b"rmdir"),
-        128 => Some(b"truncate"),
-        256 => Some(b"symlink"),
-        512 => Some(b"chroot"),
-        1024 => Some(b"unmount"),
-        _ => None,
-    }
-}
-
-// The name of the one permission of a path and a number that is set; None where none or several are.
-#[tactic(auto, unfolding(crate::specs::Permissions::perm_on))]
-fn only_path_number(bits: u16) -> Option<&'static [u8]>
-    ensures { MatchOption result ⊤ (λ name. perms_spelling Row.PathNumber bits ≡ name.now) }
-{
-    match bits {
-        1 => Some(b"create"),
-        2 => Some(b"mkdir"),
-        4 => Some(b"mkfifo"),
-        8 => Some(b"mksock"),
-        16 => Some(b"ioctl"),
-        32 => Some(b"chmod"),
-        64 => Some(b"chown"),
-        128 => Some(b"chgrp"),
-        _ => None,
-    }
-}
-
-// The name of the one permission of its row that is set, for the rows of paths; None where none or several are.
-fn only_name(acl_row: Row, bits: u16) -> Option<&'static [u8]>
+// The name of the one permission of the row that is set; None where none or several are.
+#[tactic(auto, using(crate::proofs::Masks::only_one))]
+fn only_name(acl_row: Row, bits: u16) -> Option<&'static str>
     ensures { MatchOption result ⊤ (λ name. perms_spelling acl_row bits ≡ name.now) }
 {
-    match acl_row {
-        Row::Path => only_path(bits),
-        Row::PathNumber => only_path_number(bits),
-        Row::Device | Row::Pair | Row::Listening | Row::Sending => None,
-    }
+    name_of(masks(acl_row), bits)
 }
 
-/// Appends the permissions of a row in its order, joined by `/`. After want of memory `out` is as before.
+/// Appends the permissions of a row in its order, joined by `/`. After want of memory `out` is as
+/// before.
 pub fn print_perms(
     alloc: Global,
     acl_row: Row,
@@ -444,7 +202,7 @@ pub fn print_perms(
     ensures err { OnErr result (out.new.items ≡ out.old.items) }
 {
     if let Some(name) = only_name(acl_row, bits) {
-        return out.extend_from_slice(name);
+        return out.extend_from_slice(name.as_bytes());
     }
     let text = perms_text(alloc, acl_row, bits)?;
     out.extend_from_slice(&text)

@@ -44,8 +44,8 @@ pub fn print_name(alloc: Global, name: &NameUnion, out: &mut Vec<u8>) -> Result<
     }
 }
 
-/// Appends a number argument: `@GROUP` or the range, numbers in the base that they were written in. After want of memory `out` is as
-/// before.
+/// Appends a number argument: `@GROUP` or the range, numbers in the base that they were written in.
+/// After want of memory `out` is as before.
 #[tactic(auto, unfolding(crate::specs::Printing::number_spelling))]
 pub fn print_number(alloc: Global, number: &NumberUnion, out: &mut Vec<u8>) -> Result<(), NoMemory>
     ensures ok { OnOk result (out.new.items ≡ out.old.items ++ number_spelling number.now) }

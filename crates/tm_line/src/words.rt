@@ -10,7 +10,8 @@ use tm_types::entry::LineKind;
 use tm_types::step::LineFault;
 use tm_word::{Text, begins, bytes_equal};
 
-/// What a wrong word is where a keyword must stand: `Arity` where it is an unfinished one, else `Keyword`.
+/// What a wrong word is where a keyword must stand: `Arity` where it is an unfinished one, else
+/// `Keyword`.
 pub fn keyword_kind(unfinished: bool) -> LineKind
     ensures { result ≡ keyword_kind unfinished }
 {
@@ -21,7 +22,8 @@ pub fn keyword_kind(unfinished: bool) -> LineKind
     }
 }
 
-/// The value of a line after which no word may be left. Errors: `Arity` at a word that is left. Takes no memory.
+/// The value of a line after which no word may be left. Errors: `Arity` at a word that is left.
+/// Takes no memory.
 pub fn ended<T: Drop>(value: T, words: &[Text]) -> Result<T, LineFault>
     ensures { GivesNow line_cause (λ x. x) result (ended value words.now) }
 {
@@ -33,7 +35,8 @@ pub fn ended<T: Drop>(value: T, words: &[Text]) -> Result<T, LineFault>
 
 /// Takes a keyword, and answers the words after it.
 ///
-/// Errors: `Arity` where no word is left or the last one is an unfinished keyword, `Keyword` at any other word.
+/// Errors: `Arity` where no word is left or the last one is an unfinished keyword, `Keyword` at any
+/// other word.
 pub fn keyword_at<'a>(keyword: &[u8], words: &'a [Text]) -> Result<&'a [Text], LineFault>
     ensures { GivesNow line_cause (λ rest. rest.now) result (keyword_at keyword.now words.now) }
 {
@@ -50,7 +53,8 @@ pub fn keyword_at<'a>(keyword: &[u8], words: &'a [Text]) -> Result<&'a [Text], L
     }
 }
 
-/// Takes a word that may stand at the front, and answers whether it stood there, and the words after it.
+/// Takes a word that may stand at the front, and answers whether it stood there, and the words
+/// after it.
 pub fn option_at<'a>(keyword: &[u8], words: &'a [Text]) -> (bool, &'a [Text])
     ensures { (result.0, result.1.now) ≡ option_at keyword.now words.now }
 {

@@ -3,16 +3,14 @@ use Rattle.std.specs.Prelude.{ℕ, ◌+◌, ◌-◌, ◌^◌, ◌==◌, ◌||◌
 use Rattle.tm_word.specs.Words.{Text}
 use Rattle.tm_types.specs.declared.request.Request.{Request}
 use Rattle.tm_trace.specs.Printing.{request_text, attributes_text}
-use Rattle.tm_record.specs.declared.faults.Reason.{Reason}
-use Rattle.tm_record.specs.declared.gather.Lines.{Lines}
-use Rattle.tm_record.specs.declared.record.Record.{Record}
-use Rattle.tm_record.specs.declared.gather.Gatherer.{Gatherer}
-use Rattle.tm_record.specs.Gathering.{no_lines, gathered}
-use Rattle.tm_record.specs.Records.{record_of}
+use Rattle.tm_log.specs.declared.faults.Reason.{Reason}
+use Rattle.tm_log.specs.declared.gather.Lines.{Lines}
+use Rattle.tm_log.specs.declared.record.Record.{Record}
+use Rattle.tm_log.specs.declared.gather.Gatherer.{Gatherer}
+use Rattle.tm_log.specs.Gathering.{no_lines, gathered}
+use Rattle.tm_log.specs.Records.{record_of}
 use Rattle.tm_log.specs.declared.log.Log.{Log}
 use Rattle.tm_log.specs.declared.log.Source.{Source}
-use Rattle.tm_log.specs.declared.log.Used.{Used}
-use Rattle.tm_log.specs.declared.notes.LeftOut.{LeftOut}
 
 -- no record yet
 abbrev pub no_log : Log
@@ -40,7 +38,11 @@ with_used log source one = record log {
 
 -- and one that is left out
 abbrev pub with_left : Log → Source → Reason → Log
-with_left log source reason = record log { left_out = log.left_out ++ record { source = source; reason = reason } ∷ []; records = source.number }
+with_left log source reason =
+    record log {
+      left_out = log.left_out ++ record { source = source; reason = reason } ∷ [];
+      records = source.number;
+    }
 
 -- a record is used, or left out for the first reason that fits
 abbrev pub taken_as : Log → Source → Result Record Reason → Log
@@ -49,7 +51,9 @@ taken_as log source (Err reason) = with_left log source reason
 
 -- once there are more than a trace holds no further one is looked at
 unfoldable pub taken : Log → Lines → Log
-taken log lines = if is_full log then log else taken_as log (record { number = lines.number; line = lines.line }) (record_of lines.texts)
+taken log lines =
+    if is_full log then log
+    else taken_as log (record { number = lines.number; line = lines.line }) (record_of lines.texts)
 
 abbrev pub taken_if : Log → Option Lines → Log
 taken_if log None = log
@@ -77,7 +81,12 @@ ends_line b = b == 10 || b == 0
 
 -- the line ends here
 abbrev pub with_end : Reading → Reading
-with_end s = record { gatherer = (gathered s.gatherer s.line).0; line = []; log = taken_if s.log (gathered s.gatherer s.line).1 }
+with_end s =
+    record {
+      gatherer = (gathered s.gatherer s.line).0;
+      line = [];
+      log = taken_if s.log (gathered s.gatherer s.line).1;
+    }
 
 abbrev pub with_byte : Reading → ℕ → Reading
 with_byte s b = record s { line = s.line ++ b ∷ [] }

@@ -1,10 +1,23 @@
-//! An audit log as its records: those that can be used, and those that are left out.
-//! Stands on tm_record, which reads a record, and on tm_trace, whose printed form tells how long a request is.
-//! Promises that the records of a log are the defined ones, in whatever parts its bytes come.
+//! Audit logs: which lines make a record, what it tells, and which records of a log can be used.
+//! It stands on `tm_line`, `tm_cond` and `tm_trace`, whose readers of words and requests it takes.
+//! It promises the grammar, the first reason why a record is left out, and one log from any parts.
 #![tactic(auto)]
 
+mod blocks;
+mod exec;
+mod faults;
+mod gather;
+mod header;
 mod log;
 mod notes;
+mod record;
+mod steps;
 
+pub use blocks::{FileNumbers, Found};
+pub use exec::Exec;
+pub use faults::{Reason, RecordFault};
+pub use gather::{Gatherer, Lines};
+pub use header::{Header, read_header};
 pub use log::{Log, LogReader, Source, Used, parts, read_log};
 pub use notes::LeftOut;
+pub use record::{Record, read_record};

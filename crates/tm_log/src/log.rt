@@ -1,12 +1,13 @@
-//! Reading a log from bytes that come in parts: its records that can be used, and those that are left out.
+//! Reading a log from bytes that come in parts: its records that can be used, and those that are
+//! left out.
 ghost use Rattle.std.specs.Prelude.{◌≡◌, ◌++◌, ℕ, List, length, IfOk};
 ghost use Rattle.tm_log.specs.Logs.{no_log, size_of, is_full, with_used, with_left, taken, taken_if, Reading, nothing_read, ends_line, with_end, with_byte, fed, finished, log_of};
 
 use crate::notes::LeftOut;
+use crate::{Gatherer, Lines, Reason, Record, RecordFault, read_record};
 use std::alloc::{AllocError, Global};
 use std::marker::Model;
 use tm_list::{NoMemory, Seq};
-use tm_record::{Gatherer, Lines, Reason, Record, RecordFault, read_record};
 use tm_trace::{print_attributes, print_request};
 use tm_types::request::Request;
 
@@ -22,7 +23,8 @@ pub struct Source {
     pub line: u64,
 }
 
-/// A record that can be used, where it stands, and the length of its request and attributes in the trace, in bytes.
+/// A record that can be used, where it stands, and the length of its request and attributes in the
+/// trace, in bytes.
 #[derive(Drop)]
 pub struct Used {
     pub source: Source,
@@ -30,8 +32,8 @@ pub struct Used {
     pub size: usize,
 }
 
-/// The records of a log in order, those that can be used and those that are left out, the number of the last one, and the sum of the sizes
-/// of those that can be used.
+/// The records of a log in order, those that can be used and those that are left out, the number of
+/// the last one, and the sum of the sizes of those that can be used.
 #[derive(Drop)]
 pub struct Log {
     pub used: Seq<Used>,
@@ -40,7 +42,8 @@ pub struct Log {
     pub size: usize,
 }
 
-/// A log that is read from its bytes: the lines that were read so far, and the line that isn't ended yet.
+/// A log that is read from its bytes: the lines that were read so far, and the line that isn't
+/// ended yet.
 #[derive(Drop)]
 pub struct LogReader {
     gatherer: Gatherer,
@@ -241,5 +244,6 @@ pub fn read_log(alloc: Global, bytes: &[u8]) -> Result<Log, NoMemory>
 
 /// Logs, as a law over all bytes: what is read in parts is what is read of the whole.
 pub fn parts()
-    ensures { (s : Reading) (first later : List ℕ) → fed (fed s first) later ≡ fed s (first ++ later) }
+    ensures { (s : Reading) (first later : List ℕ)
+        → fed (fed s first) later ≡ fed s (first ++ later) }
 {}

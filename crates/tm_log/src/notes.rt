@@ -1,6 +1,6 @@
 //! What is told of records that are left out.
+use crate::Reason;
 use crate::log::Source;
-use tm_record::Reason;
 
 /// A record that is left out, and why.
 #[derive(Clone, Copy)]

@@ -12,17 +12,18 @@ ghost use Rattle.tm_machine.specs.Current.{Fits, Makes};
 use std::alloc::Global;
 use std::collections::BTreeSet;
 use std::marker::Model;
+use tm_change_domains::is_manager;
 use tm_list::{Copied, NoMemory, Seq};
-use tm_policy::{Rep, is_manager};
 use tm_query::Queries;
+use tm_rep::Rep;
 use tm_types::entry::Entry;
 use tm_types::policy::{Cursor, Policy};
 use tm_types::step::{EditReply, Editor, FileKind, Reply, Start, Step};
 use tm_types::unions::DomainName;
 use tm_word::Text;
 
-/// An opening and the state that steps have led to: a representation of the policy, the queries, each editor's cursor, and the trees
-/// that have ended. Contracts see the opening and the state.
+/// An opening and the state that steps have led to: a representation of the policy, the queries,
+/// each editor's cursor, and the trees that have ended. Contracts see the opening and the state.
 #[derive(Drop)]
 pub(crate) struct Current<R: Rep> {
     start: Start,
@@ -39,9 +40,11 @@ impl<R: Rep> Model for Current<R> {
 
     ghost Value = { now.Current };
 
-    ghost view = { λ c. now.current_of c.start (R.policy c.rep) c.queries c.cursors.items c.ended.keys };
+    ghost view = { λ c. now.current_of c.start
+        (R.policy c.rep) c.queries c.cursors.items c.ended.keys };
 
-    ghost invariant = { λ c. IsFew (R.policy c.rep) × (length c.cursors.items ≡ length c.start.editors) };
+    ghost invariant = { λ c. IsFew (R.policy c.rep)
+        × (length c.cursors.items ≡ length c.start.editors) };
 }
 
 // Whether an editor may edit the policy.
@@ -60,7 +63,8 @@ fn may_edit(policy: &Policy, editor: &Editor) -> bool
 // The name of a domain that is there with its profile, copied.
 fn name_of(alloc: Global, policy: &Policy, domain: u32) -> Result<DomainName, NoMemory>
     requires { IsSome (in_domain policy.now domain (λ domain profile. domain.name)) }
-    ensures { IfOk result (λ name. in_domain policy.now domain (λ domain profile. domain.name) ≡ Some name) }
+    ensures { IfOk result
+        (λ name. in_domain policy.now domain (λ domain profile. domain.name) ≡ Some name) }
 {
     match policy.domains.get(domain as usize) {
         Some(domain) => domain.name.copy(alloc),
@@ -182,7 +186,8 @@ impl<R: Rep> Current<R> {
     // Learns a line in a domain.
     fn learn(&mut self, alloc: Global, domain: u32, entry: &Entry) -> Result<Reply, NoMemory>
         requires { Fits self.old.state (Step.Learn domain entry.now) }
-        ensures done { IfOk result (Makes self.old.state (Step.Learn domain entry.now) self.new.state) }
+        ensures done { IfOk result
+            (Makes self.old.state (Step.Learn domain entry.now) self.new.state) }
         ensures start { self.new.start ≡ self.old.start }
         ensures kept { OnErr result (self.new ≡ self.old) }
     {
@@ -193,7 +198,8 @@ impl<R: Rep> Current<R> {
     // Makes a domain out of a domain.
     fn make(&mut self, alloc: Global, domain: u32, name: &DomainName) -> Result<Reply, NoMemory>
         requires { Fits self.old.state (Step.Make domain name.now) }
-        ensures done { IfOk result (Makes self.old.state (Step.Make domain name.now) self.new.state) }
+        ensures done { IfOk result
+            (Makes self.old.state (Step.Make domain name.now) self.new.state) }
         ensures start { self.new.start ≡ self.old.start }
         ensures kept { OnErr result (self.new ≡ self.old) }
     {
@@ -221,7 +227,8 @@ impl<R: Rep> Current<R> {
         line: &Text,
     ) -> Result<Reply, NoMemory>
         requires { Fits self.old.state (Step.Ask domain retry line.now) }
-        ensures done { IfOk result (Makes self.old.state (Step.Ask domain retry line.now) self.new.state) }
+        ensures done { IfOk result
+            (Makes self.old.state (Step.Ask domain retry line.now) self.new.state) }
         ensures start { self.new.start ≡ self.old.start }
         ensures kept { OnErr result (self.new ≡ self.old) }
     {
@@ -267,7 +274,8 @@ impl<R: Rep> Current<R> {
         line: &Text,
     ) -> Result<Reply, NoMemory>
         requires { Fits self.old.state (Step.Edit number file line.now) }
-        ensures done { IfOk result (Makes self.old.state (Step.Edit number file line.now) self.new.state) }
+        ensures done { IfOk result
+            (Makes self.old.state (Step.Edit number file line.now) self.new.state) }
         ensures start { self.new.start ≡ self.old.start }
         ensures kept { OnErr result (self.new ≡ self.old) }
     {

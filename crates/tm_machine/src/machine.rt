@@ -1,5 +1,5 @@
 //! The machine: a state on its way from an opening, with the steps that were made.
-ghost use Rattle.std.specs.Prelude.{◌≡◌, [], ◌∷◌, ◌++◌, ◌||◌, ◌==◌, IsSome, IfOk, OnErr, length, map, if◌then◌else◌};
+ghost use Rattle.std.specs.Prelude.{◌≡◌, ◌<◌, ◌+◌, [], ◌∷◌, ◌++◌, ◌||◌, ◌==◌, IsSome, IfOk, OnOk, OnErr, length, map, vec_len, vec_capacity, if◌then◌else◌};
 ghost use Rattle.std.specs.List.{list_any};
 ghost use Rattle.std.specs.Option.{option_copied};
 ghost use Rattle.tm_types.specs.declared.step.Made.{Made};
@@ -11,18 +11,20 @@ ghost use Rattle.tm_legal.specs.Steps.{opening, apply, after};
 ghost use Rattle.tm_legal.specs.Run.{reply_at};
 ghost use Rattle.tm_legal.specs.Legal.{Replies, is_attach, is_answer};
 ghost use Rattle.tm_legal.specs.Play.{all_ended};
+ghost use Rattle.tm_machine.specs.Current.{Fits, Makes};
 ghost use Rattle.tm_machine.specs.Machine.{course_from, history_of, steps_made, made_at, has_come, answers_given};
 
 use crate::current::Current;
 use std::alloc::Global;
 use std::marker::Model;
 use tm_list::{Copied, NoMemory, Seq};
-use tm_policy::Rep;
+use tm_rep::Rep;
 use tm_types::policy::Policy;
 use tm_types::step::{Answered, Editor, Made, Query, Reply, Start, Step};
 
-/// A machine: an opening, and the steps that were made since, each with its maker and its reply. The step of number n leads from
-/// version n - 1 to version n. Contracts see the opening, the state at the newest version, and the steps.
+/// A machine: an opening, and the steps that were made since, each with its maker and its reply.
+/// The step of number n leads from version n - 1 to version n. Contracts see the opening, the state
+/// at the newest version, and the steps.
 #[derive(Drop)]
 pub struct Machine<R: Rep> {
     current: Current<R>,
@@ -36,9 +38,15 @@ impl<R: Rep> Model for Machine<R> {
 
     ghost Value = { Course };
 
-    ghost view = { λ m. record { start = m.current.start; state = m.current.state; made = m.made.items } };
+    ghost view = { λ m. record {
+      start = m.current.start;
+      state = m.current.state;
+      made = m.made.items;
+    } };
 
-    ghost invariant = { λ m. IsKept (record { start = m.current.start; state = m.current.state; made = m.made.items }) m.came m.answers };
+    ghost invariant = { λ m. IsKept
+        (record { start = m.current.start; state = m.current.state; made = m.made.items })
+        m.came m.answers };
 }
 
 // What the number of a step, from 1, names among the steps made.
@@ -73,7 +81,8 @@ fn count_answer(step: &Step) -> u64
 
 // The steps with their replies, moved out of these, whose makers are dropped.
 fn without_makers(alloc: Global, made: Vec<(Made, Reply)>) -> Result<Vec<(Step, Reply)>, NoMemory>
-    ensures { IfOk result (λ steps. steps.items ≡ map (λ (pair : Made × Reply). (pair.0.step, pair.1)) made.items) }
+    ensures { IfOk result
+        (λ steps. steps.items ≡ map (λ (pair : Made × Reply). (pair.0.step, pair.1)) made.items) }
 {
     let mut steps = Vec::with_capacity(alloc, made.len())?;
     for (noted, reply) in made {
@@ -83,8 +92,55 @@ fn without_makers(alloc: Global, made: Vec<(Made, Reply)>) -> Result<Vec<(Step, 
     Ok(steps)
 }
 
+// Makes a step where one more can be noted, and gives its reply.
+fn apply_with_room<R: Rep>(
+    alloc: Global,
+    current: &mut Current<R>,
+    noted: &mut Vec<(Made, Reply)>,
+    step: &Step,
+) -> Result<Reply, NoMemory>
+    requires fits { Fits current.old.state step.now }
+    ensures done { IfOk result (Makes current.old.state step.now current.new.state) }
+    ensures start { current.new.start ≡ current.old.start }
+    ensures items { noted.new.items ≡ noted.old.items }
+    ensures len { vec_len noted.new ≡ vec_len noted.old }
+    ensures room { OnOk result (vec_len noted.new < vec_capacity noted.new) }
+    ensures kept { OnErr result (current.new ≡ current.old) }
+{
+    noted.reserve(1)?;
+    current.apply(alloc, step)
+}
+
+// Makes a step, and notes it with its maker and its reply, which it gives.
+fn note<R: Rep>(
+    alloc: Global,
+    current: &mut Current<R>,
+    noted: &mut Vec<(Made, Reply)>,
+    made: Made,
+) -> Result<Reply, NoMemory>
+    requires fits { Fits current.old.state made.step }
+    ensures done { IfOk result (Makes current.old.state made.step current.new.state) }
+    ensures noted { IfOk result (λ reply. noted.new.items ≡ noted.old.items ++ (made, reply) ∷ []) }
+    ensures len { OnOk result (vec_len noted.new ≡ vec_len noted.old + 1) }
+    ensures start { current.new.start ≡ current.old.start }
+    ensures kept { OnErr result
+        ((current.new ≡ current.old) × (noted.new.items ≡ noted.old.items)) }
+{
+    match apply_with_room(alloc, current, noted, &made.step) {
+        Ok(reply) => {
+            noted.push((made, reply))?;
+            Ok(reply)
+        }
+        Err(fault) => {
+            drop(made);
+            Err(fault)
+        }
+    }
+}
+
 impl<R: Rep> Machine<R> {
-    /// A machine at version 0: its opening is the representation's policy, with these editors, so many trees, and a supervisor or none.
+    /// A machine at version 0: its opening is the representation's policy, with these editors, so
+    /// many trees, and a supervisor or none.
     ///
     /// Errors: want of memory.
     pub fn start(
@@ -96,7 +152,12 @@ impl<R: Rep> Machine<R> {
     ) -> Result<Machine<R>, NoMemory>
         requires { IsFew (R.policy rep) }
         ensures { IfOk result (λ machine. machine ≡
-            course_from (record { policy = R.policy rep; editors = editors.items; trees = trees; desk = desk })) }
+            course_from (record {
+              policy = R.policy rep;
+              editors = editors.items;
+              trees = trees;
+              desk = desk;
+            })) }
     {
         let current = Current::open(alloc, rep, editors, trees, desk)?;
         let made = Vec::new(alloc);
@@ -115,7 +176,8 @@ impl<R: Rep> Machine<R> {
         self.current.rep().policy()
     }
 
-    /// Lends the representation of the policy at the newest version, to be searched. Takes no memory.
+    /// Lends the representation of the policy at the newest version, to be searched. Takes no
+    /// memory.
     pub fn rep(&self) -> &R
         ensures policy { R.policy result.now ≡ self.now.state.policy }
         ensures few { IsFew (R.policy result.now) }
@@ -137,7 +199,8 @@ impl<R: Rep> Machine<R> {
         self.made.len() as u64
     }
 
-    /// The step of that number with its maker, the first has number 1; None exactly outside the steps. Takes no memory.
+    /// The step of that number with its maker, the first has number 1; None exactly outside the
+    /// steps. Takes no memory.
     pub fn step_at(&self, number: u64) -> Option<&Made>
         ensures { option_copied result ≡ made_at self.now number }
     {
@@ -147,7 +210,8 @@ impl<R: Rep> Machine<R> {
         }
     }
 
-    /// The reply of the step of that number, the first has number 1; None exactly outside the steps. Takes no memory.
+    /// The reply of the step of that number, the first has number 1; None exactly outside the
+    /// steps. Takes no memory.
     pub fn reply(&self, number: u64) -> Option<Reply>
         ensures { result ≡ reply_at (history_of self.now) number }
     {
@@ -157,7 +221,8 @@ impl<R: Rep> Machine<R> {
         }
     }
 
-    /// What became of the query of this serial; None where it is held, or the serial was never drawn. Takes no memory.
+    /// What became of the query of this serial; None where it is held, or the serial was never
+    /// drawn. Takes no memory.
     pub fn answer_of(&self, serial: u64) -> Option<Answered>
         ensures { result ≡ answer_of self.now.state.queries serial }
     {
@@ -206,10 +271,12 @@ impl<R: Rep> Machine<R> {
         self.current.is_over()
     }
 
-    /// The law of every machine: its state is that after its steps from its opening, each reply is the one that its step has at its
-    /// place, and the editors and the number of trees stay the opening's.
+    /// The law of every machine: its state is that after its steps from its opening, each reply is
+    /// the one that its step has at its place, and the editors and the number of trees stay the
+    /// opening's.
     pub fn versions(&self)
-        ensures after { self.now.state ≡ after tomoyo_grammar (opening self.now.start) (steps_made self.now) }
+        ensures after { self.now.state
+            ≡ after tomoyo_grammar (opening self.now.start) (steps_made self.now) }
         ensures replies { Replies tomoyo_grammar (opening self.now.start) (history_of self.now) }
         ensures editors { self.now.state.editors ≡ self.now.start.editors }
         ensures trees { self.now.state.trees ≡ self.now.start.trees }
@@ -217,8 +284,9 @@ impl<R: Rep> Machine<R> {
         self.current.constants();
     }
 
-    /// Makes the step of this maker, and gives its reply: a Learn, a Make, a Fail, an Ask, an Answer, an Attach, a Detach, an Edit or an
-    /// End. The step fits, that is, it has a reply. A refused step is a step too: it leaves what its reply says.
+    /// Makes the step of this maker, and gives its reply: a Learn, a Make, a Fail, an Ask, an
+    /// Answer, an Attach, a Detach, an Edit or an End. The step fits, that is, it has a reply. A
+    /// refused step is a step too: it leaves what its reply says.
     ///
     /// Errors: want of memory; the machine is then as before.
     pub fn settle(&mut self, alloc: Global, made: Made) -> Result<Reply, NoMemory>
@@ -229,11 +297,9 @@ impl<R: Rep> Machine<R> {
         ensures start { self.new.start ≡ self.old.start }
         ensures kept { OnErr result (self.new ≡ self.old) }
     {
-        self.made.reserve(1)?;
-        let reply = self.current.apply(alloc, &made.step)?;
         let came = comes(self.came, &made.step);
         let answers = count_answer(&made.step);
-        self.made.push((made, reply))?;
+        let reply = note(alloc, &mut self.current, &mut self.made, made)?;
         self.came = came;
         self.answers += answers;
         Ok(reply)
@@ -252,8 +318,8 @@ impl<R: Rep> Machine<R> {
         Ok(steps)
     }
 
-    /// Gives up the machine: its steps with their replies, none of which is copied, its opening, and the policy at the newest version,
-    /// whose representation is dropped.
+    /// Gives up the machine: its steps with their replies, none of which is copied, its opening,
+    /// and the policy at the newest version, whose representation is dropped.
     ///
     /// Errors: want of memory.
     pub fn into_history(

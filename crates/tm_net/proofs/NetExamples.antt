@@ -1,4 +1,5 @@
--- Worked examples of network, environment and task lines: each word right, wrong, missing and unfinished.
+-- Worked examples of network, environment and task lines: each word right, wrong, missing and
+-- unfinished.
 use Rattle.std.proofs.Common.{◌≡◌, [], ◌∷◌, Ok, Err, refl}
 use Rattle.std.specs.Prelude.{codes}
 use Rattle.tm_number.specs.Numbers.{range_of, value_of, number_of, plain_of}

@@ -1,4 +1,5 @@
--- The lines of network, environment and task: what is written is read again, and what is read can be written.
+-- The lines of network, environment and task: what is written is read again, and what is read can
+-- be written.
 use Rattle.std.proofs.Common.{◌≡◌, ℕ, ◌==◌, Bool, true, false, cond, ◌&&◌, ◌||◌, List, [], ◌∷◌, ◌++◌, Ok, Err, refl, sym, subst}
 use Rattle.std.specs.Prelude.{codes}
 use Rattle.std.proofs.lemmas.Bool.{eqb-true}
@@ -117,7 +118,7 @@ list_read row [] x e = absurd cc
 list_read row (word ∷ words) x e =
     let b = bind_ok (perms_of row word (is_last words)) (λ bits. Ok (bits, words)) x e in
     let made : ℕ × Line = (b.0, words) in
-    subst (λ (y : ℕ × Line). is_set row y.0 ≡ true) (ok_is made x b.2) (perms_read row word (is_last words) b.0 b.1)
+    subst (λ (y : ℕ × Line). is_set row y.0 ≡ true) {x = made} (ok_is made x b.2) (perms_read row word (is_last words) b.0 b.1)
 
 inet_right : (words : Line) (x : Whole) → inet_line words ≡ Ok x → Right x
 unfolding inet_line is_net
@@ -127,7 +128,7 @@ inet_right words x e =
     let c = bind_ok (address_at b.0.1) (λ address. number_at address.1 >>= λ port. Ok (Args.Inet a.0.0 address.0 port.0, perms b.0.0, port.1)) x b.2 in
     let d = bind_ok (number_at c.0.1) (λ port. Ok (Args.Inet a.0.0 c.0.0 port.0, perms b.0.0, port.1)) x c.2 in
     let made : Whole = (Args.Inet a.0.0 c.0.0 d.0.0, perms b.0.0, d.0.1) in
-    subst Right (ok_is made x d.2)
+    subst Right {x = made} (ok_is made x d.2)
     (all (is_set (inet_permissions a.0.0) b.0.0 && is_address c.0.0) (is_number d.0.0)
     (all (is_set (inet_permissions a.0.0) b.0.0) (is_address c.0.0) (list_read (inet_permissions a.0.0) a.0.1 b.0 b.1) (address_at_read b.0.1 c.0 c.1)) (number_at_read c.0.1 d.0 d.1))
 
@@ -138,7 +139,7 @@ unix_right words x e =
     let b = bind_ok (perms_at (unix_permissions a.0.0) a.0.1) (λ bits. name_at bits.1 >>= λ name. Ok (Args.Unix a.0.0 name.0, perms bits.0, name.1)) x a.2 in
     let c = bind_ok (name_at b.0.1) (λ name. Ok (Args.Unix a.0.0 name.0, perms b.0.0, name.1)) x b.2 in
     let made : Whole = (Args.Unix a.0.0 c.0.0, perms b.0.0, c.0.1) in
-    subst Right (ok_is made x c.2) (all (is_set (unix_permissions a.0.0) b.0.0) (is_name c.0.0) (list_read (unix_permissions a.0.0) a.0.1 b.0 b.1) (name_at_read b.0.1 c.0 c.1))
+    subst Right {x = made} (ok_is made x c.2) (all (is_set (unix_permissions a.0.0) b.0.0) (is_name c.0.0) (list_read (unix_permissions a.0.0) a.0.1 b.0 b.1) (name_at_read b.0.1 c.0 c.1))
 
 network_right : (words : Line) (x : Whole) → network_line words ≡ Ok x → Right x
 unfolding network_line
@@ -168,7 +169,7 @@ env_read [] x e = absurd cc
 env_read (word ∷ words) x e =
     let b = bind_ok (env_word word) (λ p. Ok (p, words)) x e in
     let made : Pattern × Line = (b.0, words) in
-    subst (λ (y : Pattern × Line). Env y.0) (ok_is made x b.2) (env_found word b.0 b.1)
+    subst (λ (y : Pattern × Line). Env y.0) {x = made} (ok_is made x b.2) (env_found word b.0 b.1)
 
 misc_right : (words : Line) (x : Whole) → misc_line words ≡ Ok x → Right x
 unfolding misc_line is_net
@@ -177,7 +178,7 @@ misc_right words x e =
     let b = bind_ok (word_at env_word a.0) (λ name. Ok (Args.Env name.0, perms 1, name.1)) x a.2 in
     let made : Whole = (Args.Env b.0.0, perms 1, b.0.1) in
     let is = env_read a.0 b.0 b.1 in
-    subst Right (ok_is made x b.2) (all (is_right b.0.0) (is_env (spelled_pattern b.0.0)) is.0 is.1)
+    subst Right {x = made} (ok_is made x b.2) (all (is_right b.0.0) (is_env (spelled_pattern b.0.0)) is.0 is.1)
 
 task_right : (words : Line) (x : Whole) → task_line words ≡ Ok x → Right x
 unfolding task_line is_net
@@ -185,7 +186,7 @@ task_right words x e =
     let a = bind_ok (keyword_at (codes "manual_domain_transition") words) (λ rest. domain_at rest >>= λ domain. Ok (Args.Manual domain.0, perms 1, domain.1)) x e in
     let b = bind_ok (domain_at a.0) (λ domain. Ok (Args.Manual domain.0, perms 1, domain.1)) x a.2 in
     let made : Whole = (Args.Manual b.0.0, perms 1, b.0.1) in
-    subst Right (ok_is made x b.2) (at_right a.0 b.0 b.1)
+    subst Right {x = made} (ok_is made x b.2) (at_right a.0 b.0 b.1)
 
 pub net_right : (words : Line) (x : Whole) → net_line words ≡ Ok x → is_net x.0 x.1.bits ≡ true
 unfolding net_line

@@ -25,7 +25,7 @@ kind_part : {A : Type 0} (o : Option A) (unfinished : Bool) (word : Text) (words
 kind_part None unfinished word words x e = absurd cc
 kind_part {A} (Some kind) unfinished word words x e =
     let made : A × Line = (kind, words) in
-    subst (λ (y : A × Line). Rest (word ∷ words) y.1) (ok_is made x e) (word ∷ [], refl)
+    subst (λ (y : A × Line). Rest (word ∷ words) y.1) {x = made} (ok_is made x e) (word ∷ [], refl)
 
 kind_rest : {A : Type 0} (kind : Text → Option A) (starts : Text → Bool) (words : Line) (x : A × Line) → kind_at kind starts words ≡ Ok x → Rest words x.1
 kind_rest kind starts [] x e = absurd cc
@@ -37,7 +37,7 @@ list_rest row [] x e = absurd cc
 list_rest row (word ∷ words) x e =
     let b = bind_ok (perms_of row word (is_last words)) (λ bits. Ok (bits, words)) x e in
     let made : ℕ × Line = (b.0, words) in
-    subst (λ (y : ℕ × Line). Rest (word ∷ words) y.1) (ok_is made x b.2) (word ∷ [], refl)
+    subst (λ (y : ℕ × Line). Rest (word ∷ words) y.1) {x = made} (ok_is made x b.2) (word ∷ [], refl)
 
 inet_rest : (words : Line) (x : Whole) → inet_line words ≡ Ok x → Rest words x.2
 unfolding inet_line
@@ -49,7 +49,7 @@ inet_rest words x e =
     let made : Whole = (Args.Inet a.0.0 c.0.0 d.0.0, perms b.0.0, d.0.1) in
     let two : Rest words b.0.1 = rest_then words a.0.1 b.0.1 (kind_rest inet_kind starts_inet words a.0 a.1) (list_rest (inet_permissions a.0.0) a.0.1 b.0 b.1) in
     let three : Rest words c.0.1 = rest_then words b.0.1 c.0.1 two (address_rest b.0.1 c.0 c.1) in
-    subst (λ (y : Whole). Rest words y.2) (ok_is made x d.2) (rest_then words c.0.1 d.0.1 three (number_rest c.0.1 d.0 d.1))
+    subst (λ (y : Whole). Rest words y.2) {x = made} (ok_is made x d.2) (rest_then words c.0.1 d.0.1 three (number_rest c.0.1 d.0 d.1))
 
 unix_rest : (words : Line) (x : Whole) → unix_line words ≡ Ok x → Rest words x.2
 unfolding unix_line
@@ -59,7 +59,7 @@ unix_rest words x e =
     let c = bind_ok (name_at b.0.1) (λ name. Ok (Args.Unix a.0.0 name.0, perms b.0.0, name.1)) x b.2 in
     let made : Whole = (Args.Unix a.0.0 c.0.0, perms b.0.0, c.0.1) in
     let two : Rest words b.0.1 = rest_then words a.0.1 b.0.1 (kind_rest unix_kind starts_unix words a.0 a.1) (list_rest (unix_permissions a.0.0) a.0.1 b.0 b.1) in
-    subst (λ (y : Whole). Rest words y.2) (ok_is made x c.2) (rest_then words b.0.1 c.0.1 two (name_rest b.0.1 c.0 c.1))
+    subst (λ (y : Whole). Rest words y.2) {x = made} (ok_is made x c.2) (rest_then words b.0.1 c.0.1 two (name_rest b.0.1 c.0 c.1))
 
 network_rest : (words : Line) (x : Whole) → network_line words ≡ Ok x → Rest words x.2
 unfolding network_line
@@ -77,7 +77,7 @@ misc_rest words x e =
     let a = bind_ok (keyword_at (codes "env") words) (λ rest. word_at env_word rest >>= λ name. Ok (Args.Env name.0, perms 1, name.1)) x e in
     let b = bind_ok (word_at env_word a.0) (λ name. Ok (Args.Env name.0, perms 1, name.1)) x a.2 in
     let made : Whole = (Args.Env b.0.0, perms 1, b.0.1) in
-    subst (λ (y : Whole). Rest words y.2) (ok_is made x b.2) (rest_then words a.0 b.0.1 (keyword_rest (codes "env") words a.0 a.1) (word_rest env_word a.0 b.0 b.1))
+    subst (λ (y : Whole). Rest words y.2) {x = made} (ok_is made x b.2) (rest_then words a.0 b.0.1 (keyword_rest (codes "env") words a.0 a.1) (word_rest env_word a.0 b.0 b.1))
 
 task_rest : (words : Line) (x : Whole) → task_line words ≡ Ok x → Rest words x.2
 unfolding task_line
@@ -85,7 +85,7 @@ task_rest words x e =
     let a = bind_ok (keyword_at (codes "manual_domain_transition") words) (λ rest. domain_at rest >>= λ domain. Ok (Args.Manual domain.0, perms 1, domain.1)) x e in
     let b = bind_ok (domain_at a.0) (λ domain. Ok (Args.Manual domain.0, perms 1, domain.1)) x a.2 in
     let made : Whole = (Args.Manual b.0.0, perms 1, b.0.1) in
-    subst (λ (y : Whole). Rest words y.2) (ok_is made x b.2) (rest_then words a.0 b.0.1 (keyword_rest (codes "manual_domain_transition") words a.0 a.1) (domain_rest a.0 b.0 b.1))
+    subst (λ (y : Whole). Rest words y.2) {x = made} (ok_is made x b.2) (rest_then words a.0 b.0.1 (keyword_rest (codes "manual_domain_transition") words a.0 a.1) (domain_rest a.0 b.0 b.1))
 
 whole_rest : (words : Line) (x : Whole) → net_line words ≡ Ok x → Rest words x.2
 unfolding net_line

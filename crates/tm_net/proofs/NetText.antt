@@ -1,4 +1,5 @@
--- The printed words of a network, environment or task line are words, and are found again in the line that joins them.
+-- The printed words of a network, environment or task line are words, and are found again in the
+-- line that joins them.
 use Rattle.std.proofs.Common.{◌≡◌, ℕ, ◌==◌, true, ◌&&◌, List, [], ◌∷◌, refl}
 use Rattle.std.specs.Prelude.{codes}
 use Rattle.std.specs.List.{list_all}

@@ -1,5 +1,5 @@
 -- The lines of network, environment and task: what reading gives, and the words that are printed.
-use Rattle.std.specs.Prelude.{ℕ, ◌-◌, ◌==◌, ◌&&◌, ◌||◌, not, if◌then◌else◌, Bool, false, List, [], ◌∷◌, length, codes, Option, Some, None, Result, Ok, Err}
+use Rattle.std.specs.Prelude.{◌≡◌, ◌++◌, true, map, ℕ, ◌-◌, ◌==◌, ◌&&◌, ◌||◌, not, if◌then◌else◌, Bool, false, List, [], ◌∷◌, length, codes, Option, Some, None, Result, Ok, Err}
 use Rattle.std.specs.List.{list_any}
 use Rattle.tm_word.specs.Words.{Text, Pattern}
 use Rattle.tm_word.specs.Printing.{spelled_pattern}
@@ -9,6 +9,7 @@ use Rattle.tm_types.specs.declared.entry.InetKind.{InetKind}
 use Rattle.tm_types.specs.declared.entry.UnixKind.{UnixKind}
 use Rattle.tm_types.specs.declared.entry.LineKind.{LineKind}
 use Rattle.tm_types.specs.declared.entry.Perms.{Perms}
+use Rattle.tm_word.specs.Closed.{row_of, of_word, begins_row}
 use Rattle.tm_word.specs.Texts.{texts_equal, begins}
 use Rattle.tm_rules.specs.Transition.{is_domain_name}
 use Rattle.tm_domain.specs.Names.{is_path}
@@ -18,29 +19,41 @@ use Rattle.tm_word.specs.Gives.{◌>>=◌}
 use Rattle.tm_line.specs.Permissions.{perms_of, perms_spelling}
 use Rattle.tm_line.specs.Arguments.{pattern_word, name_at, number_at, address_at}
 use Rattle.tm_line.specs.Domains.{domain_at}
-use Rattle.tm_line.specs.DomainWords.{domain_parts}
+use Rattle.tm_line.specs.DomainWords.{domain_parts, ends_domain}
 use Rattle.tm_line.specs.Printing.{name_spelling, number_spelling, address_spelling}
 use Rattle.tm_line.specs.Written.{is_name, is_number, is_address, is_set}
 
--- the kinds of internet sockets
+-- the kinds of internet sockets, and their words
+abbrev pub inet_word : InetKind → Text
+inet_word InetKind.Stream = codes "stream"
+inet_word InetKind.Dgram = codes "dgram"
+inet_word InetKind.Raw = codes "raw"
+
+abbrev pub inets : List InetKind
+inets = InetKind.Stream ∷ InetKind.Dgram ∷ InetKind.Raw ∷ []
+
 abbrev pub inet_kind : Text → Option InetKind
-inet_kind word =
-    if texts_equal word (codes "stream") then Some InetKind.Stream else
-    (if texts_equal word (codes "dgram") then Some InetKind.Dgram else (if texts_equal word (codes "raw") then Some InetKind.Raw else None))
+inet_kind word = of_word inet_word inets word
 
 -- a front of one of them
 abbrev pub starts_inet : Text → Bool
-starts_inet word = begins word (codes "stream") || begins word (codes "dgram") || begins word (codes "raw")
+starts_inet word = begins_row (map (row_of inet_word) inets) word
 
--- the kinds of local sockets
+-- the kinds of local sockets, and their words
+abbrev pub unix_word : UnixKind → Text
+unix_word UnixKind.Stream = codes "stream"
+unix_word UnixKind.Dgram = codes "dgram"
+unix_word UnixKind.Seqpacket = codes "seqpacket"
+
+abbrev pub unixes : List UnixKind
+unixes = UnixKind.Stream ∷ UnixKind.Dgram ∷ UnixKind.Seqpacket ∷ []
+
 abbrev pub unix_kind : Text → Option UnixKind
-unix_kind word =
-    if texts_equal word (codes "stream") then Some UnixKind.Stream else
-    (if texts_equal word (codes "dgram") then Some UnixKind.Dgram else (if texts_equal word (codes "seqpacket") then Some UnixKind.Seqpacket else None))
+unix_kind word = of_word unix_word unixes word
 
 -- a front of one of them
 abbrev pub starts_unix : Text → Bool
-starts_unix word = begins word (codes "stream") || begins word (codes "dgram") || begins word (codes "seqpacket")
+starts_unix word = begins_row (map (row_of unix_word) unixes) word
 
 -- sockets with connections listen and connect, the others send
 abbrev pub inet_permissions : InetKind → Row
@@ -53,12 +66,14 @@ unix_permissions UnixKind.Stream = Row.Listening
 unix_permissions UnixKind.Dgram = Row.Sending
 unix_permissions UnixKind.Seqpacket = Row.Listening
 
--- one of some words as it stands in front, and the words after it; an unfinished one as the last word is a missing word
+-- one of some words as it stands in front, and the words after it; an unfinished one as the last
+-- word is a missing word
 abbrev pub kind_or : {A : Type 0} → Option A → Bool → List Text → Result (A × List Text) LineKind
 kind_or (Some kind) unfinished words = Ok (kind, words)
 kind_or None unfinished words = Err (keyword_kind unfinished)
 
-abbrev pub kind_at : {A : Type 0} → (Text → Option A) → (Text → Bool) → List Text → Result (A × List Text) LineKind
+abbrev pub kind_at : {A : Type 0} → (Text → Option A) → (Text → Bool) → List Text
+    → Result (A × List Text) LineKind
 kind_at kind starts [] = Err LineKind.Arity
 kind_at kind starts (word ∷ words) = kind_or (kind word) (is_last words && starts word) words
 
@@ -92,13 +107,16 @@ unfoldable pub network_line : List Text → Result (Args × Perms × List Text) 
 network_line [] = Err LineKind.Arity
 network_line (word ∷ words) =
     if texts_equal word (codes "inet") then inet_line words else
-    (if texts_equal word (codes "unix") then unix_line words else Err (keyword_kind (is_last words && (begins word (codes "inet") || begins word (codes "unix")))))
+    (if texts_equal word (codes "unix") then unix_line words
+    else Err (keyword_kind (is_last words && (begins word (codes "inet")
+    || begins word (codes "unix")))))
 
 -- an `=` stands in a text
 abbrev pub has_equals : Text → Bool
 has_equals text = list_any (λ b. b == 61) text
 
--- the name of an environment variable is a pattern, not empty and without `=`; it may begin with `@`
+-- the name of an environment variable is a pattern, not empty and without `=`; it may begin with
+-- `@`
 unfoldable pub env_word : Text → Result Pattern LineKind
 env_word [] = Err LineKind.Name
 env_word (b ∷ word) = if has_equals (b ∷ word) then Err LineKind.Name else pattern_word (b ∷ word)
@@ -124,7 +142,8 @@ task_line words = do
 
 -- a front of a leading word
 abbrev pub starts_net : Text → Bool
-starts_net word = begins word (codes "network") || begins word (codes "misc") || begins word (codes "task")
+starts_net word =
+    begins word (codes "network") || begins word (codes "misc") || begins word (codes "task")
 
 -- a line of network, environment or task: its arguments, its permissions, and the words after them
 unfoldable pub net_line : List Text → Result (Args × Perms × List Text) LineKind
@@ -132,30 +151,25 @@ net_line [] = Err LineKind.Arity
 net_line (word ∷ words) =
     if texts_equal word (codes "network") then network_line words else
     (if texts_equal word (codes "misc") then misc_line words else
-    (if texts_equal word (codes "task") then task_line words else Err (keyword_kind (is_last words && starts_net word))))
+    (if texts_equal word (codes "task") then task_line words
+    else Err (keyword_kind (is_last words && starts_net word))))
 
 -- how many words were taken, in place of those that are left
-abbrev pub counted : ℕ → Result (Args × Perms × List Text) LineKind → Result (Args × Perms × ℕ) LineKind
+abbrev pub counted : ℕ → Result (Args × Perms × List Text) LineKind
+    → Result (Args × Perms × ℕ) LineKind
 counted n read = read >>= λ x. Ok (x.0, x.1, n - length x.2)
-
--- the word of a kind
-abbrev pub inet_word : InetKind → Text
-inet_word InetKind.Stream = codes "stream"
-inet_word InetKind.Dgram = codes "dgram"
-inet_word InetKind.Raw = codes "raw"
-
-abbrev pub unix_word : UnixKind → Text
-unix_word UnixKind.Stream = codes "stream"
-unix_word UnixKind.Dgram = codes "dgram"
-unix_word UnixKind.Seqpacket = codes "seqpacket"
 
 -- the words of a line; there is none for the arguments of a file
 unfoldable pub net_words : Args → ℕ → List Text
 net_words (Args.Inet kind address port) bits =
-    codes "network" ∷ codes "inet" ∷ inet_word kind ∷ perms_spelling (inet_permissions kind) bits ∷ address_spelling address ∷ number_spelling port ∷ []
-net_words (Args.Unix kind name) bits = codes "network" ∷ codes "unix" ∷ unix_word kind ∷ perms_spelling (unix_permissions kind) bits ∷ name_spelling name ∷ []
+    codes "network" ∷ codes "inet" ∷ inet_word kind ∷ perms_spelling (inet_permissions kind) bits
+    ∷ address_spelling address ∷ number_spelling port ∷ []
+net_words (Args.Unix kind name) bits =
+    codes "network" ∷ codes "unix" ∷ unix_word kind ∷ perms_spelling (unix_permissions kind) bits
+    ∷ name_spelling name ∷ []
 net_words (Args.Env pattern_) bits = codes "misc" ∷ codes "env" ∷ spelled_pattern pattern_ ∷ []
-net_words (Args.Manual domain) bits = codes "task" ∷ codes "manual_domain_transition" ∷ domain_parts domain
+net_words (Args.Manual domain) bits =
+    codes "task" ∷ codes "manual_domain_transition" ∷ domain_parts domain
 net_words (Args.Path name) bits = []
 net_words (Args.Execute name prefer) bits = []
 net_words (Args.PathNumber name number) bits = []
@@ -165,9 +179,11 @@ net_words (Args.Mount device dir type flags) bits = []
 
 -- the arguments and permissions that a line can write
 unfoldable pub is_net : Args → ℕ → Bool
-is_net (Args.Inet kind address port) bits = is_set (inet_permissions kind) bits && is_address address && is_number port
+is_net (Args.Inet kind address port) bits =
+    is_set (inet_permissions kind) bits && is_address address && is_number port
 is_net (Args.Unix kind name) bits = is_set (unix_permissions kind) bits && is_name name
-is_net (Args.Env pattern_) bits = bits == 1 && is_right pattern_ && is_env (spelled_pattern pattern_)
+is_net (Args.Env pattern_) bits =
+    bits == 1 && is_right pattern_ && is_env (spelled_pattern pattern_)
 is_net (Args.Manual domain) bits = bits == 1 && is_domain_name is_path domain
 is_net (Args.Path name) bits = false
 is_net (Args.Execute name prefer) bits = false
@@ -175,3 +191,9 @@ is_net (Args.PathNumber name number) bits = false
 is_net (Args.Device name mode major minor) bits = false
 is_net (Args.Path2 first second) bits = false
 is_net (Args.Mount device dir type flags) bits = false
+
+-- from their printed words arguments and permissions are read again, whatever conditions follow
+abbrev pub IsReadAgain : Args → Perms → Type 0
+IsReadAgain a p =
+    (more : List Text) → ends_domain more ≡ true
+    → net_line (net_words a p.bits ++ more) ≡ Ok (a, p, more)

@@ -7,7 +7,8 @@ use Rattle.tm_types.specs.declared.unions.NamePlace.{NamePlace}
 use Rattle.tm_types.specs.declared.entry.Args.{Args}
 use Rattle.tm_rules.specs.Search.{args_grant}
 
--- the arguments of a `network`, `misc` or `task` line by the rule of all lines; every other line is for no such request
+-- the arguments of a `network`, `misc` or `task` line by the rule of all lines; every other line is
+-- for no such request
 abbrev pub net_args_grant : Groups → Args → Args → Option NamePlace
 net_args_grant g (Args.Inet kind addr port) asked = args_grant g (Args.Inet kind addr port) asked
 net_args_grant g (Args.Unix kind n) asked = args_grant g (Args.Unix kind n) asked

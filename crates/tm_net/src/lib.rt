@@ -1,10 +1,11 @@
-//! The lines of network, environment and task: read and printed, and which requests their arguments are for.
-//! Stands on tm_line, which reads and prints arguments, on tm_union, tm_pattern and the definitions of tm_rules.
-//! Promises that reading is the grammar with the kind of the first wrong word, that what is printed is read again, and that each argument is looked up by the definition.
+//! The lines of network, environment and task: read, printed, matched with requests.
+//! It stands on `tm_line` for arguments, on `tm_union`, `tm_pattern` and the rules of `tm_rules`.
+//! It promises the grammar with its first fault, one text that is read again, and each match.
 #![tactic(auto)]
 
 ghost use Rattle.std.specs.Prelude.{◌≡◌, Option, slice_get};
 ghost use Rattle.std.specs.Option.{option_and_then};
+ghost use Rattle.tm_types.specs.declared.unions.Groups.{Groups};
 ghost use Rattle.tm_types.specs.declared.unions.NameUnion.{NameUnion};
 ghost use Rattle.tm_types.specs.Request.{argument_words};
 ghost use Rattle.tm_rules.specs.Few.{IsShort};
@@ -36,7 +37,8 @@ use tm_word::{Pattern, texts_equal};
 // The place in a name argument of the first name of the request.
 fn name_at(groups: &Groups, union: &NameUnion, request: &Request) -> Option<NamePlace>
     requires { IsShort groups.now.paths }
-    ensures { result ≡ option_and_then (name_in groups.now union.now) (slice_get (argument_words request.now.args) 0) }
+    ensures { result ≡ option_and_then (name_in groups.now union.now)
+        (slice_get (argument_words request.now.args) 0) }
 {
     match request.name(0) {
         Some(name) => name_in(groups, union, name),
@@ -98,15 +100,7 @@ fn inet_row(
                 None
             }
         }
-        Args::Path(_)
-        | Args::Execute(_, _)
-        | Args::PathNumber(_, _)
-        | Args::Device(_, _, _, _)
-        | Args::Path2(_, _)
-        | Args::Mount(_, _, _, _)
-        | Args::Unix(_, _)
-        | Args::Env(_)
-        | Args::Manual(_) => None,
+        _ => None,
     }
 }
 
@@ -129,15 +123,7 @@ fn unix_row(
                 None
             }
         }
-        Args::Path(_)
-        | Args::Execute(_, _)
-        | Args::PathNumber(_, _)
-        | Args::Device(_, _, _, _)
-        | Args::Path2(_, _)
-        | Args::Mount(_, _, _, _)
-        | Args::Inet(_, _, _)
-        | Args::Env(_)
-        | Args::Manual(_) => None,
+        _ => None,
     }
 }
 
@@ -159,27 +145,21 @@ fn is_matched(pattern: &Pattern, request: &Request) -> Option<NamePlace>
 
 // The row of environment names.
 #[tactic(auto, unfolding(tm_rules::specs::Search::args_grant))]
-fn env_row(pattern: &Pattern, _groups: &Groups, request: &Request) -> Option<NamePlace>
-    ensures { result ≡ args_grant _groups.now (Args.Env pattern.now) request.now.args }
+fn env_row(pattern: &Pattern, request: &Request) -> Option<NamePlace>
+    ensures { (groups : Groups) → result
+        ≡ args_grant groups (Args.Env pattern.now) request.now.args }
 {
     match request.args() {
         Args::Env(_) => is_matched(pattern, request),
-        Args::Path(_)
-        | Args::Execute(_, _)
-        | Args::PathNumber(_, _)
-        | Args::Device(_, _, _, _)
-        | Args::Path2(_, _)
-        | Args::Mount(_, _, _, _)
-        | Args::Inet(_, _, _)
-        | Args::Unix(_, _)
-        | Args::Manual(_) => None,
+        _ => None,
     }
 }
 
 // The row of manual domain transitions, whose domains are compared by bytes.
 #[tactic(auto, unfolding(tm_rules::specs::Search::args_grant))]
-fn manual_row(domain: &DomainName, _groups: &Groups, request: &Request) -> Option<NamePlace>
-    ensures { result ≡ args_grant _groups.now (Args.Manual domain.now) request.now.args }
+fn manual_row(domain: &DomainName, request: &Request) -> Option<NamePlace>
+    ensures { (groups : Groups) → result
+        ≡ args_grant groups (Args.Manual domain.now) request.now.args }
 {
     match request.args() {
         Args::Manual(asked) => {
@@ -189,21 +169,15 @@ fn manual_row(domain: &DomainName, _groups: &Groups, request: &Request) -> Optio
                 None
             }
         }
-        Args::Path(_)
-        | Args::Execute(_, _)
-        | Args::PathNumber(_, _)
-        | Args::Device(_, _, _, _)
-        | Args::Path2(_, _)
-        | Args::Mount(_, _, _, _)
-        | Args::Inet(_, _, _)
-        | Args::Unix(_, _)
-        | Args::Env(_) => None,
+        _ => None,
     }
 }
 
-/// Where the first name of a request is found in the arguments of a `network`, `misc` or `task` line (`Own` where the row has no
-/// name argument); None exactly where some argument of the request is not in the line's, or where the line is another one.
-/// Environment names are matched by the line's pattern, the domain of a manual transition is compared by bytes. Takes no memory.
+/// Where the first name of a request is found in the arguments of a `network`, `misc` or `task`
+/// line (`Own` where the row has no name argument); None exactly where some argument of the request
+/// is not in the line's, or where the line is another one.
+/// Environment names are matched by the line's pattern, the domain of a manual transition is
+/// compared by bytes. Takes no memory.
 pub fn net_args_match(args: &Args, groups: &Groups, request: &Request) -> Option<NamePlace>
     requires { IsShort groups.now.paths }
     ensures { result ≡ net_args_grant groups.now args.now request.now.args }
@@ -211,13 +185,8 @@ pub fn net_args_match(args: &Args, groups: &Groups, request: &Request) -> Option
     match args {
         Args::Inet(kind, addr, port) => inet_row(*kind, addr, port, groups, request),
         Args::Unix(kind, name) => unix_row(*kind, name, groups, request),
-        Args::Env(pattern) => env_row(pattern, groups, request),
-        Args::Manual(domain) => manual_row(domain, groups, request),
-        Args::Path(_)
-        | Args::Execute(_, _)
-        | Args::PathNumber(_, _)
-        | Args::Device(_, _, _, _)
-        | Args::Path2(_, _)
-        | Args::Mount(_, _, _, _) => None,
+        Args::Env(pattern) => env_row(pattern, request),
+        Args::Manual(domain) => manual_row(domain, request),
+        _ => None,
     }
 }

@@ -1,5 +1,5 @@
 //! Reading the lines of network, environment and task.
-ghost use Rattle.std.specs.Prelude.{◌≡◌, ◌≤◌, ◌++◌, ◌-◌, ℕ, true, List, Ok, length, drop, IfOk};
+ghost use Rattle.std.specs.Prelude.{◌≡◌, ◌≤◌, ◌-◌, ℕ, true, List, map, Ok, length, drop, IfOk};
 ghost use Rattle.std.specs.List.{list_all};
 ghost use Rattle.tm_word.specs.Spelling.{words_of, joined};
 ghost use Rattle.tm_word.specs.Texts.{is_word};
@@ -8,59 +8,44 @@ ghost use Rattle.tm_types.specs.declared.entry.Args.{Args};
 ghost use Rattle.tm_types.specs.declared.entry.Perms.{Perms};
 ghost use Rattle.tm_word.specs.Gives.{Gives, GivesNow};
 ghost use Rattle.tm_line.specs.Lines.{line_cause, word_at};
-ghost use Rattle.tm_net.specs.NetLines.{inet_kind, starts_inet, unix_kind, starts_unix, inet_permissions, unix_permissions, kind_at, perms_at, inet_line, unix_line, network_line, env_word, misc_line, task_line, starts_net, net_line, counted, net_words, is_net, perms};
-ghost use Rattle.tm_line.specs.DomainWords.{ends_domain};
+ghost use Rattle.tm_net.specs.NetLines.{inet_kind, unix_kind, inet_permissions, unix_permissions, kind_at, perms_at, inet_line, unix_line, network_line, env_word, misc_line, task_line, starts_net, net_line, counted, net_words, is_net, perms, IsReadAgain};
+ghost use Rattle.tm_word.specs.Closed.{named, begins_row};
 
 use std::alloc::Global;
 use tm_line::{
-    Row, address_at, domain_at, keyword_at, name_at, number_at, pattern_word, read_perms,
+    Row, address_at, domain_at, keyword_at, keyword_kind, name_at, number_at, pattern_word,
+    read_perms,
 };
 use tm_types::entry::{Args, InetKind, LineKind, Perms, UnixKind};
 use tm_types::step::LineFault;
-use tm_word::{Pattern, Text, begins, bytes_equal, has_byte};
+use tm_word::{Pattern, Text, begins, begins_in, bytes_equal, has_byte, value_of};
+
+/// The kinds of internet sockets, by their names.
+pub(crate) const INETS: [(&str, InetKind); 3] = [
+    ("stream", InetKind::Stream),
+    ("dgram", InetKind::Dgram),
+    ("raw", InetKind::Raw),
+];
+
+/// The kinds of local sockets, by their names.
+pub(crate) const UNIXES: [(&str, UnixKind); 3] = [
+    ("stream", UnixKind::Stream),
+    ("dgram", UnixKind::Dgram),
+    ("seqpacket", UnixKind::Seqpacket),
+];
 
 /// The kind of internet socket with this name.
 pub fn inet_kind(word: &[u8]) -> Option<InetKind>
     ensures { result ≡ inet_kind word.now }
 {
-    if bytes_equal(word, b"stream") {
-        return Some(InetKind::Stream);
-    }
-    if bytes_equal(word, b"dgram") {
-        return Some(InetKind::Dgram);
-    }
-    if bytes_equal(word, b"raw") {
-        return Some(InetKind::Raw);
-    }
-    None
-}
-
-fn starts_inet(word: &[u8]) -> bool
-    ensures { result ≡ starts_inet word.now }
-{
-    begins(word, b"stream") || begins(word, b"dgram") || begins(word, b"raw")
+    value_of(&INETS, word)
 }
 
 /// The kind of local socket with this name.
 pub fn unix_kind(word: &[u8]) -> Option<UnixKind>
     ensures { result ≡ unix_kind word.now }
 {
-    if bytes_equal(word, b"stream") {
-        return Some(UnixKind::Stream);
-    }
-    if bytes_equal(word, b"dgram") {
-        return Some(UnixKind::Dgram);
-    }
-    if bytes_equal(word, b"seqpacket") {
-        return Some(UnixKind::Seqpacket);
-    }
-    None
-}
-
-fn starts_unix(word: &[u8]) -> bool
-    ensures { result ≡ starts_unix word.now }
-{
-    begins(word, b"stream") || begins(word, b"dgram") || begins(word, b"seqpacket")
+    value_of(&UNIXES, word)
 }
 
 /// Which permissions an internet socket of this kind has.
@@ -83,37 +68,22 @@ pub fn unix_permissions(kind: UnixKind) -> Row
     }
 }
 
-fn inet_kind_at(words: &[Text]) -> Result<(InetKind, &[Text]), LineFault>
-    ensures { GivesNow line_cause (λ x. (x.0, x.1.now)) result (kind_at inet_kind starts_inet words.now) }
+// The value of the first word in a table, and the words after it.
+fn kind_at<'a, V: Copy>(
+    table: &[(&str, V)],
+    words: &'a [Text],
+) -> Result<(V, &'a [Text]), LineFault>
+    ensures { GivesNow line_cause (λ x. (x.0, x.1.now)) result
+        (kind_at (named (map (λ row. (row.0.now, row.1)) table.now))
+        (begins_row (map (λ row. (row.0.now, row.1)) table.now)) words.now) }
 {
     match words {
         [] => Err(LineFault::Kind(LineKind::Arity)),
-        [word, rest @ ..] => match inet_kind(word.bytes()) {
+        [word, rest @ ..] => match value_of(table, word.bytes()) {
             Some(kind) => Ok((kind, rest)),
             None => {
-                if rest.is_empty() && starts_inet(word.bytes()) {
-                    Err(LineFault::Kind(LineKind::Arity))
-                } else {
-                    Err(LineFault::Kind(LineKind::Keyword))
-                }
-            }
-        },
-    }
-}
-
-fn unix_kind_at(words: &[Text]) -> Result<(UnixKind, &[Text]), LineFault>
-    ensures { GivesNow line_cause (λ x. (x.0, x.1.now)) result (kind_at unix_kind starts_unix words.now) }
-{
-    match words {
-        [] => Err(LineFault::Kind(LineKind::Arity)),
-        [word, rest @ ..] => match unix_kind(word.bytes()) {
-            Some(kind) => Ok((kind, rest)),
-            None => {
-                if rest.is_empty() && starts_unix(word.bytes()) {
-                    Err(LineFault::Kind(LineKind::Arity))
-                } else {
-                    Err(LineFault::Kind(LineKind::Keyword))
-                }
+                let unfinished = rest.is_empty() && begins_in(table, word.bytes());
+                Err(LineFault::Kind(keyword_kind(unfinished)))
             }
         },
     }
@@ -135,7 +105,7 @@ fn perms_at(alloc: Global, row: Row, words: &[Text]) -> Result<(u16, &[Text]), L
 fn inet_line(alloc: Global, words: &[Text]) -> Result<(Args, Perms, &[Text]), LineFault>
     ensures { Gives line_cause (λ x. (x.0, x.1, x.2.now)) result (inet_line words.now) }
 {
-    let (kind, rest) = inet_kind_at(words)?;
+    let (kind, rest) = kind_at(&INETS, words)?;
     let (bits, rest) = perms_at(alloc, inet_permissions(kind), rest)?;
     let (address, rest) = address_at(alloc, rest)?;
     let (port, rest) = number_at(alloc, rest)?;
@@ -147,7 +117,7 @@ fn inet_line(alloc: Global, words: &[Text]) -> Result<(Args, Perms, &[Text]), Li
 fn unix_line(alloc: Global, words: &[Text]) -> Result<(Args, Perms, &[Text]), LineFault>
     ensures { Gives line_cause (λ x. (x.0, x.1, x.2.now)) result (unix_line words.now) }
 {
-    let (kind, rest) = unix_kind_at(words)?;
+    let (kind, rest) = kind_at(&UNIXES, words)?;
     let (bits, rest) = perms_at(alloc, unix_permissions(kind), rest)?;
     let (name, rest) = name_at(alloc, rest)?;
     Ok((Args::Unix(kind, name), Perms { bits }, rest))
@@ -227,10 +197,11 @@ fn starts_net(word: &[u8]) -> bool
     begins(word, b"network") || begins(word, b"misc") || begins(word, b"task")
 }
 
-/// Reads a `network`, `misc` or `task` line at the front of these words: its arguments and permissions, and the words after them,
-/// which are its conditions.
+/// Reads a `network`, `misc` or `task` line at the front of these words: its arguments and
+/// permissions, and the words after them, which are its conditions.
 ///
-/// Errors: the kind of the first word at which the line can't go on, and `Arity` where a word is missing.
+/// Errors: the kind of the first word at which the line can't go on, and `Arity` where a word is
+/// missing.
 #[tactic(auto, unfolding(crate::specs::NetLines::net_line))]
 pub fn net_acl_at(alloc: Global, words: &[Text]) -> Result<(Args, Perms, &[Text]), LineFault>
     ensures { Gives line_cause (λ x. (x.0, x.1, x.2.now)) result (net_line words.now) }
@@ -255,27 +226,37 @@ pub fn net_acl_at(alloc: Global, words: &[Text]) -> Result<(Args, Perms, &[Text]
     }
 }
 
-/// Reads a `network`, `misc` or `task` line at the front of these words: its arguments and permissions, and how many words they took.
+/// Reads a `network`, `misc` or `task` line at the front of these words: its arguments and
+/// permissions, and how many words they took.
 ///
-/// Errors: the kind of the first word at which the line can't go on, and `Arity` where a word is missing.
+/// Errors: the kind of the first word at which the line can't go on, and `Arity` where a word is
+/// missing.
 pub fn read_net_acl(alloc: Global, words: &[Text]) -> Result<(Args, Perms, usize), LineFault>
-    ensures exact { Gives line_cause (λ x. x) result (counted (length words.now) (net_line words.now)) }
+    ensures exact { Gives line_cause (λ x. x) result
+        (counted (length words.now) (net_line words.now)) }
     ensures within { IfOk result (λ x. x.2 ≤ length words.now) }
 {
     let (args, perms, rest) = net_acl_at(alloc, words)?;
     Ok((args, perms, words.len().saturating_sub(rest.len())))
 }
 
-/// Lines of network, environment and task, as laws over all words: arguments and permissions that a line can write are read from
-/// their printed words, whatever conditions follow; what is read is one that a line can write, and its printed words are read as the
-/// same. The first of the words that follow doesn't begin with `/`.
+/// Lines of network, environment and task, as laws over all words: arguments and permissions that a
+/// line can write are read from their printed words, whatever conditions follow; what is read is
+/// one that a line can write, and its printed words are read as the same. The first of the words
+/// that follow doesn't begin with `/`.
 pub fn round_trip()
-    ensures written { (a : Args) (bits : ℕ) (more : List Text) → is_net a bits ≡ true → ends_domain more ≡ true → net_line (net_words a bits ++ more) ≡ Ok (a, perms bits, more) }
-    ensures read { (words rest : List Text) (a : Args) (p : Perms) → net_line words ≡ Ok (a, p, rest) → is_net a p.bits ≡ true }
+    ensures written { (a : Args) (bits : ℕ) → is_net a bits ≡ true → IsReadAgain a (perms bits) }
+    ensures read { (words rest : List Text) (a : Args) (p : Perms)
+        → net_line words ≡ Ok (a, p, rest) → is_net a p.bits ≡ true }
     // How many words a line took tells which are left.
-    ensures left { (words rest : List Text) (a : Args) (p : Perms) → net_line words ≡ Ok (a, p, rest) → rest ≡ drop (length words - length rest) words }
+    ensures left { (words rest : List Text) (a : Args) (p : Perms)
+        → net_line words ≡ Ok (a, p, rest) → rest ≡ drop (length words - length rest) words }
     // What is printed is made of words, which are found again in the line that joins them.
-    ensures words { (a : Args) (bits : ℕ) → is_net a bits ≡ true → list_all is_word (net_words a bits) ≡ true }
-    ensures text { (a : Args) (bits : ℕ) → is_net a bits ≡ true → words_of (joined (net_words a bits)) ≡ net_words a bits }
-    ensures normal { (words more rest : List Text) (a : Args) (p : Perms) → net_line words ≡ Ok (a, p, rest) → ends_domain more ≡ true → net_line (net_words a p.bits ++ more) ≡ Ok (a, p, more) }
+    ensures words { (a : Args) (bits : ℕ) → is_net a bits ≡ true
+        → list_all is_word (net_words a bits) ≡ true }
+    ensures text { (a : Args) (bits : ℕ) → is_net a bits ≡ true
+        → words_of (joined (net_words a bits)) ≡ net_words a bits }
+    ensures normal { (words rest : List Text) (a : Args) (p : Perms)
+        → net_line words ≡ Ok (a, p, rest)
+        → IsReadAgain a p }
 {}

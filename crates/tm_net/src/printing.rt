@@ -6,7 +6,7 @@ ghost use Rattle.tm_line.specs.Permissions.{perms_spelling};
 ghost use Rattle.tm_line.specs.Printing.{number_spelling};
 ghost use Rattle.tm_net.specs.NetLines.{inet_permissions, unix_permissions, inet_word, unix_word, net_words};
 
-use crate::lines::{inet_permissions, unix_permissions};
+use crate::lines::{INETS, UNIXES, inet_permissions, unix_permissions};
 use std::alloc::Global;
 use tm_line::{Row, print_address, print_domain, print_name, print_number, print_perms};
 use tm_list::NoMemory;
@@ -18,21 +18,13 @@ use tm_word::Pattern;
 fn inet_word(kind: InetKind) -> &'static [u8]
     ensures { result.now ≡ inet_word kind }
 {
-    match kind {
-        InetKind::Stream => b"stream",
-        InetKind::Dgram => b"dgram",
-        InetKind::Raw => b"raw",
-    }
+    INETS[kind as usize].0.as_bytes()
 }
 
 fn unix_word(kind: UnixKind) -> &'static [u8]
     ensures { result.now ≡ unix_word kind }
 {
-    match kind {
-        UnixKind::Stream => b"stream",
-        UnixKind::Dgram => b"dgram",
-        UnixKind::Seqpacket => b"seqpacket",
-    }
+    UNIXES[kind as usize].0.as_bytes()
 }
 
 // Appends a space and permissions.
@@ -59,7 +51,8 @@ fn inet_text(
     port: &NumberUnion,
     bits: u16,
 ) -> Result<Vec<u8>, NoMemory>
-    ensures { IfOk result (λ text. text.items ≡ joined (net_words (Args.Inet kind address.now port.now) bits)) }
+    ensures { IfOk result
+        (λ text. text.items ≡ joined (net_words (Args.Inet kind address.now port.now) bits)) }
 {
     let mut text = Vec::from_slice(alloc, b"network inet ")?;
     text.extend_from_slice(inet_word(kind))?;
@@ -124,15 +117,17 @@ fn text_of(alloc: Global, args: &Args, bits: u16) -> Result<Vec<u8>, NoMemory>
     }
 }
 
-/// Appends the printed words of a `network`, `misc` or `task` line, joined by single spaces: permissions in the row's order, numbers in
-/// the base that they were written in. Nothing is appended for the arguments of a file line. After want of memory `out` is as before.
+/// Appends the printed words of a `network`, `misc` or `task` line, joined by single spaces:
+/// permissions in the row's order, numbers in the base that they were written in. Nothing is
+/// appended for the arguments of a file line. After want of memory `out` is as before.
 pub fn print_net_acl(
     alloc: Global,
     args: &Args,
     perms: Perms,
     out: &mut Vec<u8>,
 ) -> Result<(), NoMemory>
-    ensures ok { OnOk result (out.new.items ≡ out.old.items ++ joined (net_words args.now perms.bits)) }
+    ensures ok { OnOk result
+        (out.new.items ≡ out.old.items ++ joined (net_words args.now perms.bits)) }
     ensures err { OnErr result (out.new.items ≡ out.old.items) }
 {
     let text = text_of(alloc, args, perms.bits)?;

@@ -1,9 +1,11 @@
 -- What another name in place of an execute's path leaves as it was.
 use Rattle.std.proofs.Common.{◌≡◌, ℕ, ◌==◌, Bool, true, ◌&&◌, List, [], ◌∷◌, refl, sym, ap, ◌∙◌}
-use Rattle.std.specs.Prelude.{Some}
+use Rattle.std.specs.Prelude.{Option, Some, None, slice_get}
 use Rattle.std.specs.List.{list_all}
 use Rattle.tm_word.specs.Words.{Word}
 use Rattle.tm_word.specs.Printing.{literal}
+use Rattle.tm_word.proofs.Literals.{literal-name}
+use Rattle.tm_types.specs.Request.{argument_words}
 use Rattle.tm_types.specs.declared.unions.NameUnion.{NameUnion}
 use Rattle.tm_types.specs.declared.unions.Groups.{Groups}
 use Rattle.tm_types.specs.declared.entry.Args.{Args}
@@ -104,3 +106,8 @@ unfolding grants
 grants_as_path groups process request path entry h =
     ap (λ b. when (has_permission entry.perms.bits request.perm && b) (args_grant groups entry.args (Args.Path (NameUnion.One (literal path)))))
     (same_holds (asked_as request (Some path)) request (still_execute request path h) refl entry.cond groups process)
+
+-- another name that is given is the first one that is asked for
+pub asked_path : (request : Request) (path : Option Word) (word : Word) → path ≡ Some word → Some word ≡ slice_get (argument_words (asked_as request path).args) 0
+asked_path request None word e = absurd cc
+asked_path request (Some name) word e = let same : word ≡ name = cc in ap Some (same ∙ sym (literal-name name))

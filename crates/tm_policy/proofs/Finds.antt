@@ -14,18 +14,21 @@ use Rattle.tm_word.specs.Texts.{texts_equal}
 use Rattle.tm_rules.specs.Condition.{is_execute}
 use Rattle.tm_rules.specs.Policy.{empty_namespace, namespace_word, namespace_named, namespace_of, domain_at}
 use Rattle.tm_rules.specs.Search.{aggregated, path_of, entries_of, placed, first, found, found_of}
-use Rattle.tm_policy.specs.Searching.{asked_as, found_in, acl_entries}
+use Rattle.tm_policy.specs.Searching.{Asked, found_in, acl_entries}
 use Rattle.tm_policy.proofs.Lists.{no_groups}
+
+abbrev asked_of : Groups → Proc → Request → Option Word → Asked
+asked_of groups process request path = record { groups = groups; process = process; request = request; path = path }
 
 -- an execute is searched for by its aggregated name
 pub found_execute : (ns : Namespace) (domain : Domain) (process : Proc) (request : Request) (name : Word) → is_execute request ≡ true → name ≡ aggregated ns (path_of request)
-    → found_in ns.groups process (asked_as request (Some name)) (placed EntryPlace.Own 0 domain.entries ++ acl_entries ns.acl_groups domain.groups) ≡ option_map found_of (first ns domain process request)
+    → found_in (asked_of ns.groups process request (Some name)) (placed EntryPlace.Own 0 domain.entries ++ acl_entries ns.acl_groups domain.groups) ≡ option_map found_of (first ns domain process request)
 unfolding first entries_of
 found_execute ns domain process request name h e = rw (e, h) refl
 
 -- every other request as it is
 pub found_plain : (ns : Namespace) (domain : Domain) (process : Proc) (request : Request) → is_execute request ≡ false
-    → found_in ns.groups process request (placed EntryPlace.Own 0 domain.entries ++ acl_entries ns.acl_groups domain.groups) ≡ option_map found_of (first ns domain process request)
+    → found_in (asked_of ns.groups process request None) (placed EntryPlace.Own 0 domain.entries ++ acl_entries ns.acl_groups domain.groups) ≡ option_map found_of (first ns domain process request)
 unfolding first entries_of
 found_plain ns domain process request h = rw h refl
 
@@ -34,12 +37,12 @@ no_members = record { paths = []; numbers = []; addrs = [] }
 
 -- the same in a namespace without lines
 pub alone_execute : (name : Text) (domain : Domain) (process : Proc) (request : Request) (path : Option Word) → is_execute request ≡ true → path ≡ Some (path_of request)
-    → found_in no_members process (asked_as request path) (placed EntryPlace.Own 0 domain.entries) ≡ option_map found_of (first (empty_namespace name) domain process request)
+    → found_in (asked_of no_members process request path) (placed EntryPlace.Own 0 domain.entries) ≡ option_map found_of (first (empty_namespace name) domain process request)
 unfolding first entries_of aggregated
 alone_execute name domain process request path h e = rw (e, h, no_groups domain.groups, append-nil (placed EntryPlace.Own 0 domain.entries)) refl
 
 pub alone_plain : (name : Text) (domain : Domain) (process : Proc) (request : Request) → is_execute request ≡ false
-    → found_in no_members process request (placed EntryPlace.Own 0 domain.entries) ≡ option_map found_of (first (empty_namespace name) domain process request)
+    → found_in (asked_of no_members process request None) (placed EntryPlace.Own 0 domain.entries) ≡ option_map found_of (first (empty_namespace name) domain process request)
 unfolding first entries_of
 alone_plain name domain process request h = rw (h, no_groups domain.groups, append-nil (placed EntryPlace.Own 0 domain.entries)) refl
 

@@ -3,20 +3,14 @@ use Rattle.std.proofs.Common.{◌≡◌, ℕ, zero, suc, ◌+◌, ◌<◌, ◌==
 use Rattle.std.specs.Prelude.{Option, Some, None, option_map, unwrap_or, slice_get, if◌then◌else◌}
 use Rattle.std.specs.Option.{option_or}
 use Rattle.std.specs.List.{AllByRecursion, find}
-use Rattle.tm_types.specs.declared.unions.Groups.{Groups}
-use Rattle.tm_types.specs.declared.entry.Args.{Args}
 use Rattle.tm_types.specs.declared.entry.Entry.{Entry}
 use Rattle.tm_types.specs.declared.verdict.EntryPlace.{EntryPlace}
 use Rattle.tm_types.specs.declared.verdict.Found.{Found}
-use Rattle.tm_types.specs.declared.request.Proc.{Proc}
-use Rattle.tm_types.specs.declared.request.Attributes.{Attributes}
-use Rattle.tm_types.specs.declared.request.Request.{Request}
-use Rattle.tm_types.specs.Request.{argument_words}
-use Rattle.tm_rules.specs.Condition.{first_of_all, is_execute}
+use Rattle.tm_rules.specs.Condition.{first_of_all}
 use Rattle.tm_rules.specs.Few.{IsShort}
 use Rattle.tm_rules.specs.Policy.{at_key}
-use Rattle.tm_rules.specs.Search.{granting, path_of, placed, found_of}
-use Rattle.tm_policy.specs.Searching.{found_in, acl_entries}
+use Rattle.tm_rules.specs.Search.{granting, placed, found_of}
+use Rattle.tm_policy.specs.Searching.{Asked, asked_request, found_in, acl_entries}
 
 or-or : {B : Type 0} (x y z : Option B) → option_or x (option_or y z) ≡ option_or (option_or x y) z
 or-or None y z = refl
@@ -32,10 +26,10 @@ map-or f None y = refl
 map-or f (Some x) y = refl
 
 -- what is found in the first list, else in the second
-pub found-append : (groups : Groups) (process : Proc) (request : Request) (xs ys : List (EntryPlace × Entry)) → found_in groups process request (xs ++ ys) ≡ option_or (found_in groups process request xs) (found_in groups process request ys)
-found-append groups process request xs ys =
-    ap (option_map found_of) (first-append (granting groups process request) xs ys)
-    ∙ map-or found_of (first_of_all (granting groups process request) xs) (first_of_all (granting groups process request) ys)
+pub found-append : (asked : Asked) (xs ys : List (EntryPlace × Entry)) → found_in asked (xs ++ ys) ≡ option_or (found_in asked xs) (found_in asked ys)
+found-append asked xs ys =
+    ap (option_map found_of) (first-append (granting asked.groups asked.process (asked_request asked)) xs ys)
+    ∙ map-or found_of (first_of_all (granting asked.groups asked.process (asked_request asked)) xs) (first_of_all (granting asked.groups asked.process (asked_request asked)) ys)
 
 -- each group's list is short
 pub short_group : (lists : List (ℕ × List Entry)) (group : ℕ) → AllByRecursion (λ (pair : ℕ × List Entry). IsShort pair.1) lists → (entries : List Entry) → at_key lists group ≡ Some entries → IsShort entries
@@ -60,39 +54,20 @@ pub no_groups : (members : List (ℕ × Unit {0})) → acl_entries [] members �
 no_groups [] = refl
 no_groups (m ∷ ms) = no_groups ms
 
-abbrev request_of : Args → ℕ → Attributes → Request
-request_of args perm attributes = record { args = args; perm = perm; attributes = attributes }
-
-first-name : (args : Args) (perm : ℕ) (attributes : Attributes) → is_execute (request_of args perm attributes) ≡ true → slice_get (argument_words args) 0 ≡ Some (path_of (request_of args perm attributes))
-first-name (Args.Path n) perm attributes h = refl
-first-name (Args.Execute n prefer) perm attributes h = absurd cc
-first-name (Args.PathNumber n k) perm attributes h = absurd cc
-first-name (Args.Device n a b c) perm attributes h = absurd cc
-first-name (Args.Path2 n m) perm attributes h = absurd cc
-first-name (Args.Mount d p k f) perm attributes h = absurd cc
-first-name (Args.Inet k a p) perm attributes h = absurd cc
-first-name (Args.Unix k n) perm attributes h = absurd cc
-first-name (Args.Env n) perm attributes h = absurd cc
-first-name (Args.Manual d) perm attributes h = absurd cc
-
--- the first name of an execute is its path
-pub execute_path : (request : Request) → is_execute request ≡ true → slice_get (argument_words request.args) 0 ≡ Some (path_of request)
-execute_path request h = first-name request.args request.perm request.attributes h
-
 -- the groups from one on: that one's list, and then the others'
-pub found_groups : (groups : Groups) (process : Proc) (request : Request) (lists : List (ℕ × List Entry)) (member : ℕ × Unit {0}) (members : List (ℕ × Unit {0}))
-    → found_in groups process request (acl_entries lists (member ∷ members))
-    ≡ option_or (found_in groups process request (placed (EntryPlace.Acl member.0) 0 (unwrap_or (at_key lists member.0) []))) (found_in groups process request (acl_entries lists members))
-found_groups groups process request lists member members =
-    found-append groups process request (placed (EntryPlace.Acl member.0) 0 (unwrap_or (at_key lists member.0) [])) (acl_entries lists members)
+pub found_groups : (asked : Asked) (lists : List (ℕ × List Entry)) (member : ℕ × Unit {0}) (members : List (ℕ × Unit {0}))
+    → found_in asked (acl_entries lists (member ∷ members))
+    ≡ option_or (found_in asked (placed (EntryPlace.Acl member.0) 0 (unwrap_or (at_key lists member.0) []))) (found_in asked (acl_entries lists members))
+found_groups asked lists member members =
+    found-append asked (placed (EntryPlace.Acl member.0) 0 (unwrap_or (at_key lists member.0) [])) (acl_entries lists members)
 
 -- the same at a place of the members
-pub groups_from : (groups : Groups) (process : Proc) (request : Request) (lists : List (ℕ × List Entry)) (members : List (ℕ × Unit {0})) (k : ℕ) (d : ℕ × Unit {0}) → k < length members
-    → found_in groups process request (acl_entries lists (drop k members))
-    ≡ option_or (found_in groups process request (placed (EntryPlace.Acl (get_or members k d).0) 0 (unwrap_or (at_key lists (get_or members k d).0) []))) (found_in groups process request (acl_entries lists (drop (suc k) members)))
-groups_from groups process request lists [] k d less = absurd (omega (arith, less))
-groups_from groups process request lists (m ∷ ms) zero d less = found_groups groups process request lists m ms
-groups_from groups process request lists (m ∷ ms) (suc k) d less = groups_from groups process request lists ms k d (omega (arith, less))
+pub groups_from : (asked : Asked) (lists : List (ℕ × List Entry)) (members : List (ℕ × Unit {0})) (k : ℕ) (d : ℕ × Unit {0}) → k < length members
+    → found_in asked (acl_entries lists (drop k members))
+    ≡ option_or (found_in asked (placed (EntryPlace.Acl (get_or members k d).0) 0 (unwrap_or (at_key lists (get_or members k d).0) []))) (found_in asked (acl_entries lists (drop (suc k) members)))
+groups_from asked lists [] k d less = absurd (omega (arith, less))
+groups_from asked lists (m ∷ ms) zero d less = found_groups asked lists m ms
+groups_from asked lists (m ∷ ms) (suc k) d less = groups_from asked lists ms k d (omega (arith, less))
 
 found_first : (x y : Option Found) (v : Found) → x ≡ Some v → option_or x y ≡ Some v
 found_first x y v e = rw e refl
@@ -101,27 +76,27 @@ found_next : (x y : Option Found) → x ≡ None → option_or x y ≡ y
 found_next x y e = rw e refl
 
 -- what is found in the group at this place is what is found
-pub found_here : (groups : Groups) (process : Proc) (request : Request) (lists : List (ℕ × List Entry)) (members : List (ℕ × Unit {0})) (k : ℕ) (d : ℕ × Unit {0}) (r : Option Found) (v : Found) → k < length members
-    → r ≡ found_in groups process request (placed (EntryPlace.Acl (get_or members k d).0) 0 (unwrap_or (at_key lists (get_or members k d).0) [])) → r ≡ Some v
-    → found_in groups process request (acl_entries lists (drop k members)) ≡ Some v
-found_here groups process request lists members k d r v less is e = groups_from groups process request lists members k d less ∙ found_first _ _ v (sym is ∙ e)
+pub found_here : (asked : Asked) (lists : List (ℕ × List Entry)) (members : List (ℕ × Unit {0})) (k : ℕ) (d : ℕ × Unit {0}) (r : Option Found) (v : Found) → k < length members
+    → r ≡ found_in asked (placed (EntryPlace.Acl (get_or members k d).0) 0 (unwrap_or (at_key lists (get_or members k d).0) [])) → r ≡ Some v
+    → found_in asked (acl_entries lists (drop k members)) ≡ Some v
+found_here asked lists members k d r v less is e = groups_from asked lists members k d less ∙ found_first _ _ v (sym is ∙ e)
 
 -- where nothing is found in the group at this place, the others are searched
-pub found_later : (groups : Groups) (process : Proc) (request : Request) (lists : List (ℕ × List Entry)) (members : List (ℕ × Unit {0})) (k : ℕ) (d : ℕ × Unit {0}) (r : Option Found) → k < length members
-    → r ≡ found_in groups process request (placed (EntryPlace.Acl (get_or members k d).0) 0 (unwrap_or (at_key lists (get_or members k d).0) [])) → r ≡ None
-    → found_in groups process request (acl_entries lists (drop k members)) ≡ found_in groups process request (acl_entries lists (drop (k + 1) members))
-found_later groups process request lists members k d r less is e =
+pub found_later : (asked : Asked) (lists : List (ℕ × List Entry)) (members : List (ℕ × Unit {0})) (k : ℕ) (d : ℕ × Unit {0}) (r : Option Found) → k < length members
+    → r ≡ found_in asked (placed (EntryPlace.Acl (get_or members k d).0) 0 (unwrap_or (at_key lists (get_or members k d).0) [])) → r ≡ None
+    → found_in asked (acl_entries lists (drop k members)) ≡ found_in asked (acl_entries lists (drop (k + 1) members))
+found_later asked lists members k d r less is e =
     let next : suc k ≡ k + 1 = omega arith in
-    groups_from groups process request lists members k d less ∙ found_next _ _ (sym is ∙ e) ∙ ap (λ n. found_in groups process request (acl_entries lists (drop n members))) next
+    groups_from asked lists members k d less ∙ found_next _ _ (sym is ∙ e) ∙ ap (λ n. found_in asked (acl_entries lists (drop n members))) next
 
 -- what is found in the first list is found in both
-pub found_own : (groups : Groups) (process : Proc) (request : Request) (xs ys : List (EntryPlace × Entry)) (r : Option Found) (found : Found)
-    → r ≡ found_in groups process request xs → r ≡ Some found → Some found ≡ found_in groups process request (xs ++ ys)
-found_own groups process request xs ys r found e is =
-    ap (λ (o : Option Found). option_or o (found_in groups process request ys)) (sym is ∙ e) ∙ sym (found-append groups process request xs ys)
+pub found_own : (asked : Asked) (xs ys : List (EntryPlace × Entry)) (r : Option Found) (found : Found)
+    → r ≡ found_in asked xs → r ≡ Some found → Some found ≡ found_in asked (xs ++ ys)
+found_own asked xs ys r found e is =
+    ap (λ (o : Option Found). option_or o (found_in asked ys)) (sym is ∙ e) ∙ sym (found-append asked xs ys)
 
 -- where nothing is found in the first list, what is found in the second one is found in both
-pub found_after : (groups : Groups) (process : Proc) (request : Request) (xs ys : List (EntryPlace × Entry)) (r s : Option Found)
-    → r ≡ found_in groups process request xs → r ≡ None → s ≡ found_in groups process request ys → s ≡ found_in groups process request (xs ++ ys)
-found_after groups process request xs ys r s e is h =
-    h ∙ ap (λ (o : Option Found). option_or o (found_in groups process request ys)) (sym is ∙ e) ∙ sym (found-append groups process request xs ys)
+pub found_after : (asked : Asked) (xs ys : List (EntryPlace × Entry)) (r s : Option Found)
+    → r ≡ found_in asked xs → r ≡ None → s ≡ found_in asked ys → s ≡ found_in asked (xs ++ ys)
+found_after asked xs ys r s e is h =
+    h ∙ ap (λ (o : Option Found). option_or o (found_in asked ys)) (sym is ∙ e) ∙ sym (found-append asked xs ys)

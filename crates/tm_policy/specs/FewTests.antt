@@ -10,4 +10,6 @@ is_short n = nat_lt n 4294967296
 
 -- the members of path groups and the entries of each ACL group
 abbrev pub has_short_lists : Namespace → Bool
-has_short_lists ns = is_short (length ns.groups.paths) && list_all (λ (group : ℕ × List Entry). is_short (length group.1)) ns.acl_groups
+has_short_lists ns =
+    is_short (length ns.groups.paths)
+    && list_all (λ (group : ℕ × List Entry). is_short (length group.1)) ns.acl_groups

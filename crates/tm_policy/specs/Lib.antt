@@ -1,2 +1,4 @@
 pub mod Searching
 pub mod FewTests
+pub mod Loading
+pub mod Counts

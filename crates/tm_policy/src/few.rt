@@ -18,7 +18,8 @@ fn is_short(length: usize) -> bool
 }
 
 fn have_short_entries(domains: &[Domain]) -> bool
-    ensures { result ≡ list_all (λ (domain : Domain). is_short (length domain.entries)) domains.now }
+    ensures { result ≡ list_all
+        (λ (domain : Domain). is_short (length domain.entries)) domains.now }
 {
     for domain in domains {
         if !is_short(domain.entries.len()) {

@@ -4,8 +4,8 @@ ghost use Rattle.tm_rules.specs.Few.{IsFew};
 ghost use Rattle.tm_rules.specs.Changes.{learn, make};
 
 use std::alloc::Global;
-use tm_domains::{domain_at, learn_known, live_domain, make_known};
-use tm_entries::{entry_place, has_line};
+use tm_change_domains::{domain_at, learn_known, live_domain, make_known};
+use tm_change_entries::{entry_place, has_line};
 use tm_learn::count;
 use tm_list::NoMemory;
 use tm_types::entry::Entry;
@@ -13,9 +13,10 @@ use tm_types::policy::Policy;
 use tm_types::step::{LearnReply, MakeReply};
 use tm_types::unions::DomainName;
 
-/// Learns a line in the domain of this number, and gives the reply: `Mode` where the mode isn't learning, else `There` where the
-/// domain has the line, else `Quota` where it is full, which raises its flag `quota_exceeded`, else `Added`. The domain and its profile
-/// are there. Counts the domain's permissions anew.
+/// Learns a line in the domain of this number, and gives the reply: `Mode` where the mode isn't
+/// learning, else `There` where the domain has the line, else `Quota` where it is full, which
+/// raises its flag `quota_exceeded`, else `Added`. The domain and its profile are there. Counts the
+/// domain's permissions anew.
 ///
 /// Errors: want of memory; the policy is then as before.
 pub fn apply_learn(
@@ -26,7 +27,8 @@ pub fn apply_learn(
 ) -> Result<LearnReply, NoMemory>
     requires few { IsFew policy.old }
     requires there { IsSome (learn policy.old domain entry.now) }
-    ensures done { IfOk result (λ reply. learn policy.old domain entry.now ≡ Some (policy.new, reply)) }
+    ensures done { IfOk result
+        (λ reply. learn policy.old domain entry.now ≡ Some (policy.new, reply)) }
     ensures kept { OnErr result (policy.new ≡ policy.old) }
     ensures few { IsFew policy.new }
 {
@@ -43,10 +45,12 @@ pub fn apply_learn(
     }
 }
 
-/// Makes a domain for a transition out of the domain of this number, whose profile and groups it takes: the reply is its number. A live
-/// domain of that name is taken instead. The domain and its profile are there.
+/// Makes a domain for a transition out of the domain of this number, whose profile and groups it
+/// takes: the reply is its number. A live domain of that name is taken instead. The domain and its
+/// profile are there.
 ///
-/// Errors: want of memory, also where the policy would have 2^32 domains; the policy is then as before.
+/// Errors: want of memory, also where the policy would have 2^32 domains; the policy is then as
+/// before.
 pub fn apply_make(
     alloc: Global,
     policy: &mut Policy,

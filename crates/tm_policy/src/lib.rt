@@ -1,27 +1,30 @@
-//! Policies: what a line, a learned line and a transition do to them, and the search for the entry that grants a request.
-//! Stands on tm_rules, whose definitions it computes, on tm_edit, tm_domains and tm_entries for changes, and on the crates of entries, profiles and names.
-//! Promises that a search finds the first entry that grants, and that a change is the defined one or, for want of memory, none.
+//! Policies as they are: what lines and Learns do to them, how they are searched and loaded.
+//! Stands on tm_rep, whose trait it keeps, on the crates tm_change_*, and on tm_policy_line.
+//! Promises that a change is the defined one or none, and that the first granting entry is found.
 #![tactic(auto)]
 
+mod counting;
+mod exceptions;
 mod few;
 mod granting;
+mod groups;
 mod learning;
+mod lines;
+mod loading;
 mod opening;
 mod plain;
-mod plainness;
-mod rep;
 mod scan;
 mod searching;
 
+pub use counting::count_live;
 pub use few::is_few;
-pub use granting::{entry_at, entry_grants, place_in};
+pub use granting::{Asked, place_in};
 pub use learning::{apply_learn, apply_make};
+pub use lines::{apply_line, apply_read};
+pub use loading::{first_without_profile, load, load_into};
 pub use opening::PolicyCalls;
 pub use plain::Plain;
-pub use plainness::is_plain;
-pub use rep::Rep;
 pub use scan::{ListSearch, Scan};
-pub use searching::{search, search_domain};
-pub use tm_domains::{apply_fail, domain_at, find_namespace, is_manager, live_domain, profile_of};
-pub use tm_edit::apply_line;
+pub use searching::{search, search_domain, search_in};
+pub use tm_change_domains::{apply_fail, is_manager};
 pub use tm_entry::{print_entry, read_entry};

@@ -5,11 +5,12 @@ ghost use Rattle.tm_rules.specs.Few.{IsFew};
 ghost use Rattle.tm_rules.specs.Load.{new_policy, wants_profile};
 
 use std::alloc::Global;
-use tm_domains::new_domain;
+use tm_change_domains::new_domain;
 use tm_list::{NoMemory, Seq};
 use tm_types::policy::Policy;
 
-/// The calls of `Policy` that stand on the rules, beside its type: what it is at first, and how it is opened.
+/// The calls of `Policy` that stand on the rules, beside its type: what it is at first, and how it
+/// is opened.
 pub trait PolicyCalls: Sized {
     ghost can_open: { Self → Type 0 };
 

@@ -2,13 +2,14 @@
 ghost use Rattle.std.specs.Prelude.{◌≡◌};
 
 use crate::learning::{apply_learn, apply_make};
-use crate::rep::Rep;
-use crate::searching::search;
+use crate::lines::apply_line;
+use crate::scan::Scan;
+use crate::searching::{search, search_in};
 use std::alloc::Global;
 use std::marker::Model;
-use tm_domains::{apply_fail, live_domain};
-use tm_edit::apply_line;
+use tm_change_domains::{Standing, apply_fail, live_domain};
 use tm_list::{Copied, NoMemory};
+use tm_rep::Rep;
 use tm_types::entry::Entry;
 use tm_types::policy::{Cursor, Policy};
 use tm_types::request::{Proc, Request};
@@ -48,6 +49,16 @@ impl Rep for Plain {
 
     fn search(&self, domain: u32, process: &Proc, request: &Request) -> Option<Found> {
         search(&self.policy, domain, process, request)
+    }
+
+    #[tactic(auto, using(tm_change_domains::proofs::Standings::few_here, tm_change_domains::proofs::Standings::few_own))]
+    fn search_in(
+        &self,
+        standing: &Standing<'_>,
+        process: &Proc,
+        request: &Request,
+    ) -> Option<Found> {
+        search_in(&Scan, standing.namespace, standing.domain, process, request)
     }
 
     fn live_domain(&self, name: &DomainName) -> Option<u32> {

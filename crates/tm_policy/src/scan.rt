@@ -1,19 +1,15 @@
 //! How one list of entries is searched.
-ghost use Rattle.std.specs.Prelude.{◌≡◌, true, IsSome};
-ghost use Rattle.std.specs.Option.{option_copied};
+ghost use Rattle.std.specs.Prelude.{◌≡◌};
 ghost use Rattle.tm_rules.specs.Few.{IsShort};
-ghost use Rattle.tm_rules.specs.Condition.{is_execute};
 ghost use Rattle.tm_rules.specs.Search.{placed};
-ghost use Rattle.tm_policy.specs.Searching.{asked_as, place_in, found_in};
+ghost use Rattle.tm_policy.specs.Searching.{place_in, found_in};
 
-use crate::granting::{entry_grants, place_in};
+use crate::granting::{Asked, place_in};
 use tm_types::entry::Entry;
-use tm_types::request::{Proc, Request};
-use tm_types::unions::Groups;
 use tm_types::verdict::Found;
-use tm_word::Word;
 
-/// How the lists of entries that a domain is searched in are searched: its own, and those of its ACL groups.
+/// How the lists of entries that a domain is searched in are searched: its own, and those of its
+/// ACL groups.
 pub trait ListSearch {
     ghost use Rattle.std.specs.Prelude.{ℕ, List, Option};
     ghost use Rattle.tm_types.specs.declared.entry.Entry.{Entry};
@@ -21,22 +17,12 @@ pub trait ListSearch {
     // Which lists it can search: the domain's own for None, else that of an ACL group.
     ghost knows: { Self → Option ℕ → List Entry → Type 0 };
 
-    /// What is found first in one list: the domain's own for None, else that of an ACL group. Takes no memory.
-    fn first_in(
-        &self,
-        groups: &Groups,
-        process: &Proc,
-        request: &Request,
-        path: Option<&Word>,
-        group: Option<u8>,
-        entries: &[Entry],
-    ) -> Option<Found>
-        requires few { IsShort groups.now.paths }
+    /// What is found first in one list: the domain's own for None, else that of an ACL group. Takes
+    /// no memory.
+    fn first_in(&self, asked: &Asked<'_>, group: Option<u8>, entries: &[Entry]) -> Option<Found>
         requires short { IsShort entries.now }
-        requires execute { IsSome (option_copied path) → is_execute request.now ≡ true }
         requires known { knows self.now group entries.now }
-        ensures { result ≡ found_in groups.now process.now (asked_as request.now (option_copied path.entry))
-            (placed (place_in group) 0 entries.now) };
+        ensures { result ≡ found_in asked.now (placed (place_in group) 0 entries.now) };
 }
 
 /// A search that scans every list.
@@ -46,17 +32,9 @@ pub struct Scan;
 impl ListSearch for Scan {
     ghost knows = { λ scan group entries. Unit {0} };
 
-    fn first_in(
-        &self,
-        groups: &Groups,
-        process: &Proc,
-        request: &Request,
-        path: Option<&Word>,
-        group: Option<u8>,
-        entries: &[Entry],
-    ) -> Option<Found> {
+    fn first_in(&self, asked: &Asked<'_>, group: Option<u8>, entries: &[Entry]) -> Option<Found> {
         for (place, entry) in entries.iter().enumerate() {
-            if let Some(name) = entry_grants(groups, process, request, path, entry) {
+            if let Some(name) = asked.granted_by(entry) {
                 return Some(Found {
                     place: place_in(group, place as u32),
                     name,

@@ -1,56 +1,41 @@
 //! The search for the first entry that grants a request, list by list.
-ghost use Rattle.std.specs.Prelude.{◌≡◌, ◌++◌, ℕ, List, [], true, Some, None, IsSome, option_map, unwrap_or};
-ghost use Rattle.std.specs.Option.{option_copied, option_or};
-ghost use Rattle.std.specs.List.{AllByRecursion, find};
+ghost use Rattle.std.specs.Prelude.{◌≡◌, ◌++◌, ℕ, List, [], true, Some, None, option_map, unwrap_or};
+ghost use Rattle.std.specs.List.{AllByRecursion};
 ghost use Rattle.tm_types.specs.declared.entry.Entry.{Entry};
-ghost use Rattle.tm_types.specs.declared.policy.Namespace.{Namespace};
-ghost use Rattle.tm_word.specs.Texts.{texts_equal};
 ghost use Rattle.tm_rules.specs.Few.{IsShort, IsFewHere, IsFew};
 ghost use Rattle.tm_rules.specs.Condition.{is_execute};
-ghost use Rattle.tm_rules.specs.Policy.{at_key, namespace_word, namespace_of, empty_namespace};
+ghost use Rattle.tm_rules.specs.Policy.{at_key, namespace_of, empty_namespace};
 ghost use Rattle.tm_rules.specs.Search.{aggregated, path_of, placed, first, found, found_of};
-ghost use Rattle.tm_policy.specs.Searching.{asked_as, found_in, acl_entries};
+ghost use Rattle.tm_policy.specs.Searching.{found_in, acl_entries, KnowsGroups};
 
+use crate::granting::Asked;
 use crate::scan::{ListSearch, Scan};
+use tm_change_domains::find_namespace;
 use tm_domain::namespace;
-use tm_domains::find_namespace;
-use tm_except::aggregated;
 use tm_list::{Map, Seq};
+use tm_rep::executed_name;
 use tm_rules::is_execute;
 use tm_types::entry::Entry;
 use tm_types::policy::{Domain, Namespace, Policy};
 use tm_types::request::{Proc, Request};
 use tm_types::unions::Groups;
 use tm_types::verdict::{EntryPlace, Found};
-use tm_word::{Word, bytes_equal};
 
 // What is found first in the list of an ACL group, which may be without lines.
 #[tactic(auto, using(crate::proofs::Lists::short_group))]
 fn first_in_group<L: ListSearch>(
     scan: &L,
-    groups: &Groups,
-    process: &Proc,
-    request: &Request,
-    path: Option<&Word>,
+    asked: &Asked<'_>,
     lists: &Map<u8, Seq<Entry>>,
     group: u8,
 ) -> Option<Found>
-    requires few { IsShort groups.now.paths }
     requires short { AllByRecursion (λ (pair : ℕ × List Entry). IsShort pair.1) lists.now }
-    requires execute { IsSome (option_copied path) → is_execute request.now ≡ true }
-    requires known { (number : ℕ) → (entries : List Entry) → at_key lists.now number ≡ Some entries →
-        L.knows scan.now (Some number) entries }
-    ensures { result ≡ found_in groups.now process.now (asked_as request.now (option_copied path.entry)) (placed (EntryPlace.Acl group) 0 (unwrap_or (at_key lists.now group) [])) }
+    requires known { KnowsGroups (L.knows scan.now) lists.now }
+    ensures { result ≡ found_in asked.now
+        (placed (EntryPlace.Acl group) 0 (unwrap_or (at_key lists.now group) [])) }
 {
     match lists.get(&group) {
-        Some(entries) => scan.first_in(
-            groups,
-            process,
-            request,
-            path,
-            Some(group),
-            entries.as_slice(),
-        ),
+        Some(entries) => scan.first_in(asked, Some(group), entries.as_slice()),
         None => None,
     }
 }
@@ -59,22 +44,16 @@ fn first_in_group<L: ListSearch>(
 #[tactic(auto, using(crate::proofs::Lists::found_groups))]
 fn first_in_groups<L: ListSearch>(
     scan: &L,
-    groups: &Groups,
-    process: &Proc,
-    request: &Request,
-    path: Option<&Word>,
+    asked: &Asked<'_>,
     lists: &Map<u8, Seq<Entry>>,
     members: &[(u8, ())],
 ) -> Option<Found>
-    requires few { IsShort groups.now.paths }
     requires short { AllByRecursion (λ (pair : ℕ × List Entry). IsShort pair.1) lists.now }
-    requires execute { IsSome (option_copied path) → is_execute request.now ≡ true }
-    requires known { (number : ℕ) → (entries : List Entry) → at_key lists.now number ≡ Some entries →
-        L.knows scan.now (Some number) entries }
-    ensures { result ≡ found_in groups.now process.now (asked_as request.now (option_copied path.entry)) (acl_entries lists.now members.now) }
+    requires known { KnowsGroups (L.knows scan.now) lists.now }
+    ensures { result ≡ found_in asked.now (acl_entries lists.now members.now) }
 {
     for (group, _) in members {
-        if let Some(found) = first_in_group(scan, groups, process, request, path, lists, *group) {
+        if let Some(found) = first_in_group(scan, asked, lists, *group) {
             return Some(found);
         }
     }
@@ -85,116 +64,80 @@ fn first_in_groups<L: ListSearch>(
 #[tactic(auto, using(crate::proofs::Lists::found_own, crate::proofs::Lists::found_after))]
 fn first_in_domain<L: ListSearch>(
     scan: &L,
-    groups: &Groups,
-    process: &Proc,
-    request: &Request,
-    path: Option<&Word>,
+    asked: &Asked<'_>,
     lists: &Map<u8, Seq<Entry>>,
     domain: &Domain,
 ) -> Option<Found>
-    requires few { IsShort groups.now.paths }
     requires own { IsShort domain.now.entries }
     requires short { AllByRecursion (λ (pair : ℕ × List Entry). IsShort pair.1) lists.now }
-    requires execute { IsSome (option_copied path) → is_execute request.now ≡ true }
     requires known_own { L.knows scan.now None domain.now.entries }
-    requires known { (number : ℕ) → (entries : List Entry) → at_key lists.now number ≡ Some entries →
-        L.knows scan.now (Some number) entries }
-    ensures { result ≡ found_in groups.now process.now (asked_as request.now (option_copied path.entry)) (placed EntryPlace.Own 0 domain.now.entries ++ acl_entries lists.now domain.now.groups) }
+    requires known { KnowsGroups (L.knows scan.now) lists.now }
+    ensures { result ≡ found_in asked.now (placed EntryPlace.Own 0 domain.now.entries
+        ++ acl_entries lists.now domain.now.groups) }
 {
-    let own = scan.first_in(
-        groups,
-        process,
-        request,
-        path,
-        None,
-        domain.entries.as_slice(),
-    );
+    let own = scan.first_in(asked, None, domain.entries.as_slice());
     match own {
         Some(found) => Some(found),
-        None => first_in_groups(
-            scan,
-            groups,
-            process,
-            request,
-            path,
-            lists,
-            domain.groups.as_slice(),
-        ),
+        None => first_in_groups(scan, asked, lists, domain.groups.as_slice()),
     }
 }
 
-// The search in a domain of a namespace.
-fn search_in<L: ListSearch>(
+/// The first entry that grants the request of a process in a domain of a namespace, where each list
+/// is searched as `scan` does, which knows the domain's own list and those of the namespace's ACL
+/// groups. Takes no memory.
+pub fn search_in<'a, L: ListSearch>(
     scan: &L,
-    namespace: &Namespace,
+    namespace: &'a Namespace,
     domain: &Domain,
-    process: &Proc,
-    request: &Request,
+    process: &'a Proc,
+    request: &'a Request,
 ) -> Option<Found>
     requires few { IsFewHere namespace.now }
     requires own { IsShort domain.now.entries }
     requires known_own { L.knows scan.now None domain.now.entries }
-    requires known { (number : ℕ) → (entries : List Entry) → at_key namespace.now.acl_groups number ≡ Some entries →
-        L.knows scan.now (Some number) entries }
-    ensures { result ≡ option_map found_of (first namespace.now domain.now process.now request.now) }
+    requires known { KnowsGroups (L.knows scan.now) namespace.now.acl_groups }
+    ensures { result
+        ≡ option_map found_of (first namespace.now domain.now process.now request.now) }
 {
     let groups = &namespace.groups;
     let lists = &namespace.acl_groups;
     if is_execute(request) {
-        match request.name(0) {
-            Some(path) => first_in_domain(
-                scan,
-                groups,
-                process,
-                request,
-                Some(aggregated(namespace, path)),
-                lists,
-                domain,
-            ),
-            None => unreachable!(),
-        }
+        let name = executed_name(namespace, request);
+        let asked = Asked::new(groups, process, request, Some(name));
+        first_in_domain(scan, &asked, lists, domain)
     } else {
-        first_in_domain(scan, groups, process, request, None, lists, domain)
+        let asked = Asked::new(groups, process, request, None);
+        first_in_domain(scan, &asked, lists, domain)
     }
 }
 
 // The search in a domain whose namespace has no line.
-fn search_alone<L: ListSearch>(
+fn search_alone<'a, L: ListSearch>(
     scan: &L,
-    groups: &Groups,
+    groups: &'a Groups,
     domain: &Domain,
-    process: &Proc,
-    request: &Request,
+    process: &'a Proc,
+    request: &'a Request,
 ) -> Option<Found>
     requires groups { groups.now ≡ record { paths = []; numbers = []; addrs = [] } }
     requires own { IsShort domain.now.entries }
     requires known_own { L.knows scan.now None domain.now.entries }
-    ensures { (name : List ℕ) → result ≡ option_map found_of (first (empty_namespace name) domain.now process.now request.now) }
+    ensures { (name : List ℕ) → result
+        ≡ option_map found_of (first (empty_namespace name) domain.now process.now request.now) }
 {
     if is_execute(request) {
-        scan.first_in(
-            groups,
-            process,
-            request,
-            request.name(0),
-            None,
-            domain.entries.as_slice(),
-        )
+        let asked = Asked::new(groups, process, request, request.name(0));
+        scan.first_in(&asked, None, domain.entries.as_slice())
     } else {
-        scan.first_in(
-            groups,
-            process,
-            request,
-            None,
-            None,
-            domain.entries.as_slice(),
-        )
+        let asked = Asked::new(groups, process, request, None);
+        scan.first_in(&asked, None, domain.entries.as_slice())
     }
 }
 
-/// The first entry that grants the request of a process in the domain of this number: the domain's own entries in order, then those
-/// of its ACL groups by rising number. The path of an execute is looked up by its aggregated name. None exactly where no entry
-/// grants the request, or the domain isn't there. Scans the lists. Takes no memory.
+/// The first entry that grants the request of a process in the domain of this number: the domain's
+/// own entries in order, then those of its ACL groups by rising number. The path of an execute is
+/// looked up by its aggregated name. None exactly where no entry grants the request, or the domain
+/// isn't there. Scans the lists. Takes no memory.
 pub fn search(policy: &Policy, domain: u32, process: &Proc, request: &Request) -> Option<Found>
     requires { IsFew policy.now }
     ensures { result ≡ found policy.now domain process.now request.now }
@@ -205,8 +148,8 @@ pub fn search(policy: &Policy, domain: u32, process: &Proc, request: &Request) -
     }
 }
 
-/// The first entry that grants the request of a process in a domain of a policy, where each list is searched as `scan` does, which knows
-/// the domain's own list and those of the ACL groups of its namespace. Takes no memory.
+/// The first entry that grants the request of a process in a domain of a policy, as `search_in`
+/// finds it in the domain's namespace. Takes no memory.
 pub fn search_domain<L: ListSearch>(
     scan: &L,
     policy: &Policy,
@@ -217,9 +160,10 @@ pub fn search_domain<L: ListSearch>(
     requires few { IsFew policy.now }
     requires own { IsShort domain.now.entries }
     requires known_own { L.knows scan.now None domain.now.entries }
-    requires known { (number : ℕ) → (entries : List Entry) → at_key (namespace_of policy.now domain.now).acl_groups number ≡ Some entries →
-        L.knows scan.now (Some number) entries }
-    ensures { result ≡ option_map found_of (first (namespace_of policy.now domain.now) domain.now process.now request.now) }
+    requires known { KnowsGroups (L.knows scan.now)
+        (namespace_of policy.now domain.now).acl_groups }
+    ensures { result ≡ option_map found_of
+        (first (namespace_of policy.now domain.now) domain.now process.now request.now) }
 {
     match find_namespace(policy.namespaces.as_slice(), namespace(&domain.name)) {
         Some(namespace) => search_in(scan, namespace, domain, process, request),

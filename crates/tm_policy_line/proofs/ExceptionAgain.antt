@@ -1,4 +1,5 @@
--- Exception lines: their printed words are read as that line, and those of ACL groups as the entry's line.
+-- Exception lines: their printed words are read as that line, and those of ACL groups as the
+-- entry's line.
 use Rattle.std.proofs.Common.{◌≡◌, ℕ, ◌<◌, nat_lt, Bool, true, List, [], ◌∷◌, Result, Ok, refl, ap, ◌∙◌}
 use Rattle.std.proofs.lemmas.Bool.{lt-ltb}
 use Rattle.tm_word.specs.Words.{Text}

@@ -2,6 +2,7 @@
 use Rattle.std.specs.Prelude.{ℕ, ◌&&◌, ◌||◌, not, if◌then◌else◌, Bool, true, false, List, [], ◌∷◌, codes, Result, Ok, Err}
 use Rattle.tm_word.specs.Words.{Text}
 use Rattle.tm_word.specs.Spelling.{words_of}
+use Rattle.tm_types.specs.declared.entry.Entry.{Entry}
 use Rattle.tm_types.specs.declared.entry.LineKind.{LineKind}
 use Rattle.tm_types.specs.declared.policy.DomainRule.{DomainRule}
 use Rattle.tm_types.specs.declared.policy.ExceptLine.{ExceptLine}
@@ -32,18 +33,23 @@ name_rule rule words = domain_to_end words >>= λ name. Ok (rule name)
 abbrev pub number_rule : (ℕ → DomainRule) → List Text → Result DomainRule LineKind
 number_rule rule words = word_at (plain_word 256) words >>= λ n. ended (rule n.0) n.1
 
--- an ACL line, or a word that is no leading word; an unfinished one as the last word is a missing word
+-- an ACL line, or a word that is no leading word; an unfinished one as the last word is a missing
+-- word
 abbrev pub acl_rule : Bool → Bool → List Text → Result DomainRule LineKind
 acl_rule true delete words = Err LineKind.Arity
 acl_rule false delete words = entry_of words >>= λ entry. Ok (DomainRule.Acl delete entry)
 
 -- `use_group` or a flag begins so
 unfoldable pub begins_setting : Text → Bool
-begins_setting word = begins word (codes "use_group") || begins word (codes "quota_exceeded") || begins word (codes "transition_failed")
+begins_setting word =
+    begins word (codes "use_group") || begins word (codes "quota_exceeded")
+    || begins word (codes "transition_failed")
 
 -- a leading word but those of ACL lines begins so
 unfoldable pub begins_domain : Text → Bool
-begins_domain word = begins word (codes "select") || begins word (codes "delete") || begins word (codes "use_profile") || begins_setting word
+begins_domain word =
+    begins word (codes "select") || begins word (codes "delete")
+    || begins word (codes "use_profile") || begins_setting word
 
 -- the group, the flag or the ACL line that is added, or removed after `delete`
 unfoldable pub setting_rule : Bool → Bool → Text → List Text → Result DomainRule LineKind
@@ -58,12 +64,15 @@ setting_rule unfinished delete word words =
 
 -- `<kernel>` is never deleted
 unfoldable pub delete_domain : DomainName → Result DomainRule LineKind
-delete_domain name = if texts_equal name kernel then Err LineKind.KernelDomain else Ok (DomainRule.Delete name)
+delete_domain name =
+    if texts_equal name kernel then Err LineKind.KernelDomain else Ok (DomainRule.Delete name)
 
 -- what stands after `delete`
 unfoldable pub delete_rule : List Text → Result DomainRule LineKind
 delete_rule [] = Err LineKind.Arity
-delete_rule (word ∷ words) = if opens word then domain_to_end (word ∷ words) >>= delete_domain else setting_rule (begins_setting word) true word words
+delete_rule (word ∷ words) =
+    if opens word then domain_to_end (word ∷ words) >>= delete_domain
+    else setting_rule (begins_setting word) true word words
 
 -- a line of the domain policy: its first word, and the others
 unfoldable pub domain_rule : Text → List Text → Result DomainRule LineKind
@@ -82,7 +91,8 @@ domain_rule word words =
 
 -- `delete` may stand at the very front alone
 unfoldable pub begins_manager : Bool → Text → Bool
-begins_manager first word = begins word (codes "manage_by_non_root") || first && begins word (codes "delete")
+begins_manager first word =
+    begins word (codes "manage_by_non_root") || first && begins word (codes "delete")
 
 -- `manage_by_non_root`, a domain name, or one literal path; its text is kept as it is written
 unfoldable pub manager_rule : Bool → List Text → Result ManagerRule LineKind
@@ -104,6 +114,12 @@ manager_of words =
 
 -- Lines of any file
 
+-- the line of an ACL group with its entry
+abbrev pub with_group : ExceptLine → ℕ → Entry → PolicyLine
+with_group line n entry =
+    PolicyLine.Group
+    (record { delete = line.delete; namespace = line.namespace; group = n; entry = entry })
+
 -- the line of an ACL group is read as an ACL line; every other rule is done as it is
 abbrev pub with_entry : ExceptLine → ExceptRule → Result PolicyLine LineKind
 with_entry line (ExceptRule.PathGroup name member) = Ok (PolicyLine.Exception line)
@@ -111,15 +127,19 @@ with_entry line (ExceptRule.NumberGroup name member) = Ok (PolicyLine.Exception 
 with_entry line (ExceptRule.AddressGroup name member) = Ok (PolicyLine.Exception line)
 with_entry line (ExceptRule.Aggregator one other) = Ok (PolicyLine.Exception line)
 with_entry line (ExceptRule.Control control) = Ok (PolicyLine.Exception line)
-with_entry line (ExceptRule.Acl n words) = entry_of words >>= λ entry. Ok (PolicyLine.Group (record { delete = line.delete; namespace = line.namespace; group = n; entry = entry }))
+with_entry line (ExceptRule.Acl n words) = entry_of words >>= λ entry. Ok (with_group line n entry)
 
 -- the line of a file with these words; without words it does nothing
 unfoldable pub read_words : FileKind → List Text → Result PolicyLine LineKind
 read_words file [] = Ok PolicyLine.Nothing
-read_words FileKind.Profile (word ∷ words) = profile_of (word ∷ words) >>= λ line. Ok (PolicyLine.Profile line)
-read_words FileKind.Exception (word ∷ words) = except_of (word ∷ words) >>= λ line. with_entry line line.rule
-read_words FileKind.Domain (word ∷ words) = domain_rule word words >>= λ rule. Ok (PolicyLine.Domain rule)
-read_words FileKind.Manager (word ∷ words) = manager_of (word ∷ words) >>= λ found. Ok (PolicyLine.Manager found.0 found.1)
+read_words FileKind.Profile (word ∷ words) =
+    profile_of (word ∷ words) >>= λ line. Ok (PolicyLine.Profile line)
+read_words FileKind.Exception (word ∷ words) =
+    except_of (word ∷ words) >>= λ line. with_entry line line.rule
+read_words FileKind.Domain (word ∷ words) =
+    domain_rule word words >>= λ rule. Ok (PolicyLine.Domain rule)
+read_words FileKind.Manager (word ∷ words) =
+    manager_of (word ∷ words) >>= λ found. Ok (PolicyLine.Manager found.0 found.1)
 
 -- the line of a file that a text writes
 unfoldable pub read_line : FileKind → Text → Result PolicyLine LineKind

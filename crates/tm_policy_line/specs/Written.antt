@@ -26,7 +26,8 @@ is_manager_text text = is_domain_name is_path text || is_literal_text text
 unfoldable pub is_domain_rule : DomainRule → Bool
 is_domain_rule (DomainRule.Choose name) = is_domain_name is_path name
 is_domain_rule (DomainRule.Select name) = is_domain_name is_path name
-is_domain_rule (DomainRule.Delete name) = is_domain_name is_path name && not (texts_equal name kernel)
+is_domain_rule (DomainRule.Delete name) =
+    is_domain_name is_path name && not (texts_equal name kernel)
 is_domain_rule (DomainRule.UseProfile n) = nat_lt n 256
 is_domain_rule (DomainRule.UseGroup delete n) = nat_lt n 256
 is_domain_rule (DomainRule.QuotaExceeded delete) = true
@@ -45,7 +46,9 @@ is_written_rule rule = is_rule rule && is_listed rule
 abbrev pub IsWrittenLine : PolicyLine → Type 0
 IsWrittenLine PolicyLine.Nothing = Unit {0}
 IsWrittenLine (PolicyLine.Profile line) = IsNamespaceWord line.namespace × IsEffect line.effect
-IsWrittenLine (PolicyLine.Exception line) = IsNamespaceWord line.namespace × (is_written_rule line.rule ≡ true)
-IsWrittenLine (PolicyLine.Group line) = IsNamespaceWord line.namespace × (line.group < 256) × (is_entry line.entry ≡ true)
+IsWrittenLine (PolicyLine.Exception line) =
+    IsNamespaceWord line.namespace × (is_written_rule line.rule ≡ true)
+IsWrittenLine (PolicyLine.Group line) =
+    IsNamespaceWord line.namespace × (line.group < 256) × (is_entry line.entry ≡ true)
 IsWrittenLine (PolicyLine.Domain rule) = is_domain_rule rule ≡ true
 IsWrittenLine (PolicyLine.Manager delete rule) = is_manager_rule rule ≡ true

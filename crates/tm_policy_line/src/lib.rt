@@ -1,6 +1,6 @@
 //! One line of any policy file, read, and the printed lines of domains, managers and ACL groups.
-//! Stands on tm_entry, tm_except and tm_profile, whose lines it joins, and on tm_line for the steps of lines.
-//! Promises that reading is the grammar with the kind of the first wrong word, that each printer appends the one line, and that what is printed is read again as that line.
+//! It stands on `tm_entry`, `tm_except` and `tm_profile`, whose lines it joins, and on `tm_line`.
+//! It promises the grammar with its first fault, and one line for each rule that is read again.
 #![tactic(auto)]
 
 mod laws;

@@ -3,7 +3,7 @@ ghost use Rattle.std.specs.Prelude.{◌≡◌, ◌∷◌};
 ghost use Rattle.tm_word.specs.Gives.{Gives, GivesNow};
 ghost use Rattle.tm_line.specs.Lines.{line_cause, word_at};
 ghost use Rattle.tm_line.specs.Arguments.{plain_word};
-ghost use Rattle.tm_policy_line.specs.Reading.{number_rule, acl_rule, begins_setting, begins_domain, setting_rule, delete_domain, delete_rule, domain_rule, begins_manager, manager_rule, manager_of, with_entry, read_words, read_line};
+ghost use Rattle.tm_policy_line.specs.Reading.{number_rule, acl_rule, begins_setting, begins_domain, setting_rule, delete_domain, delete_rule, domain_rule, begins_manager, manager_rule, manager_of, with_group, with_entry, read_words, read_line};
 
 use std::alloc::Global;
 use tm_entry::read_entry;
@@ -11,7 +11,7 @@ use tm_except::{literal_word, read_exception};
 use tm_line::{domain_to_end, ended, keyword_kind, opens, option_at, small_number};
 use tm_list::Copied;
 use tm_profile::read_profile_line;
-use tm_types::entry::LineKind;
+use tm_types::entry::{Entry, LineKind};
 use tm_types::policy::{DomainRule, ExceptLine, ExceptRule, GroupLine, ManagerRule, PolicyLine};
 use tm_types::step::{FileKind, LineFault};
 use tm_types::unions::DomainName;
@@ -19,7 +19,8 @@ use tm_word::{Text, begins, begins_with, bytes_equal, normal_words};
 
 /// A number from 0 to 255 as the first word, and the words after it.
 fn number_at(words: &[Text]) -> Result<(u8, &[Text]), LineFault>
-    ensures { GivesNow line_cause (λ x. (x.0, x.1.now)) result (word_at (plain_word 256) words.now) }
+    ensures { GivesNow line_cause (λ x. (x.0, x.1.now)) result
+        (word_at (plain_word 256) words.now) }
 {
     match words {
         [] => Err(LineFault::Kind(LineKind::Arity)),
@@ -37,14 +38,15 @@ fn profile_rule(words: &[Text]) -> Result<DomainRule, LineFault>
 
 /// An ACL group that a domain uses, or no more after `delete`.
 fn group_rule(delete: bool, words: &[Text]) -> Result<DomainRule, LineFault>
-    ensures { GivesNow line_cause (λ x. x) result (number_rule (DomainRule.UseGroup delete) words.now) }
+    ensures { GivesNow line_cause (λ x. x) result
+        (number_rule (DomainRule.UseGroup delete) words.now) }
 {
     let (number, rest) = number_at(words)?;
     ended(DomainRule::UseGroup(delete, number), rest)
 }
 
-/// The rule of an ACL line, of which these are the words; `unfinished` says whether the one word is an unfinished keyword of another
-/// line.
+/// The rule of an ACL line, of which these are the words; `unfinished` says whether the one word is
+/// an unfinished keyword of another line.
 fn acl_rule(
     alloc: Global,
     unfinished: bool,
@@ -64,13 +66,9 @@ fn acl_rule(
 fn begins_setting(word: &[u8]) -> bool
     ensures { result ≡ begins_setting word.now }
 {
-    if begins(word, b"use_group") {
-        return true;
-    }
-    if begins(word, b"quota_exceeded") {
-        return true;
-    }
-    begins(word, b"transition_failed")
+    begins(word, b"use_group")
+        || begins(word, b"quota_exceeded")
+        || begins(word, b"transition_failed")
 }
 
 /// Whether a leading word but those of ACL lines begins so.
@@ -78,19 +76,14 @@ fn begins_setting(word: &[u8]) -> bool
 fn begins_domain(word: &[u8]) -> bool
     ensures { result ≡ begins_domain word.now }
 {
-    if begins(word, b"select") {
-        return true;
-    }
-    if begins(word, b"delete") {
-        return true;
-    }
-    if begins(word, b"use_profile") {
-        return true;
-    }
-    begins_setting(word)
+    begins(word, b"select")
+        || begins(word, b"delete")
+        || begins(word, b"use_profile")
+        || begins_setting(word)
 }
 
-/// The group, the flag or the ACL line that is added, or removed after `delete`, of these words, which are the first one and the rest;
+/// The group, the flag or the ACL line that is added, or removed after `delete`, of these words,
+/// which are the first one and the rest;
 /// `unfinished` says whether the first one begins a keyword that may stand there.
 #[tactic(auto, unfolding(crate::specs::Reading::setting_rule))]
 fn setting_rule(
@@ -175,10 +168,7 @@ fn domain_rule(
 fn begins_manager(first: bool, word: &[u8]) -> bool
     ensures { result ≡ begins_manager first word.now }
 {
-    if begins(word, b"manage_by_non_root") {
-        return true;
-    }
-    first && begins(word, b"delete")
+    begins(word, b"manage_by_non_root") || (first && begins(word, b"delete"))
 }
 
 /// The rule of a manager line, without its `delete`.
@@ -215,26 +205,31 @@ fn manager_of(alloc: Global, words: &[Text]) -> Result<(bool, ManagerRule), Line
     Ok((delete, rule))
 }
 
+/// The line of an ACL group, with its entry.
+fn group_line(line: ExceptLine, group: u8, entry: Entry) -> PolicyLine
+    ensures { result ≡ with_group line group entry }
+{
+    PolicyLine::Group(GroupLine {
+        delete: line.delete,
+        namespace: line.namespace,
+        group,
+        entry,
+    })
+}
+
 /// An exception line, of which the line of an ACL group is read as an ACL line.
 fn with_entry(alloc: Global, line: ExceptLine) -> Result<PolicyLine, LineFault>
     ensures { Gives line_cause (λ x. x) result (with_entry line line.rule) }
 {
     match &line.rule {
-        ExceptRule::PathGroup(_, _)
-        | ExceptRule::NumberGroup(_, _)
-        | ExceptRule::AddressGroup(_, _)
-        | ExceptRule::Aggregator(_, _)
-        | ExceptRule::Control(_) => Ok(PolicyLine::Exception(line)),
         ExceptRule::Acl(number, words) => {
             let group = *number;
-            let entry = read_entry(alloc, words.as_slice())?;
-            Ok(PolicyLine::Group(GroupLine {
-                delete: line.delete,
-                namespace: line.namespace,
-                group,
-                entry,
-            }))
+            match read_entry(alloc, words.as_slice()) {
+                Ok(entry) => Ok(group_line(line, group, entry)),
+                Err(fault) => Err(fault),
+            }
         }
+        _ => Ok(PolicyLine::Exception(line)),
     }
 }
 
@@ -260,14 +255,16 @@ fn read_words(alloc: Global, file: FileKind, words: &[Text]) -> Result<PolicyLin
     }
 }
 
-/// Reads a line of a policy file, whatever its bytes are; a line without words does nothing. A line of the profile or the exception
-/// policy is what tm_profile and tm_except read, and that of an ACL group has its entry. A line of the domain policy chooses, selects
-/// or deletes a domain by its name, gives it a profile, or adds or removes an ACL group, a flag or an entry. A manager line adds or
-/// removes `manage_by_non_root`, a domain name or a literal path.
+/// Reads a line of a policy file, whatever its bytes are; a line without words does nothing. A line
+/// of the profile or the exception policy is what tm_profile and tm_except read, and that of an ACL
+/// group has its entry. A line of the domain policy chooses, selects or deletes a domain by its
+/// name, gives it a profile, or adds or removes an ACL group, a flag or an entry. A manager line
+/// adds or removes `manage_by_non_root`, a domain name or a literal path.
 ///
-/// Errors: the kind of the first word at which the line can't go on, or want of memory. `Keyword` is a wrong leading word, `Arity` a
-/// missing or an extra word or an unfinished keyword as the last one, `KernelDomain` the deletion of `<kernel>`; the other kinds are
-/// those of names, numbers, addresses, domain names, conditions and profile lines.
+/// Errors: the kind of the first word at which the line can't go on, or want of memory. `Keyword`
+/// is a wrong leading word, `Arity` a missing or an extra word or an unfinished keyword as the last
+/// one, `KernelDomain` the deletion of `<kernel>`; the other kinds are those of names, numbers,
+/// addresses, domain names, conditions and profile lines.
 #[tactic(auto, unfolding(crate::specs::Reading::read_line))]
 pub fn read_line(alloc: Global, file: FileKind, line: &[u8]) -> Result<PolicyLine, LineFault>
     ensures { Gives line_cause (λ x. x) result (read_line file line.now) }

@@ -24,7 +24,9 @@ reject_text false = codes "reject_log=no"
 
 -- the words of a setting, in the order of its keys
 abbrev pub setting_words : Config → List Text
-setting_words config = mode_word config.mode ∷ grant_text config.logs.grant ∷ reject_text config.logs.reject ∷ codes "}" ∷ []
+setting_words config =
+    mode_word config.mode ∷ grant_text config.logs.grant ∷ reject_text config.logs.reject
+    ∷ codes "}" ∷ []
 
 -- the limits, each with its key
 unfoldable pub audit_text : ℕ → Text
@@ -49,14 +51,19 @@ config_words n word config = headed n (word ++ codes "={") ∷ setting_words con
 abbrev pub slot_line : Text → ℕ → SlotName × Config → Text
 slot_line ns n slot = line_text ns (config_words n (slot_text slot.0) slot.1)
 
--- a profile's comment, preference and configuration, then the slots that give something, in their order
+-- a profile's comment, preference and configuration, then the slots that give something, in their
+-- order
 unfoldable pub profile_text : Text → ℕ × Profile → Text
 profile_text ns numbered =
     line_text ns (comment_words numbered.0 numbered.1.comment)
-    ++ (line_text ns (preference_words numbered.0 numbered.1.max_audit_log numbered.1.max_learning_entry)
-    ++ (line_text ns (config_words numbered.0 (codes "CONFIG") numbered.1.config) ++ flat_map (slot_line ns numbered.0) numbered.1.slots))
+    ++ (line_text ns
+    (preference_words numbered.0 numbered.1.max_audit_log numbered.1.max_learning_entry)
+    ++ (line_text ns (config_words numbered.0 (codes "CONFIG") numbered.1.config)
+    ++ flat_map (slot_line ns numbered.0) numbered.1.slots))
 
 -- the version, then each profile by its number; nothing where there is no profile
 unfoldable pub profiles_text : Text → List (ℕ × Profile) → Text
 profiles_text ns [] = []
-profiles_text ns (profile ∷ profiles) = line_text ns (codes "PROFILE_VERSION=20150505" ∷ []) ++ flat_map (profile_text ns) (profile ∷ profiles)
+profiles_text ns (profile ∷ profiles) =
+    line_text ns (codes "PROFILE_VERSION=20150505" ∷ [])
+    ++ flat_map (profile_text ns) (profile ∷ profiles)

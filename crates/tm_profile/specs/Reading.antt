@@ -12,6 +12,7 @@ use Rattle.tm_types.specs.declared.policy.Setting.{Setting}
 use Rattle.tm_types.specs.declared.policy.ProfileEffect.{ProfileEffect}
 use Rattle.tm_types.specs.declared.policy.ProfileLine.{ProfileLine}
 use Rattle.tm_types.specs.Slot.{all_slots}
+use Rattle.tm_word.specs.Closed.{named, begins_row}
 use Rattle.tm_word.specs.Texts.{texts_equal, begins, after}
 use Rattle.tm_line.specs.Namespaces.{namespace_at}
 use Rattle.tm_profile.specs.declared.reading.Key.{Key}
@@ -43,18 +44,17 @@ comment_of (b ∷ first) words = joined ((b ∷ first) ∷ words)
 abbrev pub word_mode : Text → Option Mode
 word_mode word = find (λ mode. texts_equal word (mode_word mode)) all_modes
 
+-- what is said of the log of grants, and of that of rejections
+abbrev pub grant_logs : List (Text × Key)
+grant_logs = (codes "grant_log=yes", Key.Grant true) ∷ (codes "grant_log=no", Key.Grant false) ∷ []
+
+abbrev pub reject_logs : List (Text × Key)
+reject_logs =
+    (codes "reject_log=yes", Key.Reject true) ∷ (codes "reject_log=no", Key.Reject false) ∷ []
+
 -- what a word says of a log
 abbrev pub log_key : Text → Option Key
-log_key word =
-    if texts_equal word (codes "grant_log=yes")
-    then Some (Key.Grant true)
-    else if texts_equal word (codes "grant_log=no")
-    then Some (Key.Grant false)
-    else if texts_equal word (codes "reject_log=yes")
-    then Some (Key.Reject true)
-    else if texts_equal word (codes "reject_log=no")
-    then Some (Key.Reject false)
-    else None
+log_key word = named (grant_logs ++ reject_logs) word
 
 -- what the words of a setting say
 unfoldable pub key_of : Text → Option Key
@@ -66,9 +66,12 @@ unseen = record { mode = None; grant = None; reject = None }
 
 -- each key may be written once
 abbrev pub with_key : Seen → Key → Option Seen
-with_key seen (Key.Mode mode) = if is_none seen.mode then Some (record seen { mode = Some mode }) else None
-with_key seen (Key.Grant log) = if is_none seen.grant then Some (record seen { grant = Some log }) else None
-with_key seen (Key.Reject log) = if is_none seen.reject then Some (record seen { reject = Some log }) else None
+with_key seen (Key.Mode mode) =
+    if is_none seen.mode then Some (record seen { mode = Some mode }) else None
+with_key seen (Key.Grant log) =
+    if is_none seen.grant then Some (record seen { grant = Some log }) else None
+with_key seen (Key.Reject log) =
+    if is_none seen.reject then Some (record seen { reject = Some log }) else None
 
 -- a word of a mode begins so
 abbrev pub begins_mode : Text → Bool
@@ -76,16 +79,17 @@ begins_mode word = list_any (λ mode. begins word (mode_word mode)) all_modes
 
 -- a word of the grant log begins so
 abbrev pub begins_grant : Text → Bool
-begins_grant word = begins word (codes "grant_log=yes") || begins word (codes "grant_log=no")
+begins_grant word = begins_row grant_logs word
 
 -- a word of the reject log begins so
 abbrev pub begins_reject : Text → Bool
-begins_reject word = begins word (codes "reject_log=yes") || begins word (codes "reject_log=no")
+begins_reject word = begins_row reject_logs word
 
 -- a word that may stand here begins so
 abbrev pub begins_key : Seen → Text → Bool
 begins_key seen word =
-    is_none seen.mode && begins_mode word || is_none seen.grant && begins_grant word || is_none seen.reject && begins_reject word
+    (is_none seen.mode && begins_mode word) || (is_none seen.grant && begins_grant word)
+    || (is_none seen.reject && begins_reject word)
 
 abbrev pub seen_by : Option Key → Seen → Bool → Result Seen LineKind
 seen_by (Some key) seen unfinished = or_kind LineKind.Profile (with_key seen key)
@@ -106,7 +110,9 @@ closed seen words = setting_by seen.mode seen >>= λ setting. at_end setting wor
 -- the words up to `}`
 unfoldable pub setting_after : Seen → List Text → Result Setting LineKind
 setting_after seen [] = Err LineKind.Arity
-setting_after seen (word ∷ words) = if texts_equal word (codes "}") then closed seen words else (seen_after seen word (is_last words) >>= λ more. setting_after more words)
+setting_after seen (word ∷ words) =
+    if texts_equal word (codes "}") then closed seen words
+    else (seen_after seen word (is_last words) >>= λ more. setting_after more words)
 
 -- PREFERENCE
 
@@ -126,15 +132,20 @@ once (Some n) read = Err LineKind.Profile
 
 -- a word that may stand here begins so
 abbrev pub begins_limit : Limits → Text → Bool
-begins_limit limits word = is_none limits.audit && begins word (codes "max_audit_log=") || is_none limits.learning && begins word (codes "max_learning_entry=")
+begins_limit limits word =
+    (is_none limits.audit && begins word (codes "max_audit_log="))
+    || (is_none limits.learning && begins word (codes "max_learning_entry="))
 
 abbrev pub learning_by : Option Text → Limits → Text → Bool → Result Limits LineKind
-learning_by (Some text) limits word last = once limits.learning (limit_of text last >>= λ n. Ok (record limits { learning = Some n }))
+learning_by (Some text) limits word last =
+    once limits.learning (limit_of text last >>= λ n. Ok (record limits { learning = Some n }))
 learning_by None limits word last = Err (wrong (last && begins_limit limits word))
 
 abbrev pub limits_by : Option Text → Limits → Text → Bool → Result Limits LineKind
-limits_by (Some text) limits word last = once limits.audit (limit_of text last >>= λ n. Ok (record limits { audit = Some n }))
-limits_by None limits word last = learning_by (after (codes "max_learning_entry=") word) limits word last
+limits_by (Some text) limits word last =
+    once limits.audit (limit_of text last >>= λ n. Ok (record limits { audit = Some n }))
+limits_by None limits word last =
+    learning_by (after (codes "max_learning_entry=") word) limits word last
 
 -- the limits so far and one more
 unfoldable pub limits_with : Limits → Text → Bool → Result Limits LineKind
@@ -143,11 +154,15 @@ limits_with limits word last = limits_by (after (codes "max_audit_log=") word) l
 -- the words up to `}`
 unfoldable pub limits_after : Limits → List Text → Result Limits LineKind
 limits_after limits [] = Err LineKind.Arity
-limits_after limits (word ∷ words) = if texts_equal word (codes "}") then at_end limits words else (limits_with limits word (is_last words) >>= λ more. limits_after more words)
+limits_after limits (word ∷ words) =
+    if texts_equal word (codes "}") then at_end limits words
+    else (limits_with limits word (is_last words) >>= λ more. limits_after more words)
 
 -- what a line says of the limits of profile n
 abbrev pub preference : ℕ → List Text → Result ProfileEffect LineKind
-preference n words = limits_after unlimited words >>= λ limits. Ok (ProfileEffect.Preference n limits.audit limits.learning)
+preference n words =
+    limits_after unlimited words
+    >>= λ limits. Ok (ProfileEffect.Preference n limits.audit limits.learning)
 
 -- The line
 
@@ -171,7 +186,9 @@ slot_of word = slot_in all_slots word
 
 -- a word of the slot begins so
 abbrev pub begins_slot : Text → SlotName → Bool
-begins_slot word slot = begins word (slot_text slot ++ codes "={") || begins word (slot_text slot ++ codes "=use_default")
+begins_slot word slot =
+    begins word (slot_text slot ++ codes "={")
+    || begins word (slot_text slot ++ codes "=use_default")
 
 -- a word of some slot begins so
 unfoldable pub begins_some_slot : Text → Bool
@@ -179,10 +196,13 @@ begins_some_slot word = list_any (begins_slot word) all_slots
 
 -- a word that may stand after `N-` begins so
 unfoldable pub begins_effect : Text → Bool
-begins_effect word = begins word (codes "COMMENT=") || begins word (codes "PREFERENCE={") || begins word (codes "CONFIG={") || begins_some_slot word
+begins_effect word =
+    begins word (codes "COMMENT=") || begins word (codes "PREFERENCE={")
+    || begins word (codes "CONFIG={") || begins_some_slot word
 
 abbrev pub slot_by : ℕ → Option (SlotName × Bool) → Text → List Text → Result ProfileEffect LineKind
-slot_by n (Some (slot, true)) word words = setting_after unseen words >>= λ setting. Ok (ProfileEffect.Slot n slot (Some setting))
+slot_by n (Some (slot, true)) word words =
+    setting_after unseen words >>= λ setting. Ok (ProfileEffect.Slot n slot (Some setting))
 slot_by n (Some (slot, false)) word words = at_end (ProfileEffect.Slot n slot None) words
 slot_by n None word words = Err (wrong (is_last words && begins_effect word))
 
@@ -204,14 +224,17 @@ abbrev pub begins_line : Text → Bool
 begins_line word = begins word (codes "PROFILE_VERSION=") || is_some (plain_of 256 word)
 
 abbrev pub numbered_by : Option ℕ → Text → List Text → Result ProfileEffect LineKind
-numbered_by (Some place) word words = or_kind LineKind.Profile (plain_of 256 (take place word)) >>= λ n. numbered n (drop (place + 1) word) words
+numbered_by (Some place) word words =
+    or_kind LineKind.Profile (plain_of 256 (take place word))
+    >>= λ n. numbered n (drop (place + 1) word) words
 numbered_by None word words = Err (wrong (is_last words && begins_line word))
 
 -- the two versions that are read alike; without a number the word is unfinished
 abbrev pub version_by : Text → List Text → Result ProfileEffect LineKind
 version_by [] words = Err (if is_last words then LineKind.Arity else LineKind.Version)
 version_by (b ∷ text) words =
-    if texts_equal (b ∷ text) (codes "20150505") || texts_equal (b ∷ text) (codes "20110903") then at_end ProfileEffect.Version words else Err LineKind.Version
+    if texts_equal (b ∷ text) (codes "20150505") || texts_equal (b ∷ text) (codes "20110903")
+    then at_end ProfileEffect.Version words else Err LineKind.Version
 
 abbrev pub effect_by : Option Text → Text → List Text → Result ProfileEffect LineKind
 effect_by (Some text) word words = version_by text words

@@ -26,7 +26,10 @@ IsComment comment = (words : List Text) × (list_all is_word words ≡ true) × 
 
 -- the numbers fit, the comment is made of words, and the slots stand in their order
 abbrev pub IsProfile : ℕ × Profile → Type 0
-IsProfile numbered = (numbered.0 < 256) × (numbered.1.max_audit_log < 2 ^ 32) × (numbered.1.max_learning_entry < 2 ^ 32) × IsComment numbered.1.comment × Rises slot_rank numbered.1.slots
+IsProfile numbered =
+    (numbered.0 < 256) × (numbered.1.max_audit_log < 2 ^ 32)
+    × (numbered.1.max_learning_entry < 2 ^ 32) × IsComment numbered.1.comment
+    × Rises slot_rank numbered.1.slots
 
 abbrev pub AreProfiles : List (ℕ × Profile) → Type 0
 AreProfiles [] = Unit {0}
@@ -51,7 +54,8 @@ IsEffect (ProfileEffect.Slot n slot setting) = n < 256
 
 -- the namespace after a line of it; a line of another one, or outside the grammar, is refused
 abbrev pub line_done : Result ProfileLine LineKind → Namespace → Option Namespace
-line_done (Ok line) ns = if texts_equal line.namespace ns.name then Some (profile_line line.effect ns) else None
+line_done (Ok line) ns =
+    if texts_equal line.namespace ns.name then Some (profile_line line.effect ns) else None
 line_done (Err kind) ns = None
 
 -- a line without words does nothing
@@ -62,4 +66,5 @@ words_into (word ∷ words) ns = line_done (line_of (word ∷ words)) ns
 -- the namespace after these lines, one by one
 abbrev pub lines_into : List Text → Namespace → Option Namespace
 lines_into [] ns = Some ns
-lines_into (line ∷ lines) ns = option_and_then (λ after. lines_into lines after) (words_into (words_of line) ns)
+lines_into (line ∷ lines) ns =
+    option_and_then (λ after. lines_into lines after) (words_into (words_of line) ns)

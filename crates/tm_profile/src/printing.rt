@@ -52,7 +52,8 @@ fn push_head(
     word: &[u8],
     out: &mut Vec<u8>,
 ) -> Result<(), NoMemory>
-    ensures { OnOk result (out.new.items ≡ out.old.items ++ (ns.now ++ 32 ∷ headed number word.now)) }
+    ensures { OnOk result
+        (out.new.items ≡ out.old.items ++ (ns.now ++ 32 ∷ headed number word.now)) }
 {
     out.extend_from_slice(ns)?;
     out.push(b' ')?;
@@ -103,7 +104,8 @@ fn push_learning(alloc: Global, limit: u32, out: &mut Vec<u8>) -> Result<(), NoM
 
 /// Appends the words of both limits and the line's end, or a part of it.
 fn push_limits(alloc: Global, audit: u32, learning: u32, out: &mut Vec<u8>) -> Result<(), NoMemory>
-    ensures { OnOk result (out.new.items ≡ out.old.items ++ (spaced (limit_words audit learning) ++ 10 ∷ [])) }
+    ensures { OnOk result
+        (out.new.items ≡ out.old.items ++ (spaced (limit_words audit learning) ++ 10 ∷ [])) }
 {
     push_audit(alloc, audit, out)?;
     push_learning(alloc, learning, out)?;
@@ -112,7 +114,8 @@ fn push_limits(alloc: Global, audit: u32, learning: u32, out: &mut Vec<u8>) -> R
 
 /// Appends the words of a setting and the line's end, or a part of it.
 fn push_setting(config: Config, out: &mut Vec<u8>) -> Result<(), NoMemory>
-    ensures { OnOk result (out.new.items ≡ out.old.items ++ (spaced (setting_words config) ++ 10 ∷ [])) }
+    ensures { OnOk result
+        (out.new.items ≡ out.old.items ++ (spaced (setting_words config) ++ 10 ∷ [])) }
 {
     push_mode(config.mode, out)?;
     push_word(grant_text(config.logs.grant), out)?;
@@ -128,7 +131,8 @@ fn push_comment(
     comment: &[u8],
     out: &mut Vec<u8>,
 ) -> Result<(), NoMemory>
-    ensures { OnOk result (out.new.items ≡ out.old.items ++ line_text ns.now (comment_words number comment.now)) }
+    ensures { OnOk result
+        (out.new.items ≡ out.old.items ++ line_text ns.now (comment_words number comment.now)) }
 {
     push_head(alloc, ns, number, b"COMMENT=", out)?;
     out.extend_from_slice(comment)?;
@@ -146,7 +150,8 @@ fn push_preference(
     out: &mut Vec<u8>,
 ) -> Result<(), NoMemory>
     ensures { OnOk result
-        (out.new.items ≡ out.old.items ++ line_text ns.now (preference_words number audit learning)) }
+        (out.new.items ≡ out.old.items
+        ++ line_text ns.now (preference_words number audit learning)) }
 {
     push_head(alloc, ns, number, b"PREFERENCE={", out)?;
     push_limits(alloc, audit, learning, out)
@@ -161,7 +166,8 @@ fn push_config(
     config: Config,
     out: &mut Vec<u8>,
 ) -> Result<(), NoMemory>
-    ensures { OnOk result (out.new.items ≡ out.old.items ++ line_text ns.now (config_words number word.now config)) }
+    ensures { OnOk result
+        (out.new.items ≡ out.old.items ++ line_text ns.now (config_words number word.now config)) }
 {
     push_head(alloc, ns, number, word, out)?;
     out.extend_from_slice(b"={")?;
@@ -176,7 +182,8 @@ fn push_slots(
     slots: &[(SlotName, Config)],
     out: &mut Vec<u8>,
 ) -> Result<(), NoMemory>
-    ensures { OnOk result (out.new.items ≡ out.old.items ++ flat_map (slot_line ns.now number) slots.now) }
+    ensures { OnOk result
+        (out.new.items ≡ out.old.items ++ flat_map (slot_line ns.now number) slots.now) }
 {
     for (slot, config) in slots {
         push_config(alloc, ns, number, slot_text(*slot), *config, out)?;
@@ -193,7 +200,8 @@ fn push_profile(
     profile: &Profile,
     out: &mut Vec<u8>,
 ) -> Result<(), NoMemory>
-    ensures { OnOk result (out.new.items ≡ out.old.items ++ profile_text ns.now (number, profile.now)) }
+    ensures { OnOk result
+        (out.new.items ≡ out.old.items ++ profile_text ns.now (number, profile.now)) }
 {
     push_comment(alloc, ns, number, profile.comment.bytes(), out)?;
     push_preference(
@@ -215,7 +223,8 @@ fn push_all(
     profiles: &[(u8, Profile)],
     out: &mut Vec<u8>,
 ) -> Result<(), NoMemory>
-    ensures { OnOk result (out.new.items ≡ out.old.items ++ flat_map (profile_text ns.now) profiles.now) }
+    ensures { OnOk result
+        (out.new.items ≡ out.old.items ++ flat_map (profile_text ns.now) profiles.now) }
 {
     for (number, profile) in profiles {
         push_profile(alloc, ns, *number, profile, out)?;
@@ -240,9 +249,11 @@ fn profiles_text(alloc: Global, ns: &[u8], profiles: &[(u8, Profile)]) -> Result
     }
 }
 
-/// Appends the printed text of a namespace's profiles: `PROFILE_VERSION=20150505`, then for each profile by its number the lines
-/// `COMMENT`, `PREFERENCE` and `CONFIG`, and those of the categories and functions that aren't `use_default`, in their order. Each
-/// line begins with the namespace word. Nothing is printed where there is no profile. After want of memory `out` is as before.
+/// Appends the printed text of a namespace's profiles: `PROFILE_VERSION=20150505`, then for each
+/// profile by its number the lines `COMMENT`, `PREFERENCE` and `CONFIG`, and those of the
+/// categories and functions that aren't `use_default`, in their order. Each line begins with the
+/// namespace word. Nothing is printed where there is no profile. After want of memory `out` is as
+/// before.
 pub fn print_profiles(
     alloc: Global,
     ns: &Text,
@@ -256,12 +267,17 @@ pub fn print_profiles(
     out.extend_from_slice(&text)
 }
 
-/// A law, nothing to run: the printed text of profiles, read line by line into a namespace without profiles, gives these profiles;
+/// A law, nothing to run: the printed text of profiles, read line by line into a namespace without
+/// profiles, gives these profiles;
 /// and a line that was read from words keeps profiles that a text can write.
 pub fn round_trip()
-    ensures again { (ns : Namespace) (profiles : List (ℕ × Profile)) → IsNamespaceWord ns.name → ns.profiles ≡ []
+    ensures again { (ns : Namespace) (profiles : List (ℕ × Profile)) → IsNamespaceWord ns.name
+        → ns.profiles ≡ []
         → IsWritten profiles
-        → lines_into (lines_of (profiles_text ns.name profiles)) ns ≡ Some (record ns { profiles = profiles }) }
-    ensures kept { (words : List Text) (line : ProfileLine) (ns : Namespace) → list_all is_word words ≡ true
-        → line_of words ≡ Ok line → IsWritten ns.profiles → IsWritten (profile_line line.effect ns).profiles }
+        → lines_into (lines_of (profiles_text ns.name profiles)) ns
+        ≡ Some (record ns { profiles = profiles }) }
+    ensures kept { (words : List Text) (line : ProfileLine) (ns : Namespace)
+        → list_all is_word words ≡ true
+        → line_of words ≡ Ok line → IsWritten ns.profiles
+        → IsWritten (profile_line line.effect ns).profiles }
 {}

@@ -16,7 +16,7 @@ use tm_number::plain_number;
 use tm_types::entry::LineKind;
 use tm_types::policy::{Mode, ProfileEffect, ProfileLine, Setting};
 use tm_types::step::LineFault;
-use tm_word::{Text, after, begins, bytes_equal, place_of};
+use tm_word::{Text, after, begins, begins_in, bytes_equal, place_of, value_of};
 
 /// What one word of a setting says.
 #[derive(Clone, Copy)]
@@ -25,6 +25,14 @@ enum Key {
     Grant(bool),
     Reject(bool),
 }
+
+/// What is said of the logs: of grants, and then of rejections.
+const LOGS: [(&str, Key); 4] = [
+    ("grant_log=yes", Key::Grant(true)),
+    ("grant_log=no", Key::Grant(false)),
+    ("reject_log=yes", Key::Reject(true)),
+    ("reject_log=no", Key::Reject(false)),
+];
 
 /// What the words of a setting have said so far.
 #[derive(Clone, Copy)]
@@ -97,19 +105,7 @@ fn comment_of(alloc: Global, first: &[u8], words: &[Text]) -> Result<Text, NoMem
 fn log_key(word: &[u8]) -> Option<Key>
     ensures { result ≡ log_key word.now }
 {
-    if bytes_equal(word, b"grant_log=yes") {
-        return Some(Key::Grant(true));
-    }
-    if bytes_equal(word, b"grant_log=no") {
-        return Some(Key::Grant(false));
-    }
-    if bytes_equal(word, b"reject_log=yes") {
-        return Some(Key::Reject(true));
-    }
-    if bytes_equal(word, b"reject_log=no") {
-        return Some(Key::Reject(false));
-    }
-    None
+    value_of(&LOGS, word)
 }
 
 /// What a word of a setting says.
@@ -156,14 +152,14 @@ fn with_key(seen: Seen, key: Key) -> Option<Seen>
 fn begins_grant(word: &[u8]) -> bool
     ensures { result ≡ begins_grant word.now }
 {
-    begins(word, b"grant_log=yes") || begins(word, b"grant_log=no")
+    begins_in(&LOGS[..2], word)
 }
 
 /// Whether a word of the reject log begins so.
 fn begins_reject(word: &[u8]) -> bool
     ensures { result ≡ begins_reject word.now }
 {
-    begins(word, b"reject_log=yes") || begins(word, b"reject_log=no")
+    begins_in(&LOGS[2..], word)
 }
 
 /// Whether a word that may stand here begins so.
@@ -268,7 +264,8 @@ fn with_audit(limits: Limits, text: &[u8], last: bool) -> Result<Limits, LineFau
 
 /// The limits with that of learned entries.
 fn with_learning(limits: Limits, text: &[u8], last: bool) -> Result<Limits, LineFault>
-    ensures { GivesNow line_cause (λ x. x) result (learning_by (Some text.now) limits text.now last) }
+    ensures { GivesNow line_cause (λ x. x) result
+        (learning_by (Some text.now) limits text.now last) }
 {
     match limits.learning {
         None => {
@@ -337,7 +334,8 @@ const NOTHING_SEEN: Seen = Seen {
 
 /// What a line says of a slot of this profile.
 fn slot_line(number: u8, word: &[u8], words: &[Text]) -> Result<ProfileEffect, LineFault>
-    ensures { GivesNow line_cause (λ x. x) result (slot_by number (slot_of word.now) word.now words.now) }
+    ensures { GivesNow line_cause (λ x. x) result
+        (slot_by number (slot_of word.now) word.now words.now) }
 {
     match slot_of(word) {
         Some((slot, true)) => {
@@ -394,7 +392,8 @@ fn numbered(
 
 /// What a line says of the profile whose number its word begins with.
 fn numbered_line(alloc: Global, word: &[u8], words: &[Text]) -> Result<ProfileEffect, LineFault>
-    ensures { Gives line_cause (λ x. x) result (numbered_by (position (λ b. b == 45) word.now) word.now words.now) }
+    ensures { Gives line_cause (λ x. x) result
+        (numbered_by (position (λ b. b == 45) word.now) word.now words.now) }
 {
     match place_of(b'-', word) {
         Some(place) => match profile_number(&word[..place]) {
@@ -455,12 +454,14 @@ fn effect_at(alloc: Global, words: &[Text]) -> Result<ProfileEffect, LineFault>
     }
 }
 
-/// Reads a profile line, of which these are the words. It may begin with a namespace word, else it is one of `<kernel>`; then
-/// comes `PROFILE_VERSION=20150505` or `PROFILE_VERSION=20110903`, or with a number N from 0 to 255 one of `N-COMMENT=TEXT`,
-/// `N-PREFERENCE={ .. }`, `N-CONFIG={ .. }`, the same for a category or a function, and `=use_default` for these.
+/// Reads a profile line, of which these are the words. It may begin with a namespace word, else it
+/// is one of `<kernel>`; then comes `PROFILE_VERSION=20150505` or `PROFILE_VERSION=20110903`, or
+/// with a number N from 0 to 255 one of `N-COMMENT=TEXT`, `N-PREFERENCE={ .. }`, `N-CONFIG={ .. }`,
+/// the same for a category or a function, and `=use_default` for these.
 ///
-/// Errors: the kind of the first word at which the line can't go on, or want of memory. `Domain` is a wrong namespace word,
-/// `Version` another version, `Arity` a missing word or an unfinished one at the end, `Profile` every other wrong word.
+/// Errors: the kind of the first word at which the line can't go on, or want of memory. `Domain` is
+/// a wrong namespace word, `Version` another version, `Arity` a missing word or an unfinished one
+/// at the end, `Profile` every other wrong word.
 #[tactic(auto, unfolding(crate::specs::Reading::line_of))]
 pub fn read_profile_line(alloc: Global, words: &[Text]) -> Result<ProfileLine, LineFault>
     ensures { Gives line_cause (λ x. x) result (line_of words.now) }

@@ -27,7 +27,8 @@ pub quiet_group : is_quiet FileKind.Exception (codes "<a> acl_group 0 file read 
 unfolding is_quiet words_of
 quiet_group = refl
 
--- an edit that was refused is clean whatever its line, and one that is done only where its line is quiet
+-- an edit that was refused is clean whatever its line, and one that is done only where its line is
+-- quiet
 pub refused : is_clean_step (Step.Edit 0 FileKind.Profile (codes "a"), Reply.Edit EditReply.NotManager) ≡ true
 refused = refl
 

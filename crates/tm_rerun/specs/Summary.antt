@@ -39,17 +39,22 @@ live_count domains = count_by (λ (d : Domain). d.live) domains
 -- requests, granted and denied
 abbrev pub counts_text : Run → Text
 counts_text run =
-    codes "requests " ++ decimal (length run.takes) ++ codes " granted " ++ decimal (granted_count run.takes) ++ codes " denied " ++ decimal (length run.takes - granted_count run.takes)
+    codes "requests " ++ decimal (length run.takes) ++ codes " granted "
+    ++ decimal (granted_count run.takes) ++ codes " denied "
+    ++ decimal (length run.takes - granted_count run.takes)
 
 -- what the run did: the lines that it learned, its steps, and the live domains of its final policy
 abbrev pub growth_text : Run → Policy → Text
 growth_text run final =
-    codes " learned " ++ decimal (learned_count run.steps) ++ codes " steps " ++ decimal (length run.steps) ++ codes " domains " ++ decimal (live_count final.domains)
+    codes " learned " ++ decimal (learned_count run.steps) ++ codes " steps "
+    ++ decimal (length run.steps) ++ codes " domains " ++ decimal (live_count final.domains)
 
 -- whether the run is clean and its opening policy plain
 abbrev pub kinds_text : Run → Policy → Text
-kinds_text run opening = codes " clean " ++ yes_or_no (is_clean run) ++ codes " plain " ++ yes_or_no (is_plain opening)
+kinds_text run opening =
+    codes " clean " ++ yes_or_no (is_clean run) ++ codes " plain " ++ yes_or_no (is_plain opening)
 
 -- the line of a run from an opening policy to a final one
 unfoldable pub summary_text : Run → Policy → Policy → Text
-summary_text run opening final = counts_text run ++ growth_text run final ++ kinds_text run opening ++ 10 ∷ []
+summary_text run opening final =
+    counts_text run ++ growth_text run final ++ kinds_text run opening ++ 10 ∷ []

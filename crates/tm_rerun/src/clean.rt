@@ -25,14 +25,7 @@ fn is_quota(reason: Reason) -> bool
 {
     match reason {
         Reason::Quota => true,
-        Reason::Entry(_) => false,
-        Reason::Disabled => false,
-        Reason::Permissive => false,
-        Reason::Learn => false,
-        Reason::Ask => false,
-        Reason::NoEntry => false,
-        Reason::NotReady => false,
-        Reason::NoManual => false,
+        _ => false,
     }
 }
 
@@ -70,7 +63,8 @@ fn are_clean_takes(takes: &[Take]) -> bool
     true
 }
 
-// Whether a step is a clean one: a Learn is added or there, no transition fails, and an edit that is done is quiet.
+// Whether a step is a clean one: a Learn is added or there, no transition fails, and an edit that
+// is done is quiet.
 fn is_clean_step(step: &(Step, Reply)) -> bool
     ensures { result ≡ is_clean_step step.now }
 {
@@ -105,9 +99,10 @@ fn are_clean_steps(steps: &[(Step, Reply)]) -> bool
     true
 }
 
-/// Whether a run is clean. Each of its takes is granted, and each look is in mode disabled or learning, or of a manual transition,
-/// and isn't granted because the domain is full. Of its steps, each Learn is replied that its line is added or there, no transition
-/// fails, and each edit that is done is quiet, which the words of its line alone tell. Takes no memory.
+/// Whether a run is clean. Each of its takes is granted, and each look is in mode disabled or
+/// learning, or of a manual transition, and isn't granted because the domain is full. Of its steps,
+/// each Learn is replied that its line is added or there, no transition fails, and each edit that
+/// is done is quiet, which the words of its line alone tell. Takes no memory.
 #[tactic(auto, unfolding(tm_rules::specs::Clean::is_clean))]
 pub fn is_clean(run: &Run) -> bool
     ensures { result ≡ is_clean run.now }

@@ -1,4 +1,4 @@
-//! Quiet edits: those that can't change where an execute leads or what a mode is, as the words of their lines tell it.
+//! Quiet edits: those that can't change where an execute leads or what a mode is.
 ghost use Rattle.std.specs.Prelude.{◌≡◌, ◌==◌, [], ◌∷◌, codes};
 ghost use Rattle.std.specs.List.{slice_split};
 ghost use Rattle.tm_word.specs.Spelling.{words_of};
@@ -22,7 +22,8 @@ fn has_execute(permissions: &[u8]) -> bool
 
 // Whether an ACL line begins with this word.
 fn begins_acl(word: &[u8]) -> bool
-    ensures { result ≡ is_one_of word.now (codes "file" ∷ codes "network" ∷ codes "misc" ∷ codes "task" ∷ []) }
+    ensures { result
+        ≡ is_one_of word.now (codes "file" ∷ codes "network" ∷ codes "misc" ∷ codes "task" ∷ []) }
 {
     bytes_equal(word, b"file")
         || bytes_equal(word, b"network")
@@ -78,8 +79,9 @@ fn is_quiet_domain(line: &[u8]) -> bool
     }
 }
 
-/// Whether an edit can't change where an execute leads or what a mode is, by the words of its line alone: any line of the managers,
-/// a `select` or an ACL line without the permission execute in the domains, and such an ACL line of an ACL group in the exceptions.
+/// Whether an edit can't change where an execute leads or what a mode is, by the words of its line
+/// alone: any line of the managers, a `select` or an ACL line without the permission execute in the
+/// domains, and such an ACL line of an ACL group in the exceptions.
 #[tactic(auto, unfolding(tm_rules::specs::Clean::is_quiet))]
 pub(crate) fn is_quiet(file: FileKind, line: &[u8]) -> bool
     ensures { result ≡ is_quiet file line.now }

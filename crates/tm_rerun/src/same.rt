@@ -29,8 +29,9 @@ fn are_in_same_domains(first: &Policy, take: &Take, second: &Policy, other: &Tak
         && have_one_name(first, take.after, second, other.after)
 }
 
-/// Whether two runs have as many takes as each other, and each take is in domains of the same names, before and after, as the take at its
-/// place in the other run. The names are those that the final policy of each run gives. Takes no memory.
+/// Whether two runs have as many takes as each other, and each take is in domains of the same
+/// names, before and after, as the take at its place in the other run. The names are those that the
+/// final policy of each run gives. Takes no memory.
 pub fn has_same_domains(
     first_final: &Policy,
     first: &Run,

@@ -4,10 +4,10 @@ ghost use Rattle.tm_rerun.specs.Summary.{yes_or_no, is_added_reply, is_added, gr
 ghost use Rattle.tm_rerun.specs.Rerun.{rerun_text, no_rerun_text};
 
 use crate::clean::is_clean;
+use crate::plainness::is_plain;
 use std::alloc::Global;
 use tm_list::NoMemory;
 use tm_number::{Base, Number, write_number};
-use tm_policy::is_plain;
 use tm_types::policy::{Domain, Policy};
 use tm_types::step::{LearnReply, Reply, Run, Step, Take};
 
@@ -35,20 +35,8 @@ fn is_added_reply(reply: Reply) -> bool
     ensures { result ≡ is_added_reply reply }
 {
     match reply {
-        Reply::Learn(reply) => match reply {
-            LearnReply::Added => true,
-            LearnReply::There => false,
-            LearnReply::Quota => false,
-            LearnReply::Mode => false,
-        },
-        Reply::Make(_) => false,
-        Reply::Fail(_) => false,
-        Reply::Ask(_) => false,
-        Reply::Answer(_) => false,
-        Reply::Attach(_) => false,
-        Reply::Detach(_) => false,
-        Reply::Edit(_) => false,
-        Reply::End => false,
+        Reply::Learn(LearnReply::Added) => true,
+        _ => false,
     }
 }
 
@@ -120,9 +108,9 @@ fn push_kinds(run: &Run, policy_opening: &Policy, out: &mut Vec<u8>) -> Result<(
     push_yes_or_no(is_plain(policy_opening), out)
 }
 
-/// The line that a run is summed up by: how many requests it has and how many of them are granted and denied, how many lines it
-/// learned, its steps, the live domains of its final policy, whether it is clean, and whether its opening policy is plain. Fails for
-/// want of memory alone.
+/// The line that a run is summed up by: how many requests it has and how many of them are granted
+/// and denied, how many lines it learned, its steps, the live domains of its final policy, whether
+/// it is clean, and whether its opening policy is plain. Fails for want of memory alone.
 #[tactic(auto, unfolding(crate::specs::Summary::summary_text))]
 pub fn summary_line(
     alloc: Global,
@@ -130,7 +118,8 @@ pub fn summary_line(
     policy_opening: &Policy,
     policy_final: &Policy,
 ) -> Result<Vec<u8>, NoMemory>
-    ensures { IfOk result (λ line. line.items ≡ summary_text run.now policy_opening.now policy_final.now) }
+    ensures { IfOk result
+        (λ line. line.items ≡ summary_text run.now policy_opening.now policy_final.now) }
 {
     let mut line = Vec::new(alloc);
     push_counts(alloc, run, &mut line)?;
@@ -140,8 +129,9 @@ pub fn summary_line(
     Ok(line)
 }
 
-/// The line that a rerun adds to the summary: how many requests it has and how many of them are granted and denied, its steps, and
-/// whether its processes are in the domains that they were in. Fails for want of memory alone.
+/// The line that a rerun adds to the summary: how many requests it has and how many of them are
+/// granted and denied, its steps, and whether its processes are in the domains that they were in.
+/// Fails for want of memory alone.
 #[tactic(auto, unfolding(crate::specs::Rerun::rerun_text))]
 pub fn rerun_line(alloc: Global, run: &Run, same: bool) -> Result<Vec<u8>, NoMemory>
     ensures { IfOk result (λ line. line.items ≡ rerun_text run.now same) }

@@ -35,7 +35,8 @@ fn switched_slots(
     alloc: Global,
     slots: &Map<SlotName, Config>,
 ) -> Result<Map<SlotName, Config>, NoMemory>
-    ensures { IfOk result (λ made. made ≡ map (λ (pair : SlotName × Config). (pair.0, switched_config pair.1)) slots.now) }
+    ensures { IfOk result (λ made. made ≡ map (λ (pair : SlotName × Config).
+        (pair.0, switched_config pair.1)) slots.now) }
 {
     let mut made = slots.copy(alloc)?;
     for (name, config) in slots.as_slice() {
@@ -58,7 +59,8 @@ fn switched_profile(alloc: Global, profile: &Profile) -> Result<Profile, NoMemor
 
 // The profiles switched, each under its number.
 fn switched_profiles(alloc: Global, profiles: &Profiles) -> Result<Profiles, NoMemory>
-    ensures { IfOk result (λ made. made ≡ map (λ (pair : ℕ × Profile). (pair.0, switched_profile pair.1)) profiles.now) }
+    ensures { IfOk result (λ made. made ≡ map (λ (pair : ℕ × Profile).
+        (pair.0, switched_profile pair.1)) profiles.now) }
 {
     let mut made = profiles.copy(alloc)?;
     for (number, profile) in profiles.as_slice() {
@@ -71,7 +73,10 @@ fn switched_profiles(alloc: Global, profiles: &Profiles) -> Result<Profiles, NoM
 // A namespace that is the same but for its profiles, which are switched.
 fn switched_namespace(alloc: Global, namespace: &Namespace) -> Result<Namespace, NoMemory>
     ensures { IfOk result (λ made. made ≡
-        record namespace.now { profiles = map (λ (pair : ℕ × Profile). (pair.0, switched_profile pair.1)) namespace.now.profiles }) }
+        record namespace.now {
+          profiles = map
+              (λ (pair : ℕ × Profile). (pair.0, switched_profile pair.1)) namespace.now.profiles;
+        }) }
 {
     Ok(Namespace {
         name: namespace.name.copy(alloc)?,
@@ -85,7 +90,9 @@ fn switched_namespace(alloc: Global, namespace: &Namespace) -> Result<Namespace,
 
 fn switched_namespaces(alloc: Global, namespaces: &[Namespace]) -> Result<Seq<Namespace>, NoMemory>
     ensures { IfOk result (λ made. made ≡
-        map (λ (ns : Namespace). record ns { profiles = map (λ (pair : ℕ × Profile). (pair.0, switched_profile pair.1)) ns.profiles }) namespaces.now) }
+        map (λ (ns : Namespace). record ns {
+          profiles = map (λ (pair : ℕ × Profile). (pair.0, switched_profile pair.1)) ns.profiles;
+        }) namespaces.now) }
 {
     let mut made = Seq::new(alloc);
     for namespace in namespaces {
@@ -94,9 +101,10 @@ fn switched_namespaces(alloc: Global, namespaces: &[Namespace]) -> Result<Seq<Na
     Ok(made)
 }
 
-/// The policy with its profiles enforcing: each mode learning, of a profile and of its functions, is enforcing in it. Modes disabled and
-/// permissive stay, and so does everything else: the domains under their numbers, live or deleted, their lines and marks, groups,
-/// aggregators, controls and managers.
+/// The policy with its profiles enforcing: each mode learning, of a profile and of its functions,
+/// is enforcing in it. Modes disabled and permissive stay, and so does everything else: the domains
+/// under their numbers, live or deleted, their lines and marks, groups, aggregators, controls and
+/// managers.
 ///
 /// Errors: want of memory.
 #[tactic(auto, unfolding(tm_legal::specs::Clean::switched))]

@@ -29,8 +29,10 @@ use Rattle.tm_line.proofs.Steps.{both, all}
 use Rattle.tm_line.proofs.WholeLaws.{solid_append, word_from, number_is}
 use Rattle.tm_number.proofs.NumberLaws.{plain_again, plain_small}
 use Rattle.tm_types.specs.Texts.{learn_text}
+use Rattle.tm_word.specs.Closed.{row_of}
+use Rattle.tm_word.proofs.Named.{named_or}
 use Rattle.tm_run.specs.RunText.{mode_word, place_text, reason_text, move_text, numbers_text, answer_text, heard_text}
-use Rattle.tm_run.specs.Fields.{or_zero, number_of, u8_of, u32_of, u64_of, mode_of, case_of, reason_in, reason_of, way_of, move_in, move_of, numbers_of, answer_of, heard_in, heard_of, reply_of}
+use Rattle.tm_run.specs.Fields.{or_zero, number_of, u8_of, u32_of, u64_of, mode_of, reasons, case_of, reason_in, reason_of, way_of, move_in, move_of, numbers_of, answer_of, heard_in, heard_of, reply_of}
 use Rattle.tm_run.specs.Written.{is_plain, is_wide, is_place, is_reason, is_move, is_heard}
 use Rattle.tm_run.proofs.TextLaws.{word_solid, free_by}
 
@@ -268,20 +270,9 @@ heard_again (Some heard) h =
 
 -- ---- what is read is in its range
 
-any_case : (a b c d e f g : Bool) → is_reason (cond a Reason.Disabled (cond b Reason.Permissive (cond c Reason.Quota (cond d Reason.Learn (cond e Reason.Ask (cond f Reason.NoEntry (cond g Reason.NotReady Reason.NoManual))))))) ≡ true
-any_case true b c d e f g = refl
-any_case false true c d e f g = refl
-any_case false false true d e f g = refl
-any_case false false false true e f g = refl
-any_case false false false false true f g = refl
-any_case false false false false false true g = refl
-any_case false false false false false false true = refl
-any_case false false false false false false false = refl
-
 case_below : (word : Text) → is_reason (case_of word) ≡ true
 unfolding case_of
-case_below word =
-    any_case (texts_equal word (codes "disabled")) (texts_equal word (codes "permissive")) (texts_equal word (codes "quota")) (texts_equal word (codes "learn")) (texts_equal word (codes "ask")) (texts_equal word (codes "no_entry")) (texts_equal word (codes "not_ready"))
+case_below word = named_or is_reason (map (row_of reason_text) reasons) word Reason.NoManual refl refl
 
 reason_in_below : (words : List Text) → is_reason (reason_in words) ≡ true
 reason_in_below [] = refl

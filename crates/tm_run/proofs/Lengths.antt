@@ -4,7 +4,11 @@ use Rattle.tm_types.specs.declared.policy.Mode.{Mode}
 use Rattle.tm_types.specs.declared.entry.LineKind.{LineKind}
 use Rattle.tm_types.specs.declared.step.FileKind.{FileKind}
 use Rattle.tm_types.specs.declared.step.LearnReply.{LearnReply}
+use Rattle.tm_types.specs.declared.step.Answered.{Answered}
+use Rattle.tm_types.specs.declared.step.AnswerFault.{AnswerFault}
 use Rattle.tm_types.specs.declared.step.EditReply.{EditReply}
+use Rattle.tm_run.specs.RunText.{answered_text}
+use Rattle.tm_run.specs.Steps.{fault_text}
 use Rattle.tm_types.specs.Texts.{mode_text, policy_text, learn_text, edit_text}
 
 pub mode_length : (mode : Mode) → length (mode_text mode) ≤ 10
@@ -41,3 +45,14 @@ edit_length (EditReply.BadLine LineKind.KernelDomain) = omega arith
 edit_length EditReply.NoDomain = omega arith
 edit_length EditReply.NoProfile = omega arith
 edit_length EditReply.NoSuchLine = omega arith
+
+pub answered_length : (answer : Answered) → length (answered_text answer) ≤ 8
+answered_length Answered.Yes = omega arith
+answered_length Answered.No = omega arith
+answered_length Answered.Retry = omega arith
+answered_length Answered.Detached = omega arith
+
+pub fault_length : (fault : AnswerFault) → length (fault_text fault) ≤ 8
+fault_length AnswerFault.NoQuery = omega arith
+fault_length AnswerFault.Answered = omega arith
+fault_length AnswerFault.BadAnswer = omega arith

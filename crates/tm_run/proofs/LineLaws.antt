@@ -11,7 +11,7 @@ use Rattle.tm_domain.proofs.NameLaws.{same_texts}
 use Rattle.tm_line.proofs.Steps.{both, not_true}
 use Rattle.tm_word.proofs.Spelled.{word_again}
 use Rattle.tm_line.proofs.WholeLaws.{word_from, spell_solid}
-use Rattle.tm_run.specs.RunText.{mode_word, reason_text, move_text, numbers_text, heard_text, verdict_text, learned_text, look_text, granted_text, domains_text, audit_word, audit_line, take_line}
+use Rattle.tm_run.specs.RunText.{mode_word, reason_text, move_text, numbers_text, heard_text, verdict_text, own_and_heard_text, look_text, granted_text, domains_text, audit_word, audit_line, take_line}
 use Rattle.tm_run.specs.Reading.{take_begun, take_of, look_of, audit_of}
 use Rattle.tm_run.specs.Written.{is_plain, is_wide, is_reason, is_move, is_heard, is_look, is_audit}
 use Rattle.tm_run.proofs.TextLaws.{one_word, spells_more, Line, last}
@@ -83,8 +83,8 @@ look_line look h =
     let made = spells_more (numbers_text look.own) (heard_text look.heard) (numbers_text look.own ∷ []) (heard_text look.heard ∷ []) own heard in
     let front = spells_more (codes "look") (decimal look.version) (codes "look" ∷ []) (decimal look.version ∷ []) (one_word (codes "look") refl) (one_word (decimal look.version) (decimal_is look.version p.version)) in
     let most = spells_more (codes "look " ++ decimal look.version) (verdict_text look) (codes "look" ∷ decimal look.version ∷ []) (mode_word look.mode ∷ reason_text look.reason ∷ move_text look.step ∷ []) front verdict in
-    let whole = spells_more (codes "look " ++ decimal look.version ++ 32 ∷ verdict_text look) (learned_text look) (codes "look" ∷ decimal look.version ∷ mode_word look.mode ∷ reason_text look.reason ∷ move_text look.step ∷ []) (numbers_text look.own ∷ heard_text look.heard ∷ []) most made in
-    last (codes "look " ++ decimal look.version ++ 32 ∷ verdict_text look ++ 32 ∷ learned_text look) (codes "look" ∷ look_words look) whole
+    let whole = spells_more (codes "look " ++ decimal look.version ++ 32 ∷ verdict_text look) (own_and_heard_text look) (codes "look" ∷ decimal look.version ∷ mode_word look.mode ∷ reason_text look.reason ∷ move_text look.step ∷ []) (numbers_text look.own ∷ heard_text look.heard ∷ []) most made in
+    last (codes "look " ++ decimal look.version ++ 32 ∷ verdict_text look ++ 32 ∷ own_and_heard_text look) (codes "look" ∷ look_words look) whole
 
 pub look_again : (look : Look) → is_look look ≡ true → look_of (codes "look" ∷ look_words look) ≡ Some look
 unfolding look_words look_of

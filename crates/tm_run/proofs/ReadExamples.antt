@@ -1,4 +1,5 @@
--- Worked examples: the runs that texts are read as, and the first lines with which a text can't go on.
+-- Worked examples: the runs that texts are read as, and the first lines with which a text can't go
+-- on.
 use Rattle.std.specs.Prelude.{◌≡◌, true, false, List, [], ◌∷◌, Some, None, Ok, Err, codes, refl}
 use Rattle.std.specs.Fmt.{digits}
 use Rattle.tm_word.specs.Spelling.{words_of, spelled_word, word_of, head_of}
@@ -54,7 +55,7 @@ pub no_audit : run_of (codes "run 1\ntake 1 7 0 0 granted\n") ≡ Err 3
 unfolding run_of lines_of line_read words_of take_of number_of plain_of numeral_of value_of digits
 no_audit = refl
 
--- a take with one look that learned of an answer, and with an audit text
+-- a take with one look that heard an answer, and with an audit text
 pub asked : Take
 asked =
     let heard : Heard = record { answer = Some Answered.No; version = 14 } in

@@ -1,5 +1,5 @@
--- The fields of a line of a run, each one word. A word that a field can't have is read as some value all the same: what is read counts only
--- where its printed line is the line that was read.
+-- The fields of a line of a run, each one word. A word that a field can't have is read as some
+-- value all the same: what is read counts only where its printed line is the line that was read.
 use Rattle.std.specs.Prelude.{ℕ, ◌^◌, if◌then◌else◌, List, [], ◌∷◌, codes, map, Option, Some, None}
 use Rattle.tm_word.specs.Words.{Text}
 use Rattle.tm_types.specs.declared.policy.Mode.{Mode}
@@ -10,7 +10,10 @@ use Rattle.tm_types.specs.declared.step.Answered.{Answered}
 use Rattle.tm_types.specs.declared.step.Heard.{Heard}
 use Rattle.tm_types.specs.declared.step.FileKind.{FileKind}
 use Rattle.tm_types.specs.declared.step.LearnReply.{LearnReply}
+use Rattle.tm_word.specs.Closed.{of_word, or_else}
 use Rattle.tm_word.specs.Texts.{texts_equal, pieces}
+use Rattle.tm_types.specs.Texts.{mode_text, modes, policy_text, policies, learn_text, learn_replies}
+use Rattle.tm_run.specs.RunText.{reason_text, answered_text}
 use Rattle.tm_number.specs.Numbers.{plain_of}
 
 -- the number that was read, and 0 where none was
@@ -34,17 +37,22 @@ u32_of = number_of (2 ^ 32)
 abbrev pub u64_of : Text → ℕ
 u64_of = number_of (2 ^ 64)
 
--- a mode's word, and `none` for a manual transition
+-- a mode's word; any other, as `none` of a manual transition, for none
 unfoldable pub mode_of : Text → Option Mode
-mode_of word =
-    if texts_equal word (codes "disabled") then Some Mode.Disabled else (if texts_equal word (codes "learning") then Some Mode.Learning else (if texts_equal word (codes "permissive") then Some Mode.Permissive else (if texts_equal word (codes "enforcing") then Some Mode.Enforcing else None)))
+mode_of word = of_word mode_text modes word
 
--- a reason's word
+-- the reasons that have no place
+abbrev pub reasons : List Reason
+reasons =
+    Reason.Disabled ∷ Reason.Permissive ∷ Reason.Quota ∷ Reason.Learn ∷ Reason.Ask
+    ∷ Reason.NoEntry ∷ Reason.NotReady ∷ Reason.NoManual ∷ []
+
+-- the word of a reason without a place
 unfoldable pub case_of : Text → Reason
-case_of word =
-    if texts_equal word (codes "disabled") then Reason.Disabled else (if texts_equal word (codes "permissive") then Reason.Permissive else (if texts_equal word (codes "quota") then Reason.Quota else (if texts_equal word (codes "learn") then Reason.Learn else (if texts_equal word (codes "ask") then Reason.Ask else (if texts_equal word (codes "no_entry") then Reason.NoEntry else (if texts_equal word (codes "not_ready") then Reason.NotReady else Reason.NoManual))))))
+case_of word = or_else (of_word reason_text reasons word) Reason.NoManual
 
--- the pieces of a reason's word: the word alone, or an entry's place after a colon, or its group and place
+-- the pieces of a reason's word: the word alone, or an entry's place after a colon, or its group
+-- and place
 abbrev pub reason_in : List Text → Reason
 reason_in [] = Reason.NoManual
 reason_in (word ∷ []) = case_of word
@@ -58,7 +66,9 @@ reason_of word = reason_in (pieces 58 word)
 
 -- a move's word
 unfoldable pub way_of : Text → Move
-way_of word = if texts_equal word (codes "stay") then Move.Stay else (if texts_equal word (codes "make") then Move.Make else Move.Fail)
+way_of word =
+    if texts_equal word (codes "stay") then Move.Stay
+    else (if texts_equal word (codes "make") then Move.Make else Move.Fail)
 
 -- the pieces of a move's word: the word alone, or a live domain's number after a colon
 abbrev pub move_in : List Text → Move
@@ -75,10 +85,13 @@ move_of word = move_in (pieces 58 word)
 unfoldable pub numbers_of : Text → List ℕ
 numbers_of word = if texts_equal word (codes "-") then [] else map u64_of (pieces 44 word)
 
--- what became of the query; `nobody` where no supervisor was attached
+-- what may become of a query
+abbrev pub answers : List Answered
+answers = Answered.Yes ∷ Answered.No ∷ Answered.Retry ∷ Answered.Detached ∷ []
+
+-- what became of the query; any other word, as `nobody` where no supervisor was attached, for none
 unfoldable pub answer_of : Text → Option Answered
-answer_of word =
-    if texts_equal word (codes "yes") then Some Answered.Yes else (if texts_equal word (codes "no") then Some Answered.No else (if texts_equal word (codes "retry") then Some Answered.Retry else (if texts_equal word (codes "detached") then Some Answered.Detached else None)))
+answer_of word = of_word answered_text answers word
 
 -- an answer and a version
 abbrev pub heard : Option Answered → ℕ → Heard
@@ -91,14 +104,14 @@ heard_in (word ∷ []) = None
 heard_in (answer ∷ version ∷ []) = Some (heard (answer_of answer) (u64_of version))
 heard_in (answer ∷ version ∷ other ∷ others) = None
 
--- what was learned, cut at its `@`
+-- what was heard, cut at its `@`
 unfoldable pub heard_of : Text → Option Heard
 heard_of word = heard_in (pieces 64 word)
 
 -- what became of a learned line
 unfoldable pub reply_of : Text → LearnReply
-reply_of word = if texts_equal word (codes "added") then LearnReply.Added else (if texts_equal word (codes "there") then LearnReply.There else (if texts_equal word (codes "quota") then LearnReply.Quota else LearnReply.Mode))
+reply_of word = or_else (of_word learn_text learn_replies word) LearnReply.Mode
 
 -- the name of a policy file
 unfoldable pub file_of : Text → FileKind
-file_of word = if texts_equal word (codes "profile") then FileKind.Profile else (if texts_equal word (codes "exception_policy") then FileKind.Exception else (if texts_equal word (codes "domain_policy") then FileKind.Domain else FileKind.Manager))
+file_of word = or_else (of_word policy_text policies word) FileKind.Manager

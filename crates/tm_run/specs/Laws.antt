@@ -12,12 +12,19 @@ WrittenIsRead = (run : Run) → is_written run ≡ true → run_of (run_text run
 
 -- what is read is a run that a text can write, and the text is its own
 abbrev pub ReadIsWritten : Type 0
-ReadIsWritten = (text : Text) (run : Run) → run_of text ≡ Ok run → (is_written run ≡ true) × (run_text run ≡ text)
+ReadIsWritten =
+    (text : Text) (run : Run) → run_of text ≡ Ok run
+    → (is_written run ≡ true) × (run_text run ≡ text)
 
 -- some run that a text can write has, in its text, as many first lines as this text has them
 abbrev pub CanBegin : ℕ → Text → Type 0
-CanBegin count text = (run : Run) × (is_written run ≡ true) × (take count (lines_of (run_text run)) ≡ take count (lines_of text))
+CanBegin count text =
+    (run : Run) × (is_written run ≡ true)
+    × (take count (lines_of (run_text run)) ≡ take count (lines_of text))
 
--- a fault names the first line with which no such text can go on: one can begin as the lines before it, none as they and this line
+-- a fault names the first line with which no such text can go on: one can begin as the lines before
+-- it, none as they and this line
 abbrev pub FaultIsFirst : Type 0
-FaultIsFirst = (text : Text) (line : ℕ) → run_of text ≡ Err line → CanBegin (line - 1) text × ¬ (CanBegin line text)
+FaultIsFirst =
+    (text : Text) (line : ℕ) → run_of text ≡ Err line
+    → CanBegin (line - 1) text × ¬ (CanBegin line text)

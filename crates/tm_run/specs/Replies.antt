@@ -1,18 +1,23 @@
--- The reply in a step's line, one word. A word that a reply can't have is read as some reply all the same: what is read counts only where
--- its printed line is the line that was read.
-use Rattle.std.specs.Prelude.{if◌then◌else◌, List, [], ◌∷◌, codes, Option, Some, None}
+-- The reply in a step's line, one word. A word that a reply can't have is read as some reply all
+-- the same: what is read counts only where its printed line is the line that was read.
+use Rattle.std.specs.Prelude.{if◌then◌else◌, List, [], ◌∷◌, codes, Option}
 use Rattle.tm_word.specs.Words.{Text}
 use Rattle.tm_types.specs.declared.entry.LineKind.{LineKind}
 use Rattle.tm_types.specs.declared.step.MakeReply.{MakeReply}
 use Rattle.tm_types.specs.declared.step.EditReply.{EditReply}
 use Rattle.tm_types.specs.declared.step.Held.{Held}
 use Rattle.tm_types.specs.declared.step.AnswerFault.{AnswerFault}
+use Rattle.tm_word.specs.Closed.{of_word, or_else}
 use Rattle.tm_word.specs.Texts.{texts_equal, pieces}
+use Rattle.tm_types.specs.Texts.{kind_text, kinds, edit_text}
+use Rattle.tm_run.specs.Steps.{fault_text}
 use Rattle.tm_run.specs.Fields.{u32_of, u64_of}
 
 -- a domain that was made, or that was there
 abbrev pub new_or_old : Text → Text → MakeReply
-new_or_old word domain = if texts_equal word (codes "new") then MakeReply.New (u32_of domain) else MakeReply.Old (u32_of domain)
+new_or_old word domain =
+    if texts_equal word (codes "new") then MakeReply.New (u32_of domain)
+    else MakeReply.Old (u32_of domain)
 
 -- `new` or `old`, and a domain's number after a colon
 abbrev pub made_in : List Text → MakeReply
@@ -36,37 +41,25 @@ held_in (word ∷ serial ∷ other ∷ others) = Held.Nobody
 unfoldable pub held_of : Text → Held
 held_of word = held_in (pieces 58 word)
 
+-- why an answer may have no effect
+abbrev pub faults : List AnswerFault
+faults = AnswerFault.NoQuery ∷ AnswerFault.Answered ∷ AnswerFault.BadAnswer ∷ []
+
 -- why an answer has no effect; anything else for none
 unfoldable pub fault_of : Text → Option AnswerFault
-fault_of word = if texts_equal word (codes "no_query") then Some AnswerFault.NoQuery else (if texts_equal word (codes "answered") then Some AnswerFault.Answered else (if texts_equal word (codes "bad") then Some AnswerFault.BadAnswer else None))
+fault_of word = of_word fault_text faults word
 
 -- what is wrong with a policy line
 unfoldable pub kind_of : Text → LineKind
-kind_of word =
-    if texts_equal word (codes "keyword")
-    then LineKind.Keyword
-    else if texts_equal word (codes "arity")
-    then LineKind.Arity
-    else if texts_equal word (codes "name")
-    then LineKind.Name
-    else if texts_equal word (codes "number")
-    then LineKind.Number
-    else if texts_equal word (codes "address")
-    then LineKind.Address
-    else if texts_equal word (codes "domain")
-    then LineKind.Domain
-    else if texts_equal word (codes "condition")
-    then LineKind.Condition
-    else if texts_equal word (codes "profile") then LineKind.Profile else if texts_equal word (codes "version") then LineKind.Version else LineKind.KernelDomain
+kind_of word = or_else (of_word kind_text kinds word) LineKind.KernelDomain
+
+-- what may become of a policy line that isn't bad and isn't done
+abbrev pub edits : List EditReply
+edits = EditReply.NotManager ∷ EditReply.NoDomain ∷ EditReply.NoProfile ∷ EditReply.NoSuchLine ∷ []
 
 -- what became of a policy line that isn't bad
 unfoldable pub edited_of : Text → EditReply
-edited_of word =
-    if texts_equal word (codes "not_manager")
-    then EditReply.NotManager
-    else if texts_equal word (codes "no_domain")
-    then EditReply.NoDomain
-    else if texts_equal word (codes "no_profile") then EditReply.NoProfile else if texts_equal word (codes "no_line") then EditReply.NoSuchLine else EditReply.Done
+edited_of word = or_else (of_word edit_text edits word) EditReply.Done
 
 -- the pieces of the word: alone, or `bad` and a kind after a colon
 abbrev pub edited_in : List Text → EditReply

@@ -49,15 +49,19 @@ abbrev pub numbers_text : List ℕ → Text
 numbers_text [] = codes "-"
 numbers_text (number ∷ others) = decimal number ++ flat_map (λ other. 44 ∷ decimal other) others
 
--- what became of the query; `nobody` where no supervisor was attached
+-- what became of the query
+abbrev pub answered_text : Answered → Text
+answered_text Answered.Yes = codes "yes"
+answered_text Answered.No = codes "no"
+answered_text Answered.Retry = codes "retry"
+answered_text Answered.Detached = codes "detached"
+
+-- and `nobody` where no supervisor was attached
 abbrev pub answer_text : Option Answered → Text
 answer_text None = codes "nobody"
-answer_text (Some Answered.Yes) = codes "yes"
-answer_text (Some Answered.No) = codes "no"
-answer_text (Some Answered.Retry) = codes "retry"
-answer_text (Some Answered.Detached) = codes "detached"
+answer_text (Some answer) = answered_text answer
 
--- what a look learned, `@` and the version at which it did, and `-` where it asked nothing
+-- what a look heard, `@` and the version at which it did, and `-` where it asked nothing
 abbrev pub heard_text : Option Heard → Text
 heard_text None = codes "-"
 heard_text (Some heard) = answer_text heard.answer ++ 64 ∷ decimal heard.version
@@ -66,13 +70,15 @@ heard_text (Some heard) = answer_text heard.answer ++ 64 ∷ decimal heard.versi
 abbrev pub verdict_text : Look → Text
 verdict_text look = mode_word look.mode ++ 32 ∷ reason_text look.reason ++ 32 ∷ move_text look.step
 
--- the steps that a look made itself, and what it learned
-abbrev pub learned_text : Look → Text
-learned_text look = numbers_text look.own ++ 32 ∷ heard_text look.heard
+-- the steps that a look made itself, and what it heard
+abbrev pub own_and_heard_text : Look → Text
+own_and_heard_text look = numbers_text look.own ++ 32 ∷ heard_text look.heard
 
 -- the line of a look
 abbrev pub look_text : Look → Text
-look_text look = codes "look " ++ decimal look.version ++ 32 ∷ verdict_text look ++ 32 ∷ learned_text look ++ 10 ∷ []
+look_text look =
+    codes "look " ++ decimal look.version ++ 32 ∷ verdict_text look ++ 32 ∷ own_and_heard_text look
+    ++ 10 ∷ []
 
 -- the audit text as one word, and `-` for none
 abbrev pub audit_word : Option Text → Text
@@ -94,7 +100,8 @@ domains_text t = decimal t.pid ++ 32 ∷ decimal t.before ++ 32 ∷ decimal t.af
 
 -- the first line of the take with that number
 abbrev pub take_line : ℕ → Take → Text
-take_line number t = codes "take " ++ decimal number ++ 32 ∷ domains_text t ++ 32 ∷ granted_text t.granted ++ 10 ∷ []
+take_line number t =
+    codes "take " ++ decimal number ++ 32 ∷ domains_text t ++ 32 ∷ granted_text t.granted ++ 10 ∷ []
 
 -- the lines of the take with that number: its own, its looks in order, its audit text
 abbrev pub take_text : ℕ → Take → Text

@@ -1,5 +1,5 @@
--- What the words of a step's line say. Words that no step has are read as some step, or as none: what is read counts only where its printed
--- line is the line that was read.
+-- What the words of a step's line say. Words that no step has are read as some step, or as none:
+-- what is read counts only where its printed line is the line that was read.
 use Rattle.std.specs.Prelude.{ℕ, if◌then◌else◌, List, [], ◌∷◌, codes, Option, Some, None, Result, Ok, Err}
 use Rattle.tm_word.specs.Words.{Text}
 use Rattle.tm_word.specs.Spelling.{joined}
@@ -37,7 +37,8 @@ make_in reply (domain ∷ words) = made (u32_of domain) reply (domain_to_end wor
 -- a domain that is marked
 abbrev pub fail_in : Text → List Text → Option (Step × Reply)
 fail_in reply [] = None
-fail_in reply (domain ∷ []) = Some (Step.Fail (u32_of domain), Reply.Fail (texts_equal reply (codes "set")))
+fail_in reply (domain ∷ []) =
+    Some (Step.Fail (u32_of domain), Reply.Fail (texts_equal reply (codes "set")))
 fail_in reply (domain ∷ other ∷ others) = None
 
 -- a domain, a retry number, and a line
@@ -45,13 +46,16 @@ abbrev pub ask_in : Text → List Text → Option (Step × Reply)
 ask_in reply [] = None
 ask_in reply (domain ∷ []) = None
 ask_in reply (domain ∷ retry ∷ []) = None
-ask_in reply (domain ∷ retry ∷ word ∷ words) = Some (Step.Ask (u32_of domain) (u32_of retry) (joined (word ∷ words)), Reply.Ask (held_of reply))
+ask_in reply (domain ∷ retry ∷ word ∷ words) =
+    Some
+    (Step.Ask (u32_of domain) (u32_of retry) (joined (word ∷ words)), Reply.Ask (held_of reply))
 
 -- a serial and a code
 abbrev pub answer_in : Text → List Text → Option (Step × Reply)
 answer_in reply [] = None
 answer_in reply (serial ∷ []) = None
-answer_in reply (serial ∷ code ∷ []) = Some (Step.Answer (u64_of serial) (u64_of code), Reply.Answer (fault_of reply))
+answer_in reply (serial ∷ code ∷ []) =
+    Some (Step.Answer (u64_of serial) (u64_of code), Reply.Answer (fault_of reply))
 answer_in reply (serial ∷ code ∷ other ∷ others) = None
 
 -- the supervisor comes
@@ -69,7 +73,9 @@ abbrev pub edit_in : Text → List Text → Option (Step × Reply)
 edit_in reply [] = None
 edit_in reply (editor ∷ []) = None
 edit_in reply (editor ∷ file ∷ []) = None
-edit_in reply (editor ∷ file ∷ word ∷ words) = Some (Step.Edit (u32_of editor) (file_of file) (joined (word ∷ words)), Reply.Edit (edit_of reply))
+edit_in reply (editor ∷ file ∷ word ∷ words) =
+    Some
+    (Step.Edit (u32_of editor) (file_of file) (joined (word ∷ words)), Reply.Edit (edit_of reply))
 
 -- a tree that ends
 abbrev pub end_in : List Text → Option (Step × Reply)
@@ -94,7 +100,8 @@ step_in keyword reply words =
     then attach_in reply words
     else if texts_equal keyword (codes "detach")
     then detach_in reply words
-    else if texts_equal keyword (codes "edit") then edit_in reply words else if texts_equal keyword (codes "end") then end_in words else None
+    else if texts_equal keyword (codes "edit") then edit_in reply words
+    else if texts_equal keyword (codes "end") then end_in words else None
 
 -- `step`, a number, a reply, a keyword, and the words after it
 unfoldable pub step_of : List Text → Option (Step × Reply)

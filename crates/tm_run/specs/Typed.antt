@@ -7,7 +7,8 @@ use Rattle.tm_types.specs.declared.step.Take.{Take}
 use Rattle.tm_types.specs.declared.step.Run.{Run}
 use Rattle.tm_run.specs.Written.{is_plain, is_wide, is_made, is_held, is_look}
 
--- the numbers of a step: 64 bits for a serial and a code, 32 for a domain, a retry, an editor and a tree
+-- the numbers of a step: 64 bits for a serial and a code, 32 for a domain, a retry, an editor and a
+-- tree
 abbrev pub has_numbers : Step → Bool
 has_numbers (Step.Learn domain entry) = is_plain domain
 has_numbers (Step.Make domain name) = is_plain domain
@@ -30,8 +31,11 @@ is_typed_step pair = has_numbers pair.0 && replies_number pair.1
 
 -- the process and the domains of a take, and all numbers of its looks
 abbrev pub is_typed_take : Take → Bool
-is_typed_take take = is_plain take.pid && is_plain take.before && is_plain take.after && list_all is_look take.looks
+is_typed_take take =
+    is_plain take.pid && is_plain take.before && is_plain take.after && list_all is_look take.looks
 
 -- those of all steps and takes, which have numbers of 64 bits themselves
 unfoldable pub is_typed : Run → Bool
-is_typed run = is_wide (length run.steps) && list_all is_typed_step run.steps && is_wide (length run.takes) && list_all is_typed_take run.takes
+is_typed run =
+    is_wide (length run.steps) && list_all is_typed_step run.steps && is_wide (length run.takes)
+    && list_all is_typed_take run.takes

@@ -32,7 +32,8 @@ is_wide number = nat_lt number (2 ^ 64)
 unfoldable pub is_line : Text → Bool
 is_line text = not (is_empty (words_of text)) && texts_equal (joined (words_of text)) text
 
--- a step with numbers in their ranges, an entry that a line can write, a right domain name, and a line of words
+-- a step with numbers in their ranges, an entry that a line can write, a right domain name, and a
+-- line of words
 abbrev pub is_right : Step → Bool
 is_right (Step.Learn domain entry) = is_plain domain && is_entry entry
 is_right (Step.Make domain name) = is_plain domain && is_domain_name is_path name
@@ -135,17 +136,27 @@ is_heard (Some heard) = is_wide heard.version
 
 -- a look with all its numbers in their ranges
 abbrev pub is_look : Look → Bool
-is_look look = is_wide look.version && is_reason look.reason && is_move look.step && list_all is_wide look.own && is_heard look.heard
+is_look look =
+    is_wide look.version && is_reason look.reason && is_move look.step && list_all is_wide look.own
+    && is_heard look.heard
 
 -- an audit text is made of bytes, at least one, and isn't `-`, which stands for none
 abbrev pub is_audit : Option Text → Bool
 is_audit None = true
-is_audit (Some text) = list_all (λ byte. nat_lt byte 256) text && not (texts_equal text (codes "-")) && not (texts_equal text [])
+is_audit (Some text) =
+    list_all (λ byte. nat_lt byte 256) text && not (texts_equal text (codes "-"))
+    && not (texts_equal text [])
 
--- a take with all its numbers in their ranges, its looks, and an audit text that can be told from none
+-- a take with all its numbers in their ranges, its looks, and an audit text that can be told from
+-- none
 abbrev pub is_take : Take → Bool
-is_take take = is_plain take.pid && is_plain take.before && is_plain take.after && list_all is_look take.looks && is_audit take.audit
+is_take take =
+    is_plain take.pid && is_plain take.before && is_plain take.after && list_all is_look take.looks
+    && is_audit take.audit
 
--- the runs that a text can write: numbers in their ranges, also those of the steps and takes, each step with a reply of its own kind, and texts that a line can hold
+-- the runs that a text can write: numbers in their ranges, also those of the steps and takes, each
+-- step with a reply of its own kind, and texts that a line can hold
 unfoldable pub is_written : Run → Bool
-is_written run = is_wide (length run.steps) && list_all is_step run.steps && is_wide (length run.takes) && list_all is_take run.takes
+is_written run =
+    is_wide (length run.steps) && list_all is_step run.steps && is_wide (length run.takes)
+    && list_all is_take run.takes

@@ -1,15 +1,14 @@
 //! The fields of a line of a run, each one word.
 ghost use Rattle.std.specs.Prelude.{◌≡◌, map, IfOk};
 ghost use Rattle.tm_word.specs.Texts.{pieces};
-ghost use Rattle.tm_run.specs.Fields.{u8_of, u32_of, u64_of, mode_of, case_of, reason_of, way_of, move_of, numbers_of, answer_of, heard_of, file_of};
+ghost use Rattle.tm_run.specs.Fields.{u8_of, u32_of, u64_of, case_of, reason_of, way_of, move_of, numbers_of, answer_of, heard_of, file_of};
 
 use std::alloc::Global;
 use tm_list::{NoMemory, Seq};
 use tm_number::plain_number;
-use tm_types::policy::Mode;
 use tm_types::step::{Answered, FileKind, Heard};
 use tm_types::verdict::{EntryPlace, Move, Reason};
-use tm_word::{Text, bytes_equal, cut_at};
+use tm_word::{Text, bytes_equal, cut_at, of_word, value_of};
 
 // A plain number of 8 bits, or 0.
 #[tactic(auto, unfolding(crate::specs::Fields::number_of))]
@@ -58,51 +57,23 @@ pub(crate) fn pieces(alloc: Global, byte: u8, word: &[u8]) -> Result<Vec<Text>, 
     Ok(made)
 }
 
-#[tactic(auto, unfolding(crate::specs::Fields::mode_of))]
-pub(crate) fn mode_of(word: &[u8]) -> Option<Mode>
-    ensures { result ≡ mode_of word.now }
-{
-    if bytes_equal(word, b"disabled") {
-        return Some(Mode::Disabled);
-    }
-    if bytes_equal(word, b"learning") {
-        return Some(Mode::Learning);
-    }
-    if bytes_equal(word, b"permissive") {
-        return Some(Mode::Permissive);
-    }
-    if bytes_equal(word, b"enforcing") {
-        return Some(Mode::Enforcing);
-    }
-    None
-}
+/// The reasons that have no place, by their words.
+const REASONS: [(&str, Reason); 8] = [
+    ("disabled", Reason::Disabled),
+    ("permissive", Reason::Permissive),
+    ("quota", Reason::Quota),
+    ("learn", Reason::Learn),
+    ("ask", Reason::Ask),
+    ("no_entry", Reason::NoEntry),
+    ("not_ready", Reason::NotReady),
+    ("no_manual", Reason::NoManual),
+];
 
 #[tactic(auto, unfolding(crate::specs::Fields::case_of))]
 fn case_of(word: &[u8]) -> Reason
     ensures { result ≡ case_of word.now }
 {
-    if bytes_equal(word, b"disabled") {
-        return Reason::Disabled;
-    }
-    if bytes_equal(word, b"permissive") {
-        return Reason::Permissive;
-    }
-    if bytes_equal(word, b"quota") {
-        return Reason::Quota;
-    }
-    if bytes_equal(word, b"learn") {
-        return Reason::Learn;
-    }
-    if bytes_equal(word, b"ask") {
-        return Reason::Ask;
-    }
-    if bytes_equal(word, b"no_entry") {
-        return Reason::NoEntry;
-    }
-    if bytes_equal(word, b"not_ready") {
-        return Reason::NotReady;
-    }
-    Reason::NoManual
+    value_of(&REASONS, word).unwrap_or(Reason::NoManual)
 }
 
 #[tactic(auto, unfolding(crate::specs::Fields::reason_of))]
@@ -170,23 +141,19 @@ pub(crate) fn numbers_of(alloc: Global, word: &[u8]) -> Result<Seq<u64>, NoMemor
     listed(alloc, &found)
 }
 
+/// What may become of a query, by its words.
+pub(crate) const ANSWERS: [(&str, Answered); 4] = [
+    ("yes", Answered::Yes),
+    ("no", Answered::No),
+    ("retry", Answered::Retry),
+    ("detached", Answered::Detached),
+];
+
 #[tactic(auto, unfolding(crate::specs::Fields::answer_of))]
 fn answer_of(word: &[u8]) -> Option<Answered>
     ensures { result ≡ answer_of word.now }
 {
-    if bytes_equal(word, b"yes") {
-        return Some(Answered::Yes);
-    }
-    if bytes_equal(word, b"no") {
-        return Some(Answered::No);
-    }
-    if bytes_equal(word, b"retry") {
-        return Some(Answered::Retry);
-    }
-    if bytes_equal(word, b"detached") {
-        return Some(Answered::Detached);
-    }
-    None
+    value_of(&ANSWERS, word)
 }
 
 #[tactic(auto, unfolding(crate::specs::Fields::heard_of))]
@@ -209,14 +176,5 @@ pub(crate) fn heard_of(alloc: Global, word: &[u8]) -> Result<Option<Heard>, NoMe
 pub(crate) fn file_of(word: &[u8]) -> FileKind
     ensures { result ≡ file_of word.now }
 {
-    if bytes_equal(word, b"profile") {
-        return FileKind::Profile;
-    }
-    if bytes_equal(word, b"exception_policy") {
-        return FileKind::Exception;
-    }
-    if bytes_equal(word, b"domain_policy") {
-        return FileKind::Domain;
-    }
-    FileKind::Manager
+    of_word(word).unwrap_or(FileKind::Manager)
 }

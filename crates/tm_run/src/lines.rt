@@ -2,11 +2,11 @@
 ghost use Rattle.std.specs.Prelude.{◌≡◌, IfOk};
 ghost use Rattle.tm_run.specs.Reading.{take_of, look_of, audit_of};
 
-use crate::fields::{heard_of, mode_of, move_of, numbers_of, reason_of, u32_of, u64_of};
+use crate::fields::{heard_of, move_of, numbers_of, reason_of, u32_of, u64_of};
 use std::alloc::Global;
 use tm_list::{NoMemory, Seq};
 use tm_types::step::{Look, Take};
-use tm_word::{Text, bytes_equal, spelled_word};
+use tm_word::{Text, bytes_equal, of_word, spelled_word};
 
 // A take before its first look.
 #[tactic(auto, unfolding(crate::specs::Reading::take_of))]
@@ -22,37 +22,24 @@ pub(crate) fn take_of(alloc: Global, words: &[Text]) -> Option<Take>
             looks: Seq::new(alloc),
             audit: None,
         }),
-        [] => None,
-        [_] => None,
-        [_, _] => None,
-        [_, _, _] => None,
-        [_, _, _, _] => None,
-        [_, _, _, _, _] => None,
-        [_, _, _, _, _, _, _, ..] => None,
+        _ => None,
     }
 }
 
-#[tactic(auto, unfolding(crate::specs::Reading::look_of))]
+#[tactic(auto, unfolding(crate::specs::Reading::look_of, crate::specs::Fields::mode_of))]
 pub(crate) fn look_of(alloc: Global, words: &[Text]) -> Result<Option<Look>, NoMemory>
     ensures { IfOk result (λ look. look ≡ look_of words.now) }
 {
     match words {
-        [_, version, mode, reason, step, own, learned] => Ok(Some(Look {
+        [_, version, mode, reason, step, own, heard] => Ok(Some(Look {
             version: u64_of(version.bytes()),
-            mode: mode_of(mode.bytes()),
+            mode: of_word(mode.bytes()),
             reason: reason_of(alloc, reason.bytes())?,
             step: move_of(alloc, step.bytes())?,
             own: numbers_of(alloc, own.bytes())?,
-            heard: heard_of(alloc, learned.bytes())?,
+            heard: heard_of(alloc, heard.bytes())?,
         })),
-        [] => Ok(None),
-        [_] => Ok(None),
-        [_, _] => Ok(None),
-        [_, _, _] => Ok(None),
-        [_, _, _, _] => Ok(None),
-        [_, _, _, _, _] => Ok(None),
-        [_, _, _, _, _, _] => Ok(None),
-        [_, _, _, _, _, _, _, _, ..] => Ok(None),
+        _ => Ok(None),
     }
 }
 
@@ -69,8 +56,6 @@ pub(crate) fn audit_of(alloc: Global, words: &[Text]) -> Result<Option<Text>, No
                 spelled_word(alloc, word.bytes())
             }
         }
-        [] => Ok(None),
-        [_] => Ok(None),
-        [_, _, _, ..] => Ok(None),
+        _ => Ok(None),
     }
 }

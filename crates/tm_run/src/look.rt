@@ -5,6 +5,7 @@ ghost use Rattle.tm_run.specs.Room.{room};
 ghost use Rattle.tm_run.specs.Written.{is_place, is_reason, is_move, is_wide, is_heard, is_look};
 ghost use Rattle.tm_run.specs.RunText.{mode_word, place_text, reason_text, move_text, numbers_text, answer_text, heard_text, verdict_text, look_text};
 
+use crate::fields::ANSWERS;
 use crate::room::{make_room, put, put_plain, put_small, put_text, put_wide};
 use tm_list::NoMemory;
 use tm_types::policy::Mode;
@@ -84,6 +85,7 @@ fn put_verdict(look: &Look, out: &mut Vec<u8>)
     put_move(look.step, out);
 }
 
+#[tactic(auto, using(crate::proofs::Lengths::answered_length))]
 fn put_answer(answer: Option<Answered>, out: &mut Vec<u8>)
     requires { 8 ≤ room out.old }
     ensures text { out.new.items ≡ out.old.items ++ answer_text answer }
@@ -91,10 +93,7 @@ fn put_answer(answer: Option<Answered>, out: &mut Vec<u8>)
 {
     match answer {
         None => put_text(b"nobody", out),
-        Some(Answered::Yes) => put_text(b"yes", out),
-        Some(Answered::No) => put_text(b"no", out),
-        Some(Answered::Retry) => put_text(b"retry", out),
-        Some(Answered::Detached) => put_text(b"detached", out),
+        Some(answer) => put_text(ANSWERS[answer as usize].0.as_bytes(), out),
     }
 }
 
@@ -119,7 +118,8 @@ const NEXT_ROOM: usize = 52;
 // The numbers after the first one. Behind them there is room for what a look heard.
 fn push_others(numbers: &[u64], out: &mut Vec<u8>) -> Result<(), NoMemory>
     requires { 31 ≤ room out.old }
-    ensures text { OnOk result (out.new.items ≡ out.old.items ++ flat_map (λ other. 44 ∷ decimal other) numbers.now) }
+    ensures text { OnOk result
+        (out.new.items ≡ out.old.items ++ flat_map (λ other. 44 ∷ decimal other) numbers.now) }
     ensures room { OnOk result (31 ≤ room out.new) }
     ensures range { OnOk result (list_all is_wide numbers.now ≡ true) }
 {
@@ -149,7 +149,8 @@ fn push_numbers(numbers: &[u64], out: &mut Vec<u8>) -> Result<(), NoMemory>
     }
 }
 
-// Room for the line of any look but its numbers: its words, its version, its verdict and what it heard.
+// Room for the line of any look but its numbers: its words, its version, its verdict and what it
+// heard.
 const LOOK_ROOM: usize = 126;
 
 pub(crate) fn push_look(look: &Look, out: &mut Vec<u8>) -> Result<(), NoMemory>

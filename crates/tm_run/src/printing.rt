@@ -85,7 +85,8 @@ fn push_take(alloc: Global, number: u64, take: &Take, out: &mut Vec<u8>) -> Resu
 
 fn push_takes(alloc: Global, takes: &[Take], out: &mut Vec<u8>) -> Result<(), NoMemory>
     ensures text { OnOk result (out.new.items ≡ out.old.items ++ takes_text 0 takes.now) }
-    ensures range { OnOk result ((is_wide (length takes.now) ≡ true) × (list_all is_typed_take takes.now ≡ true)) }
+    ensures range { OnOk result
+        ((is_wide (length takes.now) ≡ true) × (list_all is_typed_take takes.now ≡ true)) }
 {
     let mut count = 0;
     while count < takes.len() {
@@ -108,9 +109,11 @@ fn run_text(alloc: Global, run: &Run) -> Result<Vec<u8>, NoMemory>
     Ok(text)
 }
 
-/// Appends the text of a run: the line `run 1`; of each step one line with its number from 1, its reply and its words; and of each
-/// take one line with its number from 1, its process, the numbers of its domain before and after and its answer, then its looks and
-/// its audit text as one word. After want of memory `out` is as before. Each number of a run that was printed is in its type's range.
+/// Appends the text of a run: the line `run 1`; of each step one line with its number from 1, its
+/// reply and its words; and of each take one line with its number from 1, its process, the numbers
+/// of its domain before and after and its answer, then its looks and its audit text as one word.
+/// After want of memory `out` is as before. Each number of a run that was printed is in its type's
+/// range.
 pub fn print_run(alloc: Global, run: &Run, out: &mut Vec<u8>) -> Result<(), NoMemory>
     ensures ok { OnOk result (out.new.items ≡ out.old.items ++ run_text run.now) }
     ensures err { OnErr result (out.new.items ≡ out.old.items) }

@@ -17,7 +17,8 @@ use tm_list::{NoMemory, Seq};
 use tm_types::step::{Look, Reply, Run, RunFault, Step, Take};
 use tm_word::{Text, bytes_equal, normal_words, place_of};
 
-/// What has been read of a run: its steps, its takes, and the take that is begun, with its looks so far.
+/// What has been read of a run: its steps, its takes, and the take that is begun, with its looks so
+/// far.
 #[derive(Drop)]
 struct Reading {
     steps: Seq<(Step, Reply)>,
@@ -27,7 +28,8 @@ struct Reading {
 
 // The number after so many, where it has 64 bits.
 fn next_number(count: usize) -> Option<u64>
-    ensures { MatchOption result (has_number count ≡ false) (λ number. (has_number count ≡ true) × (number ≡ count + 1)) }
+    ensures { MatchOption result (has_number count ≡ false)
+        (λ number. (has_number count ≡ true) × (number ≡ count + 1)) }
 {
     (count as u64).checked_add(1)
 }
@@ -77,7 +79,8 @@ fn is_next_step(
     step: &(Step, Reply),
     line: &[u8],
 ) -> Result<bool, NoMemory>
-    ensures { IfOk result (λ same. same ≡ (has_number count && texts_equal (step_line (count + 1) step.now) line.now)) }
+    ensures { IfOk result (λ same. same ≡ (has_number count && texts_equal
+        (step_line (count + 1) step.now) line.now)) }
 {
     match next_number(count) {
         Some(number) => is_step_line(alloc, number, step, line),
@@ -125,6 +128,28 @@ fn with_step(
     }
 }
 
+// The take that begins here.
+fn begin(reading: Reading, take: Take) -> Reading
+    ensures { result ≡ record reading { begun = Some take } }
+{
+    Reading {
+        steps: reading.steps,
+        takes: reading.takes,
+        begun: Some(take),
+    }
+}
+
+// Whether a take is the next one after so many, and its first line this one.
+fn is_next_take(alloc: Global, count: usize, take: &Take, line: &[u8]) -> Result<bool, NoMemory>
+    ensures { IfOk result (λ same. same
+        ≡ (has_number count && texts_equal (take_line (count + 1) take.now) line.now)) }
+{
+    match next_number(count) {
+        Some(number) => is_take_line(alloc, number, take, line),
+        None => Ok(false),
+    }
+}
+
 fn with_take(
     alloc: Global,
     reading: Reading,
@@ -133,17 +158,23 @@ fn with_take(
 ) -> Result<Option<Reading>, NoMemory>
     ensures { IfOk result (λ next. next ≡ with_take reading line.now (Some take)) }
 {
-    let Some(number) = next_number(reading.takes.len()) else {
-        return Ok(None);
-    };
-    if !is_take_line(alloc, number, &take, line)? {
-        return Ok(None);
+    match is_next_take(alloc, reading.takes.len(), &take, line) {
+        Ok(true) => Ok(Some(begin(reading, take))),
+        Ok(false) => Ok(None),
+        Err(fault) => Err(fault),
     }
-    Ok(Some(Reading {
-        steps: reading.steps,
-        takes: reading.takes,
-        begun: Some(take),
-    }))
+}
+
+// One look more of the take that is begun.
+fn put_look(reading: Reading, take: Take, look: Look) -> Result<Reading, NoMemory>
+    ensures { IfOk result (λ next. next
+        ≡ record reading { begun = Some (record take { looks = take.looks ++ look ∷ [] }) }) }
+{
+    let mut take = take;
+    match take.looks.push(look) {
+        Ok(()) => Ok(begin(reading, take)),
+        Err(fault) => Err(fault),
+    }
 }
 
 fn with_look(
@@ -155,14 +186,28 @@ fn with_look(
 ) -> Result<Option<Reading>, NoMemory>
     ensures { IfOk result (λ next. next ≡ with_look reading take line.now (Some look)) }
 {
-    if !is_look_line(alloc, &look, line)? {
-        return Ok(None);
+    match is_look_line(alloc, &look, line) {
+        Ok(true) => match put_look(reading, take, look) {
+            Ok(next) => Ok(Some(next)),
+            Err(fault) => Err(fault),
+        },
+        Ok(false) => Ok(None),
+        Err(fault) => Err(fault),
     }
+}
+
+// The end of the take that is begun.
+fn end(reading: Reading, take: Take, audit: Option<Text>) -> Result<Reading, NoMemory>
+    ensures { IfOk result (λ next. next
+        ≡ record reading { takes = reading.takes ++ record take { audit = audit } ∷ [] }) }
+{
     let mut take = take;
-    take.looks.push(look)?;
+    take.audit = audit;
     let mut reading = reading;
-    reading.begun = Some(take);
-    Ok(Some(reading))
+    match reading.takes.push(take) {
+        Ok(()) => Ok(reading),
+        Err(fault) => Err(fault),
+    }
 }
 
 fn with_audit(
@@ -174,14 +219,14 @@ fn with_audit(
 ) -> Result<Option<Reading>, NoMemory>
     ensures { IfOk result (λ next. next ≡ with_audit reading take line.now audit) }
 {
-    if !is_audit_line(alloc, &audit, line)? {
-        return Ok(None);
+    match is_audit_line(alloc, &audit, line) {
+        Ok(true) => match end(reading, take, audit) {
+            Ok(next) => Ok(Some(next)),
+            Err(fault) => Err(fault),
+        },
+        Ok(false) => Ok(None),
+        Err(fault) => Err(fault),
     }
-    let mut take = take;
-    take.audit = audit;
-    let mut reading = reading;
-    reading.takes.push(take)?;
-    Ok(Some(reading))
 }
 
 // Whether the first word is this one.
@@ -212,9 +257,10 @@ fn outside(
     if !reading.takes.is_empty() {
         return Ok(None);
     }
-    match step_of(alloc, words)? {
-        Some(step) => with_step(alloc, reading, line, step),
-        None => Ok(None),
+    match step_of(alloc, words) {
+        Ok(Some(step)) => with_step(alloc, reading, line, step),
+        Ok(None) => Ok(None),
+        Err(fault) => Err(fault),
     }
 }
 
@@ -229,12 +275,15 @@ fn within(
     ensures { IfOk result (λ next. next ≡ within reading take line.now words.now) }
 {
     if starts(b"audit", words) {
-        let audit = audit_of(alloc, words)?;
-        return with_audit(alloc, reading, take, line, audit);
+        return match audit_of(alloc, words) {
+            Ok(audit) => with_audit(alloc, reading, take, line, audit),
+            Err(fault) => Err(fault),
+        };
     }
-    match look_of(alloc, words)? {
-        Some(look) => with_look(alloc, reading, take, line, look),
-        None => Ok(None),
+    match look_of(alloc, words) {
+        Ok(Some(look)) => with_look(alloc, reading, take, line, look),
+        Ok(None) => Ok(None),
+        Err(fault) => Err(fault),
     }
 }
 
@@ -262,7 +311,9 @@ fn line_read(alloc: Global, reading: Reading, line: &[u8]) -> Result<Option<Read
 
 // The first line, with the byte 10 that ends it, and the text after it.
 fn cut_line(text: &[u8]) -> Option<(&[u8], &[u8])>
-    ensures { MatchOption result (lines_of text.now ≡ []) (λ cut. (lines_of text.now ≡ cut.0.now ∷ lines_of cut.1.now) × (length cut.1.now < length text.now)) }
+    ensures { MatchOption result (lines_of text.now ≡ [])
+        (λ cut. (lines_of text.now ≡ cut.0.now ∷ lines_of cut.1.now)
+        × (length cut.1.now < length text.now)) }
 {
     match place_of(b'\n', text) {
         Some(place) => Some((&text[..place + 1], &text[place + 1..])),
@@ -325,14 +376,16 @@ fn run_of(alloc: Global, text: &[u8]) -> Result<Result<Run, u64>, NoMemory>
     }
 }
 
-/// Reads the text of a run. It accepts exactly the texts that `print_run` writes of runs that a text can write: each line in its
-/// printed form, steps and takes numbered from 1 without a gap, all steps before the takes, each step with a reply of its own kind, and
-/// each take with its looks and its one audit line. A learned entry is one that a line can write, the name of a domain to be made a right
-/// one, and the line of a question or of an edit one word or more, joined by single spaces. The audit text `-` can't be read, since `-`
-/// stands for none. Takes time in proportion to the text.
+/// Reads the text of a run. It accepts exactly the texts that `print_run` writes of runs that a
+/// text can write: each line in its printed form, steps and takes numbered from 1 without a gap,
+/// all steps before the takes, each step with a reply of its own kind, and each take with its looks
+/// and its one audit line. A learned entry is one that a line can write, the name of a domain to be
+/// made a right one, and the line of a question or of an edit one word or more, joined by single
+/// spaces. The audit text `-` can't be read, since `-` stands for none.
 ///
-/// Errors: `BadLine`, the first line with which no such text can go on, from 1 (one past the last line where the text ends too
-/// early; a last line without its byte 10 can't stand); or want of memory.
+/// Errors: `BadLine`, the first line with which no such text can go on, from 1 (one past the last
+/// line where the text ends too early; a last line without its byte 10 can't stand); or want of
+/// memory.
 pub fn read_run(alloc: Global, bytes: &[u8]) -> Result<Run, RunFault>
     ensures { Gives run_cause (λ run. run) result (run_of bytes.now) }
 {
@@ -343,8 +396,9 @@ pub fn read_run(alloc: Global, bytes: &[u8]) -> Result<Run, RunFault>
     }
 }
 
-/// Runs and their texts, as laws over every run and every text: a run that a text can write is read from its text; what is read is a
-/// run that a text can write, and the text is its own; a fault names the first line with which no such text can go on.
+/// Runs and their texts, as laws over every run and every text: a run that a text can write is read
+/// from its text; what is read is a run that a text can write, and the text is its own; a fault
+/// names the first line with which no such text can go on.
 pub fn run_round_trip()
     ensures written { WrittenIsRead }
     ensures read { ReadIsWritten }

@@ -8,22 +8,13 @@ use std::alloc::Global;
 use tm_list::NoMemory;
 use tm_types::entry::LineKind;
 use tm_types::step::{AnswerFault, EditReply, Held, LearnReply, MakeReply};
-use tm_word::bytes_equal;
+use tm_word::{bytes_equal, of_word, value_of};
 
 #[tactic(auto, unfolding(crate::specs::Fields::reply_of))]
 pub(crate) fn reply_of(word: &[u8]) -> LearnReply
     ensures { result ≡ reply_of word.now }
 {
-    if bytes_equal(word, b"added") {
-        return LearnReply::Added;
-    }
-    if bytes_equal(word, b"there") {
-        return LearnReply::There;
-    }
-    if bytes_equal(word, b"quota") {
-        return LearnReply::Quota;
-    }
-    LearnReply::Mode
+    of_word(word).unwrap_or(LearnReply::Mode)
 }
 
 fn new_or_old(word: &[u8], domain: &[u8]) -> MakeReply
@@ -61,73 +52,38 @@ pub(crate) fn held_of(alloc: Global, word: &[u8]) -> Result<Held, NoMemory>
     }
 }
 
+/// Why an answer has no effect, by its words.
+pub(crate) const FAULTS: [(&str, AnswerFault); 3] = [
+    ("no_query", AnswerFault::NoQuery),
+    ("answered", AnswerFault::Answered),
+    ("bad", AnswerFault::BadAnswer),
+];
+
 #[tactic(auto, unfolding(crate::specs::Replies::fault_of))]
 pub(crate) fn fault_of(word: &[u8]) -> Option<AnswerFault>
     ensures { result ≡ fault_of word.now }
 {
-    if bytes_equal(word, b"no_query") {
-        return Some(AnswerFault::NoQuery);
-    }
-    if bytes_equal(word, b"answered") {
-        return Some(AnswerFault::Answered);
-    }
-    if bytes_equal(word, b"bad") {
-        return Some(AnswerFault::BadAnswer);
-    }
-    None
+    value_of(&FAULTS, word)
 }
 
 #[tactic(auto, unfolding(crate::specs::Replies::kind_of))]
 fn kind_of(word: &[u8]) -> LineKind
     ensures { result ≡ kind_of word.now }
 {
-    if bytes_equal(word, b"keyword") {
-        return LineKind::Keyword;
-    }
-    if bytes_equal(word, b"arity") {
-        return LineKind::Arity;
-    }
-    if bytes_equal(word, b"name") {
-        return LineKind::Name;
-    }
-    if bytes_equal(word, b"number") {
-        return LineKind::Number;
-    }
-    if bytes_equal(word, b"address") {
-        return LineKind::Address;
-    }
-    if bytes_equal(word, b"domain") {
-        return LineKind::Domain;
-    }
-    if bytes_equal(word, b"condition") {
-        return LineKind::Condition;
-    }
-    if bytes_equal(word, b"profile") {
-        return LineKind::Profile;
-    }
-    if bytes_equal(word, b"version") {
-        return LineKind::Version;
-    }
-    LineKind::KernelDomain
+    of_word(word).unwrap_or(LineKind::KernelDomain)
 }
 
 #[tactic(auto, unfolding(crate::specs::Replies::edited_of))]
 fn edited_of(word: &[u8]) -> EditReply
     ensures { result ≡ edited_of word.now }
 {
-    if bytes_equal(word, b"not_manager") {
-        return EditReply::NotManager;
-    }
-    if bytes_equal(word, b"no_domain") {
-        return EditReply::NoDomain;
-    }
-    if bytes_equal(word, b"no_profile") {
-        return EditReply::NoProfile;
-    }
-    if bytes_equal(word, b"no_line") {
-        return EditReply::NoSuchLine;
-    }
-    EditReply::Done
+    let edits = [
+        ("not_manager", EditReply::NotManager),
+        ("no_domain", EditReply::NoDomain),
+        ("no_profile", EditReply::NoProfile),
+        ("no_line", EditReply::NoSuchLine),
+    ];
+    value_of(&edits, word).unwrap_or(EditReply::Done)
 }
 
 #[tactic(auto, unfolding(crate::specs::Replies::edit_of))]

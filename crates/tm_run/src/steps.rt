@@ -6,6 +6,7 @@ ghost use Rattle.tm_run.specs.Written.{is_made, is_held, is_wide};
 ghost use Rattle.tm_run.specs.Typed.{has_numbers, replies_number, is_typed_step};
 ghost use Rattle.tm_run.specs.Steps.{make_text, fail_text, held_text, answer_reply_text, change_text, reply_text, step_text, step_line, steps_text};
 
+use crate::replies::FAULTS;
 use crate::room::{make_room, put, put_plain, put_text, put_wide};
 use std::alloc::Global;
 use tm_entry::print_entry;
@@ -49,6 +50,7 @@ fn put_held(held: Held, out: &mut Vec<u8>)
     }
 }
 
+#[tactic(auto, using(crate::proofs::Lengths::fault_length))]
 fn put_answer_reply(fault: Option<AnswerFault>, out: &mut Vec<u8>)
     requires { 8 ≤ room out.old }
     ensures text { out.new.items ≡ out.old.items ++ answer_reply_text fault }
@@ -56,9 +58,7 @@ fn put_answer_reply(fault: Option<AnswerFault>, out: &mut Vec<u8>)
 {
     match fault {
         None => put_text(b"done", out),
-        Some(AnswerFault::NoQuery) => put_text(b"no_query", out),
-        Some(AnswerFault::Answered) => put_text(b"answered", out),
-        Some(AnswerFault::BadAnswer) => put_text(b"bad", out),
+        Some(fault) => put_text(FAULTS[fault as usize].0.as_bytes(), out),
     }
 }
 
@@ -101,7 +101,8 @@ fn push_learned(
     out: &mut Vec<u8>,
 ) -> Result<(), NoMemory>
     requires { 17 ≤ room out.old }
-    ensures text { OnOk result (out.new.items ≡ out.old.items ++ step_text (Step.Learn domain entry.now)) }
+    ensures text { OnOk result
+        (out.new.items ≡ out.old.items ++ step_text (Step.Learn domain entry.now)) }
     ensures range { OnOk result (has_numbers (Step.Learn domain entry.now) ≡ true) }
 {
     put_plain(b"learn ", domain, out);
@@ -111,7 +112,8 @@ fn push_learned(
 
 fn push_made(domain: u32, name: &[u8], out: &mut Vec<u8>) -> Result<(), NoMemory>
     requires { 16 ≤ room out.old }
-    ensures text { OnOk result (out.new.items ≡ out.old.items ++ step_text (Step.Make domain name.now)) }
+    ensures text { OnOk result
+        (out.new.items ≡ out.old.items ++ step_text (Step.Make domain name.now)) }
     ensures range { OnOk result (has_numbers (Step.Make domain name.now) ≡ true) }
 {
     put_plain(b"make ", domain, out);
@@ -121,7 +123,8 @@ fn push_made(domain: u32, name: &[u8], out: &mut Vec<u8>) -> Result<(), NoMemory
 
 fn push_asked(domain: u32, retry: u32, line: &[u8], out: &mut Vec<u8>) -> Result<(), NoMemory>
     requires { 26 ≤ room out.old }
-    ensures text { OnOk result (out.new.items ≡ out.old.items ++ step_text (Step.Ask domain retry line.now)) }
+    ensures text { OnOk result
+        (out.new.items ≡ out.old.items ++ step_text (Step.Ask domain retry line.now)) }
     ensures range { OnOk result (has_numbers (Step.Ask domain retry line.now) ≡ true) }
 {
     put_plain(b"ask ", domain, out);
@@ -142,7 +145,8 @@ fn put_answered(serial: u64, code: u64, out: &mut Vec<u8>)
 #[tactic(auto, using(crate::proofs::Lengths::policy_length))]
 fn push_edited(editor: u32, file: FileKind, line: &[u8], out: &mut Vec<u8>) -> Result<(), NoMemory>
     requires { 33 ≤ room out.old }
-    ensures text { OnOk result (out.new.items ≡ out.old.items ++ step_text (Step.Edit editor file line.now)) }
+    ensures text { OnOk result
+        (out.new.items ≡ out.old.items ++ step_text (Step.Edit editor file line.now)) }
     ensures range { OnOk result (has_numbers (Step.Edit editor file line.now) ≡ true) }
 {
     put_plain(b"edit ", editor, out);
@@ -200,7 +204,8 @@ pub(crate) fn push_steps(
     out: &mut Vec<u8>,
 ) -> Result<(), NoMemory>
     ensures text { OnOk result (out.new.items ≡ out.old.items ++ steps_text 0 steps.now) }
-    ensures range { OnOk result ((is_wide (length steps.now) ≡ true) × (list_all is_typed_step steps.now ≡ true)) }
+    ensures range { OnOk result
+        ((is_wide (length steps.now) ≡ true) × (list_all is_typed_step steps.now ≡ true)) }
 {
     let mut count = 0;
     while count < steps.len() {

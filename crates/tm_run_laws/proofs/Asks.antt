@@ -37,7 +37,8 @@ use Rattle.tm_legal.proofs.Opened.{steps_keep_opened}
 use Rattle.tm_run.specs.Written.{is_line}
 use Rattle.tm_run_laws.specs.Scenes.{IsReadScene}
 use Rattle.tm_run_laws.proofs.Lists.{All-map, All-both, to-images, All-flat, at-number, at-numbers}
-use Rattle.tm_run_laws.proofs.Cases.{IsAsked, cases_ask, take_of, cases_take}
+use Rattle.tm_legal.proofs.Legality.{cases_take}
+use Rattle.tm_run_laws.proofs.Cases.{IsAsked, cases_ask, take_of}
 use Rattle.tm_run_laws.proofs.Verdicts.{LineWritten, line_written}
 
 -- ---- the steps that a verdict asks for

@@ -42,7 +42,8 @@ use Rattle.tm_run.specs.Written.{is_audit}
 use Rattle.tm_run_laws.specs.Scenes.{IsReadScene}
 use Rattle.tm_run_laws.proofs.Lists.{All-map, All-both, All-at, of-images, to-images}
 use Rattle.tm_run_laws.proofs.Bytes.{bytes-append, bytes-parts, decimal-bytes, joined-bytes}
-use Rattle.tm_run_laws.proofs.Cases.{IsAsked, cases_ask, take_of, cases_take}
+use Rattle.tm_legal.proofs.Legality.{cases_take}
+use Rattle.tm_run_laws.proofs.Cases.{IsAsked, cases_ask, take_of}
 
 -- ---- the parts of the text
 

@@ -1,7 +1,6 @@
--- The `do` lines of a read trace with their takes: each asks a request that a trace can hold, and the takes are all that there are.
-use Rattle.std.proofs.Common.{◌≡◌, ℕ, suc, ◌+◌, true, ◌&&◌, List, [], ◌∷◌, ◌++◌, length, take, drop, map, refl, sym, ap, ◌∙◌, arith}
+-- The `do` lines of a read trace with their takes: each asks a request that a trace can hold.
+use Rattle.std.proofs.Common.{◌≡◌, ℕ, suc, true, ◌&&◌, List, [], ◌∷◌, ◌++◌, length, take, drop}
 use Rattle.std.specs.List.{AllByRecursion, list_all}
-use Rattle.std.proofs.lemmas.List.{map-append, length-append, length-map, length-take-le, take-append-drop}
 use Rattle.tm_rules.specs.Words.{Trace}
 use Rattle.tm_types.specs.declared.policy.Policy.{Policy}
 use Rattle.tm_types.specs.declared.request.Item.{Item}
@@ -14,8 +13,8 @@ use Rattle.tm_domain.specs.Names.{is_path}
 use Rattle.tm_rules.specs.Transition.{is_domain_name}
 use Rattle.tm_trace.specs.Written.{is_pid}
 use Rattle.tm_line.proofs.Steps.{both}
-use Rattle.tm_legal.specs.Run.{Situations, with_situation, with_ids, forked, after_take, at_start, Case, tree_cases, cases_from, do_pids, all_do_pids}
-use Rattle.tm_legal.specs.Legal.{Scene, cases_of, TakesInOrder}
+use Rattle.tm_legal.specs.Run.{Situations, with_situation, with_ids, forked, after_take, at_start, Case, tree_cases, cases_from, do_pids}
+use Rattle.tm_legal.specs.Legal.{Scene, cases_of}
 use Rattle.tm_legal.proofs.Asked.{All-append}
 
 -- a `do` line asks a request that a trace can hold
@@ -63,40 +62,6 @@ all_asked t policy (tree ∷ trees) takes h =
 pub cases_ask : (scene : Scene) (run : Run) → list_all is_tree scene.trace ≡ true → AllByRecursion IsAsked (cases_of scene run)
 cases_ask scene run h = all_asked 1 scene.policy scene.trace run.takes h
 
--- ---- the takes
-
 -- the take of a `do` line
 abbrev pub take_of : Case → Take
 take_of c = c.taken
-
-no_take : (takes : List Take) → length takes ≡ 0 → [] ≡ takes
-no_take [] h = refl
-no_take (taken ∷ takes) h = absurd (omega (arith, h))
-
-tree_takes : (t : ℕ) (now : Situations) (items : List Item) (takes : List Take) → length takes ≡ length (do_pids items) → map take_of (tree_cases t now items takes) ≡ takes
-unfolding tree_cases
-tree_takes t now [] takes h = no_take takes h
-tree_takes t now (Item.Ids pid ids ∷ items) takes h = tree_takes t (with_situation now pid (with_ids (now pid) ids)) items takes h
-tree_takes t now (Item.Fork pid child ∷ items) takes h = tree_takes t (with_situation now child (forked (now pid) child)) items takes h
-tree_takes t now (Item.Do pid request ∷ items) [] h = refl
-tree_takes t now (Item.Do pid request ∷ items) (taken ∷ takes) h =
-    let rest : length takes ≡ length (do_pids items) = omega (arith, h) in
-    ap (λ (ts : List Take). taken ∷ ts) (tree_takes t (with_situation now pid (after_take (now pid) taken)) items takes rest)
-
-all_takes : (t : ℕ) (policy : Policy) (trees : Trace) (takes : List Take) → length takes ≡ length (all_do_pids trees) → map take_of (cases_from t policy trees takes) ≡ takes
-unfolding cases_from
-all_takes t policy [] takes h = no_take takes h
-all_takes t policy (tree ∷ trees) takes h =
-    let own : ℕ = length (do_pids tree.records) in
-    let whole : length takes ≡ own + length (all_do_pids trees) = h ∙ length-append (do_pids tree.records) (all_do_pids trees) in
-    let front : length (take own takes) ≡ own = length-take-le own takes (omega (arith, whole)) in
-    let parts : length (take own takes) + length (drop own takes) ≡ length takes = sym (length-append (take own takes) (drop own takes)) ∙ ap length (take-append-drop own takes) in
-    let rest : length (drop own takes) ≡ length (all_do_pids trees) = omega (arith, whole, front, parts) in
-    map-append take_of (tree_cases t (at_start policy tree) tree.records (take own takes)) (cases_from (suc t) policy trees (drop own takes))
-    ∙ ap (λ (ts : List Take). ts ++ map take_of (cases_from (suc t) policy trees (drop own takes))) (tree_takes t (at_start policy tree) tree.records (take own takes) front)
-    ∙ ap (λ (ts : List Take). take own takes ++ ts) (all_takes (suc t) policy trees (drop own takes) rest) ∙ take-append-drop own takes
-
-pub cases_take : (scene : Scene) (run : Run) → TakesInOrder scene run → map take_of (cases_of scene run) ≡ run.takes
-cases_take scene run order =
-    let long : length run.takes ≡ length (all_do_pids scene.trace) = sym (length-map run.takes (λ (t : Take). t.pid)) ∙ ap length order.pids in
-    all_takes 1 scene.policy scene.trace run.takes long

@@ -53,13 +53,13 @@ lines_wrong line [] n start number kind e = absurd cc
 lines_wrong line (text ∷ texts) n start number kind e =
     by_line line text texts n start number kind (λ next h. lines_wrong line texts (n + 1) next number kind h) (line_read line start (words_of text)) refl e
 
-script_wrong : {S : Type 0} (line : S → Text → List Text → Result S ScriptKind) (start : S) (text : Text) (number : ℕ) (kind : ScriptKind) → script_of line start text ≡ Err (number, kind) → FirstWrong line start text number kind
+pub script_wrong : {S : Type 0} (line : S → Text → List Text → Result S ScriptKind) (start : S) (text : Text) (number : ℕ) (kind : ScriptKind) → script_of line start text ≡ Err (number, kind) → FirstWrong line start text number kind
 script_wrong line start text number kind e =
     let found = lines_wrong line (lines_of text) 1 start number kind e in
     record { place = found.place; numbers = omega (arith, found.numbers); before = found.before; read = found.read; wrong_line = found.wrong_line; there = found.there; wrong = found.wrong }
 
 -- what follows can't fail
-end_ok : {A B : Type 0} (r : Result A (ℕ × ScriptKind)) (f : A → B) (fault : ℕ × ScriptKind) → (r >>= λ x. Ok (f x)) ≡ Err fault → r ≡ Err fault
+pub end_ok : {A B : Type 0} (r : Result A (ℕ × ScriptKind)) (f : A → B) (fault : ℕ × ScriptKind) → (r >>= λ x. Ok (f x)) ≡ Err fault → r ≡ Err fault
 end_ok (Ok x) f fault e = absurd cc
 end_ok (Err found) f fault e = cc
 

@@ -69,34 +69,34 @@ course_ok (word ∷ words) =
 
 -- ---- lists of words
 
-abbrev IsPattern : Pattern → Type 0
+abbrev pub IsPattern : Pattern → Type 0
 IsPattern pattern_ = is_right pattern_ ≡ true
 
-pattern_ok : (word : Text) → OkIs IsPattern (list_word word)
+pub pattern_ok : (word : Text) → OkIs IsPattern (list_word word)
 unfolding list_word
 pattern_ok word =
     if_ok IsPattern (is_colon word) (Err ScriptKind.Word) (kinded ScriptKind.Word (pattern_of word)) tt (kinded_ok IsPattern ScriptKind.Word (pattern_of word) (λ pattern_ e. read-right word pattern_ e))
 
-abbrev IsList : ListWords → Type 0
+abbrev pub IsList : ListWords → Type 0
 IsList list = is_list list ≡ true
 
 -- patterns in their grammar, and one or more of them
-record ArePatterns (patterns : List Pattern) : Type 0 where
-  some : not (is_empty patterns) ≡ true
-  right : list_all is_right patterns ≡ true
+pub record ArePatterns (patterns : List Pattern) : Type 0 where
+  pub some : not (is_empty patterns) ≡ true
+  pub right : list_all is_right patterns ≡ true
 
 not_over : {A : Type 0} (xs : List A) (x : A) → not (is_empty (xs ++ x ∷ [])) ≡ true
 not_over [] x = refl
 not_over (first ∷ xs) x = refl
 
-one_more : (patterns : List Pattern) (pattern_ : Pattern) → list_all is_right patterns ≡ true → IsPattern pattern_ → ArePatterns (patterns ++ pattern_ ∷ [])
+pub one_more : (patterns : List Pattern) (pattern_ : Pattern) → list_all is_right patterns ≡ true → IsPattern pattern_ → ArePatterns (patterns ++ pattern_ ∷ [])
 one_more patterns pattern_ h k = record { some = not_over patterns pattern_; right = all_more is_right patterns pattern_ h k }
 
 or_true : (b : Bool) → (b || true) ≡ true
 or_true true = refl
 or_true false = refl
 
-list_made : (patterns : List Pattern) (any : Bool) → (any || not (is_empty patterns)) ≡ true → list_all is_right patterns ≡ true → IsList (listed patterns any)
+pub list_made : (patterns : List Pattern) (any : Bool) → (any || not (is_empty patterns)) ≡ true → list_all is_right patterns ≡ true → IsList (listed patterns any)
 list_made patterns any h k = all (any || not (is_empty patterns)) (list_all is_right patterns) h k
 
 after_ok : (words : List Text) (patterns : List Pattern) → ArePatterns patterns → OkIs IsList (list_after patterns words)
@@ -114,12 +114,12 @@ first_ok word words =
     refl
     (then_ok IsPattern IsList (list_word word) _ (pattern_ok word) (λ pattern_ k. after_ok words ([] ++ pattern_ ∷ []) (one_more [] pattern_ refl k)))
 
-list_ok : (words : List Text) → OkIs IsList (list_of words)
+pub list_ok : (words : List Text) → OkIs IsList (list_of words)
 unfolding list_of
 list_ok [] = tt
 list_ok (word ∷ words) = first_ok word words
 
-list_at_ok : (words : List Text) → OkIs (λ (x : ListWords × List Text). IsList x.0) (list_at words)
+pub list_at_ok : (words : List Text) → OkIs (λ (x : ListWords × List Text). IsList x.0) (list_at words)
 unfolding list_at
 list_at_ok words =
     then_ok IsList (λ x. IsList x.0) (list_of (take (colon_place words) words)) _ (list_ok (take (colon_place words) words)) (λ list h.

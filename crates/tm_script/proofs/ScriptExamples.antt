@@ -139,7 +139,8 @@ pub retries : answers (codes "rule retry 2 yes : any : any") (query 0 (codes "<k
 unfolding computed
 retries = refl
 
--- as many words as patterns, or more with `any`; `any` that isn't last is a pattern of its own bytes
+-- as many words as patterns, or more with `any`; `any` that isn't last is a pattern of its own
+-- bytes
 pub counts : answers (codes "rule yes : <kernel> any : any b") (query 0 (codes "<kernel>") (codes "any b") ∷ query 0 (codes "<kernel> /a /b") (codes "any b") ∷ query 0 [] (codes "any b") ∷ kernel_asks (codes "a b") ∷ kernel_asks (codes "any b c") ∷ kernel_asks (codes "any") ∷ []) ≡ (Some Answer.Yes ∷ Some Answer.Yes ∷ Some Answer.No ∷ Some Answer.No ∷ Some Answer.No ∷ Some Answer.No ∷ [])
 unfolding computed
 counts = refl
@@ -210,7 +211,8 @@ pub answers_wrong_twice : faults answers_of ((codes "detach 1\ndetach 1") ∷ (c
 unfolding computed
 answers_wrong_twice = refl
 
--- a word is missing, a list is empty, another word stands where a `:` does, or there is one too many
+-- a word is missing, a list is empty, another word stands where a `:` does, or there is one too
+-- many
 pub answers_wrong_arity : faults answers_of ((codes "rule") ∷ (codes "rule yes") ∷ (codes "rule yes any") ∷ (codes "rule yes :") ∷ (codes "rule yes : :") ∷ (codes "rule yes : : any") ∷ (codes "rule yes : : \\q") ∷ (codes "rule yes : any") ∷ (codes "rule yes : any :") ∷ (codes "rule yes : any : ") ∷ (codes "rule yes \\q : any") ∷ (codes "rule yes no : any : any") ∷ (codes "rule retry") ∷ (codes "rule retry 1") ∷ (codes "rule retry 1 yes") ∷ (codes "rule retry 1 yes no") ∷ (codes "detach") ∷ (codes "detach 1 x") ∷ (codes "detach 1 1") ∷ (codes "\n\nrule no : a b c\n") ∷ []) ≡ (Some (1, ScriptKind.Arity) ∷ Some (1, ScriptKind.Arity) ∷ Some (1, ScriptKind.Arity) ∷ Some (1, ScriptKind.Arity) ∷ Some (1, ScriptKind.Arity) ∷ Some (1, ScriptKind.Arity) ∷ Some (1, ScriptKind.Arity) ∷ Some (1, ScriptKind.Arity) ∷ Some (1, ScriptKind.Arity) ∷ Some (1, ScriptKind.Arity) ∷ Some (1, ScriptKind.Arity) ∷ Some (1, ScriptKind.Arity) ∷ Some (1, ScriptKind.Arity) ∷ Some (1, ScriptKind.Arity) ∷ Some (1, ScriptKind.Arity) ∷ Some (1, ScriptKind.Arity) ∷ Some (1, ScriptKind.Arity) ∷ Some (1, ScriptKind.Arity) ∷ Some (1, ScriptKind.Arity) ∷ Some (3, ScriptKind.Arity) ∷ [])
 unfolding computed
 answers_wrong_arity = refl

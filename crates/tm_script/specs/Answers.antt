@@ -18,7 +18,9 @@ use Rattle.tm_script.specs.Lines.{script_of}
 
 -- `yes` or `no`
 unfoldable pub last_answer : Text → Result Answer ScriptKind
-last_answer word = if texts_equal word (codes "yes") then Ok Answer.Yes else if texts_equal word (codes "no") then Ok Answer.No else Err ScriptKind.Keyword
+last_answer word =
+    if texts_equal word (codes "yes") then Ok Answer.Yes
+    else if texts_equal word (codes "no") then Ok Answer.No else Err ScriptKind.Keyword
 
 -- `retry N` and `yes` or `no` after it: N retries, and then that answer
 unfoldable pub retries_at : List Text → Result ((ℕ × Answer) × List Text) ScriptKind
@@ -30,7 +32,9 @@ retries_at words = do
 -- `yes` or `no` at once, or after retries
 unfoldable pub answer_at : List Text → Result ((ℕ × Answer) × List Text) ScriptKind
 answer_at [] = Err ScriptKind.Arity
-answer_at (word ∷ words) = if texts_equal word (codes "retry") then retries_at words else (last_answer word >>= λ last. Ok ((0, last), words))
+answer_at (word ∷ words) =
+    if texts_equal word (codes "retry") then retries_at words
+    else (last_answer word >>= λ last. Ok ((0, last), words))
 
 -- ---- lists of words
 
@@ -45,17 +49,20 @@ colon_at (word ∷ words) = if is_colon word then Ok words else Err ScriptKind.A
 
 -- a word of a list is a pattern, and not `:`
 unfoldable pub list_word : Text → Result Pattern ScriptKind
-list_word word = if is_colon word then Err ScriptKind.Word else kinded ScriptKind.Word (pattern_of word)
+list_word word =
+    if is_colon word then Err ScriptKind.Word else kinded ScriptKind.Word (pattern_of word)
 
 -- a list: its patterns, and whether it takes words that are left
 abbrev pub listed : List Pattern → Bool → ListWords
 listed patterns any = record { patterns = patterns; any = any }
 
--- the patterns so far and those of these words; `any` as the last word takes the words that are left
+-- the patterns so far and those of these words; `any` as the last word takes the words that are
+-- left
 unfoldable pub list_after : List Pattern → List Text → Result ListWords ScriptKind
 list_after patterns [] = Ok (listed patterns false)
 list_after patterns (word ∷ words) =
-    if is_last words && texts_equal word (codes "any") then Ok (listed patterns true) else (list_word word >>= λ pattern_. list_after (patterns ++ pattern_ ∷ []) words)
+    if is_last words && texts_equal word (codes "any") then Ok (listed patterns true)
+    else (list_word word >>= λ pattern_. list_after (patterns ++ pattern_ ∷ []) words)
 
 -- a list has one word or more
 unfoldable pub list_of : List Text → Result ListWords ScriptKind
@@ -80,7 +87,8 @@ abbrev pub no_rules : Book
 no_rules = record { rules = []; stop = None }
 
 abbrev pub rule : ℕ × Answer → ListWords → ListWords → BookRule
-rule answer domain line = record { retries = answer.0; last = answer.1; domain = domain; line = line }
+rule answer domain line =
+    record { retries = answer.0; last = answer.1; domain = domain; line = line }
 
 -- `ANSWER : DOMAINWORDS : LINEWORDS`
 unfoldable pub rule_of : List Text → Result BookRule ScriptKind
@@ -96,7 +104,9 @@ abbrev pub with_stop : Book → ℕ → Book
 with_stop book n = record book { stop = Some n }
 
 unfoldable pub detach_line : Book → List Text → Result Book ScriptKind
-detach_line book words = if is_some book.stop then Err ScriptKind.Twice else (number_at (2 ^ 64) words >>= λ n. ended (with_stop book n.0) n.1)
+detach_line book words =
+    if is_some book.stop then Err ScriptKind.Twice
+    else (number_at (2 ^ 64) words >>= λ n. ended (with_stop book n.0) n.1)
 
 abbrev pub with_rule : Book → BookRule → Book
 with_rule book one = record book { rules = book.rules ++ one ∷ [] }

@@ -6,6 +6,8 @@ use Rattle.tm_types.specs.declared.request.ScriptKind.{ScriptKind}
 use Rattle.tm_types.specs.declared.step.FileKind.{FileKind}
 use Rattle.tm_types.specs.declared.step.Editor.{Editor}
 use Rattle.tm_rules.specs.Words.{DomainName}
+use Rattle.tm_types.specs.Texts.{policy_text, policies}
+use Rattle.tm_word.specs.Closed.{of_word}
 use Rattle.tm_word.specs.Texts.{texts_equal, begins_with_byte}
 use Rattle.tm_line.specs.Domains.{domain_words}
 use Rattle.tm_word.specs.Gives.{◌>>=◌}
@@ -17,7 +19,9 @@ use Rattle.tm_script.specs.declared.edits.Edits.{Edits}
 
 -- a literal path is the spelled word of a name that begins with `/`
 unfoldable pub exe_word : Text → Result Word ScriptKind
-exe_word text = if begins_with_byte 47 text then or_kind ScriptKind.Word (spelled_word text) else Err ScriptKind.Word
+exe_word text =
+    if begins_with_byte 47 text then or_kind ScriptKind.Word (spelled_word text)
+    else Err ScriptKind.Word
 
 -- a domain name that runs to the line's end
 unfoldable pub domain_rest : List Text → Result DomainName ScriptKind
@@ -26,7 +30,8 @@ domain_rest (word ∷ words) = kinded ScriptKind.Domain (domain_words (word ∷ 
 
 -- an editor before its first line
 abbrev pub new_editor : ℕ → ℕ → Word → DomainName → Editor
-new_editor uid euid exe domain = record { uid = uid; euid = euid; exe = exe; domain = domain; lines = [] }
+new_editor uid euid exe domain =
+    record { uid = uid; euid = euid; exe = exe; domain = domain; lines = [] }
 
 -- `UID EUID EXE DOMAIN`
 unfoldable pub editor_of : List Text → Result Editor ScriptKind
@@ -41,14 +46,7 @@ editor_of words = do
 
 -- the file that a line is for
 unfoldable pub file_of : Text → Result FileKind ScriptKind
-file_of key =
-    if texts_equal key (codes "profile")
-    then Ok FileKind.Profile
-    else if texts_equal key (codes "exception_policy")
-    then Ok FileKind.Exception
-    else if texts_equal key (codes "domain_policy")
-    then Ok FileKind.Domain
-    else if texts_equal key (codes "manager") then Ok FileKind.Manager else Err ScriptKind.Keyword
+file_of key = or_kind ScriptKind.Keyword (of_word policy_text policies key)
 
 -- LINE: one word or more, joined by single spaces; it is judged when its step is made
 abbrev pub line_text : List Text → Result Text ScriptKind
@@ -72,13 +70,15 @@ all_editors edits = edits.before ++ option_to_list edits.last
 -- an edit is the last editor's; there has to be one
 abbrev pub edit_by : Edits → Option Editor → FileKind → List Text → Result Edits ScriptKind
 edit_by edits None file words = Err ScriptKind.NoEditor
-edit_by edits (Some editor) file words = line_text words >>= λ text. Ok (record edits { last = Some (with_line editor file text) })
+edit_by edits (Some editor) file words =
+    line_text words >>= λ text. Ok (record edits { last = Some (with_line editor file text) })
 
 -- `editor UID EUID EXE DOMAIN` begins the next editor; every other line is an edit of the last one
 unfoldable pub edits_line : Edits → Text → List Text → Result Edits ScriptKind
 edits_line edits key words =
     if texts_equal key (codes "editor")
-    then editor_of words >>= (λ editor. Ok (record { before = all_editors edits; last = Some editor }))
+    then editor_of words
+    >>= (λ editor. Ok (record { before = all_editors edits; last = Some editor }))
     else file_of key >>= (λ file. edit_by edits edits.last file words)
 
 -- the editors that a text writes, or its first wrong line

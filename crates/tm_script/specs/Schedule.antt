@@ -35,8 +35,11 @@ no_turns trees editors = record { trees = trees; editors = editors; turns = [] }
 
 -- one turn more
 unfoldable pub schedule_line : Schedule → Text → List Text → Result Schedule ScriptKind
-schedule_line schedule key words = turn_of schedule.trees schedule.editors key words >>= λ turn. Ok (record schedule { turns = schedule.turns ++ turn ∷ [] })
+schedule_line schedule key words =
+    turn_of schedule.trees schedule.editors key words
+    >>= λ turn. Ok (record schedule { turns = schedule.turns ++ turn ∷ [] })
 
 -- the turns that a text writes for so many trees and editors, or its first wrong line
 unfoldable pub schedule_of : ℕ → ℕ → Text → Result (List Turn) (ℕ × ScriptKind)
-schedule_of trees editors text = script_of schedule_line (no_turns trees editors) text >>= λ schedule. Ok schedule.turns
+schedule_of trees editors text =
+    script_of schedule_line (no_turns trees editors) text >>= λ schedule. Ok schedule.turns

@@ -1,4 +1,5 @@
--- Reading a line of a script, word by word, up to the first wrong word: the kind that stands there is the line's.
+-- Reading a line of a script, word by word, up to the first wrong word: the kind that stands there
+-- is the line's.
 use Rattle.std.specs.Prelude.{ℕ, List, [], ◌∷◌, Option, Some, None, Result, Ok, Err}
 use Rattle.tm_word.specs.Words.{Text}
 use Rattle.tm_word.specs.Gives.{◌>>=◌}
@@ -22,7 +23,8 @@ or_kind kind (Some x) = Ok x
 or_kind kind None = Err kind
 
 -- the first word as this reads it, and the words after it; no word is a missing one
-abbrev pub word_at : {A : Type 0} → (Text → Result A ScriptKind) → List Text → Result (A × List Text) ScriptKind
+abbrev pub word_at : {A : Type 0} → (Text → Result A ScriptKind) → List Text
+    → Result (A × List Text) ScriptKind
 word_at read [] = Err ScriptKind.Arity
 word_at read (word ∷ words) = read word >>= λ x. Ok (x, words)
 

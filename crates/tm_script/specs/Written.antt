@@ -31,11 +31,14 @@ is_line text = not (is_empty (words_of text)) && texts_equal (joined (words_of t
 
 -- who edits: numbers of 32 bits, a path, and a right domain name
 abbrev pub is_who : Editor → Bool
-is_who editor = (nat_lt editor.uid (2 ^ 32) && nat_lt editor.euid (2 ^ 32)) && (is_path_word editor.exe && is_domain_name is_path editor.domain)
+is_who editor =
+    (nat_lt editor.uid (2 ^ 32) && nat_lt editor.euid (2 ^ 32))
+    && (is_path_word editor.exe && is_domain_name is_path editor.domain)
 
 -- and the lines are lines
 unfoldable pub is_editor : Editor → Bool
-is_editor editor = is_who editor && list_all (λ (edit : FileKind × Text). is_line edit.1) editor.lines
+is_editor editor =
+    is_who editor && list_all (λ (edit : FileKind × Text). is_line edit.1) editor.lines
 
 -- all edits of all editors
 abbrev pub edit_count : List Editor → ℕ
@@ -50,7 +53,9 @@ is_list list = (list.any || not (is_empty list.patterns)) && list_all is_right l
 
 -- a rule ends with yes or no, after fewer than 256 retries, and has two lists
 unfoldable pub is_rule : BookRule → Bool
-is_rule rule = (not (code_of rule.last == 3) && nat_lt rule.retries 256) && (is_list rule.domain && is_list rule.line)
+is_rule rule =
+    (not (code_of rule.last == 3) && nat_lt rule.retries 256)
+    && (is_list rule.domain && is_list rule.line)
 
 -- its rules are rules, and its number of answers has 64 bits
 unfoldable pub is_book : Book → Bool
@@ -79,7 +84,9 @@ is_turn trees editors Turn.Detach = false
 
 -- every editor that is read is one
 abbrev pub EditorsAreRight : Type 0
-EditorsAreRight = (text : Text) (editors : List Editor) → edits_of text ≡ Ok editors → list_all is_editor editors ≡ true
+EditorsAreRight =
+    (text : Text) (editors : List Editor) → edits_of text ≡ Ok editors
+    → list_all is_editor editors ≡ true
 
 -- every book that is read is one
 abbrev pub BooksAreRight : Type 0
@@ -87,26 +94,41 @@ BooksAreRight = (text : Text) (book : Book) → answers_of text ≡ Ok book → 
 
 -- a supervisor stands exactly where the file has a line that isn't empty
 abbrev pub SupervisorStands : Type 0
-SupervisorStands = (text : Text) (book : Book) → answers_of text ≡ Ok book → has_supervisor book ≡ has_words (lines_of text)
+SupervisorStands =
+    (text : Text) (book : Book) → answers_of text ≡ Ok book
+    → has_supervisor book ≡ has_words (lines_of text)
 
 -- every turn that is read is one
 abbrev pub TurnsAreRight : Type 0
-TurnsAreRight = (trees editors : ℕ) (text : Text) (turns : List Turn) → schedule_of trees editors text ≡ Ok turns → list_all (is_turn trees editors) turns ≡ true
+TurnsAreRight =
+    (trees editors : ℕ) (text : Text) (turns : List Turn)
+    → schedule_of trees editors text ≡ Ok turns → list_all (is_turn trees editors) turns ≡ true
 
 -- a text has no more editors and edits than bytes
 abbrev pub EditsAreFew : Type 0
-EditsAreFew = (text : Text) (editors : List Editor) → edits_of text ≡ Ok editors → length editors + edit_count editors ≤ length text
+EditsAreFew =
+    (text : Text) (editors : List Editor) → edits_of text ≡ Ok editors
+    → length editors + edit_count editors ≤ length text
 
 -- nor more turns
 abbrev pub TurnsAreFew : Type 0
-TurnsAreFew = (trees editors : ℕ) (text : Text) (turns : List Turn) → schedule_of trees editors text ≡ Ok turns → length turns ≤ length text
+TurnsAreFew =
+    (trees editors : ℕ) (text : Text) (turns : List Turn)
+    → schedule_of trees editors text ≡ Ok turns → length turns ≤ length text
 
 -- a fault is the first wrong line's
 abbrev pub EditsFaultIsFirst : Type 0
-EditsFaultIsFirst = (text : Text) (number : ℕ) (kind : ScriptKind) → edits_of text ≡ Err (number, kind) → FirstWrong edits_line no_edits text number kind
+EditsFaultIsFirst =
+    (text : Text) (number : ℕ) (kind : ScriptKind) → edits_of text ≡ Err (number, kind)
+    → FirstWrong edits_line no_edits text number kind
 
 abbrev pub AnswersFaultIsFirst : Type 0
-AnswersFaultIsFirst = (text : Text) (number : ℕ) (kind : ScriptKind) → answers_of text ≡ Err (number, kind) → FirstWrong answers_line no_rules text number kind
+AnswersFaultIsFirst =
+    (text : Text) (number : ℕ) (kind : ScriptKind) → answers_of text ≡ Err (number, kind)
+    → FirstWrong answers_line no_rules text number kind
 
 abbrev pub ScheduleFaultIsFirst : Type 0
-ScheduleFaultIsFirst = (trees editors : ℕ) (text : Text) (number : ℕ) (kind : ScriptKind) → schedule_of trees editors text ≡ Err (number, kind) → FirstWrong schedule_line (no_turns trees editors) text number kind
+ScheduleFaultIsFirst =
+    (trees editors : ℕ) (text : Text) (number : ℕ) (kind : ScriptKind)
+    → schedule_of trees editors text ≡ Err (number, kind)
+    → FirstWrong schedule_line (no_turns trees editors) text number kind

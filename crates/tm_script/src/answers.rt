@@ -28,7 +28,8 @@ fn last_answer(word: &[u8]) -> Result<Answer, KindFault>
     Err(KindFault::Kind(ScriptKind::Keyword))
 }
 
-/// The same at the front, with the words after it. Errors: `Arity` where no word is left, `Keyword`.
+/// The same at the front, with the words after it. Errors: `Arity` where no word is left,
+/// `Keyword`.
 fn last_at(words: &[Text]) -> Result<(Answer, &[Text]), KindFault>
     ensures { GivesNow kind_cause (λ x. (x.0, x.1.now)) result (word_at last_answer words.now) }
 {
@@ -76,7 +77,7 @@ fn is_colon(word: &[u8]) -> bool
 
 /// Takes a `:` at the front. Errors: `Arity` where another word stands or none is left.
 #[tactic(auto, unfolding(crate::specs::Answers::colon_at))]
-fn colon_at(words: &[Text]) -> Result<&[Text], KindFault>
+pub fn colon_at(words: &[Text]) -> Result<&[Text], KindFault>
     ensures { GivesNow kind_cause (λ rest. rest.now) result (colon_at words.now) }
 {
     match words {
@@ -93,7 +94,7 @@ fn colon_at(words: &[Text]) -> Result<&[Text], KindFault>
 
 /// Reads a word of a list. Errors: `Word`.
 #[tactic(auto, unfolding(crate::specs::Answers::list_word))]
-fn list_word(alloc: Global, word: &[u8]) -> Result<Pattern, KindFault>
+pub fn list_word(alloc: Global, word: &[u8]) -> Result<Pattern, KindFault>
     ensures { Gives kind_cause (λ pattern. pattern) result (list_word word.now) }
 {
     if is_colon(word) {
@@ -102,9 +103,7 @@ fn list_word(alloc: Global, word: &[u8]) -> Result<Pattern, KindFault>
     match read_pattern(alloc, word) {
         Ok(pattern) => Ok(pattern),
         Err(PatternFault::NoMemory) => Err(KindFault::NoMemory),
-        Err(PatternFault::BadElement(_)) => Err(KindFault::Kind(ScriptKind::Word)),
-        Err(PatternFault::LoneBrace(_)) => Err(KindFault::Kind(ScriptKind::Word)),
-        Err(PatternFault::EmptyPart(_)) => Err(KindFault::Kind(ScriptKind::Word)),
+        Err(_) => Err(KindFault::Kind(ScriptKind::Word)),
     }
 }
 
@@ -133,7 +132,7 @@ fn list_words(alloc: Global, words: &[Text]) -> Result<ListWords, KindFault>
 
 /// Reads a list that takes all these words. Errors: `Arity` where there is none, `Word`.
 #[tactic(auto, unfolding(crate::specs::Answers::list_of))]
-fn list_of(alloc: Global, words: &[Text]) -> Result<ListWords, KindFault>
+pub fn list_of(alloc: Global, words: &[Text]) -> Result<ListWords, KindFault>
     ensures { Gives kind_cause (λ list. list) result (list_of words.now) }
 {
     match words {
@@ -143,7 +142,7 @@ fn list_of(alloc: Global, words: &[Text]) -> Result<ListWords, KindFault>
 }
 
 /// How many words stand before the next `:`.
-fn colon_place(words: &[Text]) -> usize
+pub fn colon_place(words: &[Text]) -> usize
     ensures value { result ≡ colon_place words.now }
     ensures within { result ≤ length words.now }
 {
@@ -154,9 +153,10 @@ fn colon_place(words: &[Text]) -> usize
     count
 }
 
-/// Reads a list and the `:` that ends it, and answers the words after it. Errors: `Arity` where the list or the `:` is missing, `Word`.
+/// Reads a list and the `:` that ends it, and answers the words after it. Errors: `Arity` where the
+/// list or the `:` is missing, `Word`.
 #[tactic(auto, unfolding(crate::specs::Answers::list_at))]
-fn list_at(alloc: Global, words: &[Text]) -> Result<(ListWords, &[Text]), KindFault>
+pub fn list_at(alloc: Global, words: &[Text]) -> Result<(ListWords, &[Text]), KindFault>
     ensures { Gives kind_cause (λ x. (x.0, x.1.now)) result (list_at words.now) }
 {
     let place = colon_place(words);
@@ -182,7 +182,8 @@ fn rule_of(alloc: Global, words: &[Text]) -> Result<BookRule, KindFault>
     })
 }
 
-/// Reads `N` after `detach`. Errors: `Twice` where the book has a number already, `Arity`, `Number`.
+/// Reads `N` after `detach`. Errors: `Twice` where the book has a number already, `Arity`,
+/// `Number`.
 #[tactic(auto, unfolding(crate::specs::Answers::detach_line))]
 fn detach_line(book: Book, words: &[Text]) -> Result<Book, KindFault>
     ensures { GivesNow kind_cause (λ next. next) result (detach_line book words.now) }
@@ -216,9 +217,10 @@ impl Script for Book {
     }
 }
 
-/// Reads the book of a supervisor: rules `rule ANSWER : DOMAINWORDS : LINEWORDS`, and once at most `detach N`, the number of answers after
-/// which it detaches. ANSWER is `yes`, `no`, `retry N yes` or `retry N no` with N below 256. Each list has one word or more, patterns
-/// other than `:`; a last word `any` takes the words that are left. Lines without words count and are skipped.
+/// Reads the book of a supervisor: rules `rule ANSWER : DOMAINWORDS : LINEWORDS`, and once at most
+/// `detach N`, the number of answers after which it detaches. ANSWER is `yes`, `no`, `retry N yes`
+/// or `retry N no` with N below 256. Each list has one word or more, patterns other than `:`; a
+/// last word `any` takes the words that are left. Lines without words count and are skipped.
 ///
 /// Errors: the first wrong line, from 1, with the kind of its first wrong word, or want of memory.
 #[tactic(auto, unfolding(crate::specs::Answers::answers_of))]

@@ -4,7 +4,7 @@ ghost use Rattle.std.specs.List.{find};
 ghost use Rattle.std.specs.Option.{option_copied};
 ghost use Rattle.tm_word.specs.Spelling.{words_of};
 ghost use Rattle.tm_script.specs.Written.{has_supervisor};
-ghost use Rattle.tm_rules.specs.Book.{each_matches, list_matches, rule_matches, rule_answer, book_answer};
+ghost use Rattle.tm_rules.specs.Book.{each_matches, list_matches, rule_matches, rule_answer, book_answer, code_of};
 
 use tm_pattern::matches_bytes;
 use tm_types::step::{Answer, Book, BookRule, ListWords, Query};
@@ -26,7 +26,9 @@ fn each_matches(any: bool, patterns: &[Pattern], text: &[u8]) -> bool
     any || words.next().is_none()
 }
 
-fn list_matches(list: &ListWords, text: &[u8]) -> bool
+/// Whether the words of a text match a list: its patterns one by one; with `any`, words may be
+/// left. Takes no memory.
+pub fn list_matches(list: &ListWords, text: &[u8]) -> bool
     ensures { result ≡ list_matches list.now text.now }
 {
     each_matches(list.any, list.patterns.as_slice(), text)
@@ -62,8 +64,9 @@ fn rule_answer(query: &Query, rule: &BookRule) -> Answer
     }
 }
 
-/// What a supervisor's book answers to a held query: the answer of the first rule whose domain words match the words of the query's domain
-/// and whose line words match those of its line, each pattern the spelled bytes of its word; no where none does. Takes no memory.
+/// What a supervisor's book answers to a held query: the answer of the first rule whose domain
+/// words match the words of the query's domain and whose line words match those of its line, each
+/// pattern the spelled bytes of its word; no where none does. Takes no memory.
 #[tactic(auto, unfolding(tm_rules::specs::Book::book_answer))]
 pub fn book_answer(book: &Book, query: &Query) -> Answer
     ensures { result ≡ book_answer book.now query.now }
@@ -74,7 +77,20 @@ pub fn book_answer(book: &Book, query: &Query) -> Answer
     }
 }
 
-/// Whether a supervisor stands: of a book that was read this holds exactly where its file has a line with a word.
+/// The code of a book's answer to a query, as an Answer step has it: 1 is yes, 2 is no, 3 is retry.
+/// A closure that calls it makes a desk. Takes no memory.
+pub fn book_code(book: &Book, query: &Query) -> u64
+    ensures { result ≡ code_of (book_answer book.now query.now) }
+{
+    match book_answer(book, query) {
+        Answer::Yes => 1,
+        Answer::No => 2,
+        Answer::Retry => 3,
+    }
+}
+
+/// Whether a supervisor stands: of a book that was read this holds exactly where its file has a
+/// line with a word.
 pub fn has_supervisor(book: &Book) -> bool
     ensures { result ≡ has_supervisor book.now }
 {

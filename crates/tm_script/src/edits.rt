@@ -14,9 +14,10 @@ use tm_list::{NoMemory, Seq};
 use tm_types::request::{ScriptFault, ScriptKind};
 use tm_types::step::{Editor, FileKind, LineFault};
 use tm_types::unions::DomainName;
-use tm_word::{Text, Word, begins_with, bytes_equal, spelled_word};
+use tm_word::{Text, Word, begins_with, bytes_equal, of_word, spelled_word};
 
-/// The editors that have been read: those before the last one, and the last one, whose lines come next.
+/// The editors that have been read: those before the last one, and the last one, whose lines come
+/// next.
 #[derive(Drop)]
 struct Edits {
     before: Seq<Editor>,
@@ -37,7 +38,8 @@ fn exe_word(alloc: Global, text: &[u8]) -> Result<Word, KindFault>
     }
 }
 
-/// Reads an editor's program at the front, and answers the words after it. Errors: `Arity` where no word is left, `Word`.
+/// Reads an editor's program at the front, and answers the words after it. Errors: `Arity` where no
+/// word is left, `Word`.
 fn exe_at(alloc: Global, words: &[Text]) -> Result<(Word, &[Text]), KindFault>
     ensures { Gives kind_cause (λ x. (x.0, x.1.now)) result (word_at exe_word words.now) }
 {
@@ -47,7 +49,8 @@ fn exe_at(alloc: Global, words: &[Text]) -> Result<(Word, &[Text]), KindFault>
     }
 }
 
-/// Reads an editor's domain, whose name runs to the line's end. Errors: `Arity` where no word is left, `Domain`.
+/// Reads an editor's domain, whose name runs to the line's end. Errors: `Arity` where no word is
+/// left, `Domain`.
 #[tactic(auto, unfolding(crate::specs::Edits::domain_rest, tm_line::specs::Domains::domain_to_end))]
 fn domain_rest(alloc: Global, words: &[Text]) -> Result<DomainName, KindFault>
     ensures { Gives kind_cause (λ name. name) result (domain_rest words.now) }
@@ -85,19 +88,10 @@ fn editor_of(alloc: Global, words: &[Text]) -> Result<Editor, KindFault>
 fn file_of(key: &[u8]) -> Result<FileKind, KindFault>
     ensures { GivesNow kind_cause (λ file. file) result (file_of key.now) }
 {
-    if bytes_equal(key, b"profile") {
-        return Ok(FileKind::Profile);
+    match of_word::<FileKind>(key) {
+        Some(file) => Ok(file),
+        None => Err(KindFault::Kind(ScriptKind::Keyword)),
     }
-    if bytes_equal(key, b"exception_policy") {
-        return Ok(FileKind::Exception);
-    }
-    if bytes_equal(key, b"domain_policy") {
-        return Ok(FileKind::Domain);
-    }
-    if bytes_equal(key, b"manager") {
-        return Ok(FileKind::Manager);
-    }
-    Err(KindFault::Kind(ScriptKind::Keyword))
 }
 
 /// The line of an edit. Errors: `Arity` where it has no word.
@@ -133,7 +127,8 @@ fn all_editors(edits: Edits) -> Result<Seq<Editor>, NoMemory>
     }
 }
 
-/// An edit of the last editor. Errors: `NoEditor` before the first one, `Arity` where the edit has no word.
+/// An edit of the last editor. Errors: `NoEditor` before the first one, `Arity` where the edit has
+/// no word.
 fn edit_by(alloc: Global, edits: Edits, file: FileKind, words: &[Text]) -> Result<Edits, KindFault>
     ensures { Gives kind_cause (λ next. next) result (edit_by edits edits.last file words.now) }
 {
@@ -171,15 +166,17 @@ impl Script for Edits {
     }
 }
 
-/// Reads edits: `editor UID EUID EXE DOMAIN` begins the next editor, numbered from 1, and `profile LINE`, `exception_policy LINE`,
-/// `domain_policy LINE` and `manager LINE` are its edits, in order. EXE is a literal path. LINE is kept as its words joined by single
-/// spaces; it is judged when its step is made. Lines without words count and are skipped.
+/// Reads edits: `editor UID EUID EXE DOMAIN` begins the next editor, numbered from 1, and `profile
+/// LINE`, `exception_policy LINE`, `domain_policy LINE` and `manager LINE` are its edits, in order.
+/// EXE is a literal path. LINE is kept as its words joined by single spaces; it is judged when its
+/// step is made. Lines without words count and are skipped.
 ///
 /// Errors: the first wrong line, from 1, with the kind of its first wrong word, or want of memory.
 #[tactic(auto, unfolding(crate::specs::Edits::edits_of))]
 pub fn read_edits(alloc: Global, bytes: &[u8]) -> Result<Vec<Editor>, ScriptFault>
     ensures exact { Gives script_cause (λ editors. editors.items) result (edits_of bytes.now) }
-    ensures few { IfOk result (λ editors. length editors.items + edit_count editors.items ≤ length bytes.now) }
+    ensures few { IfOk result
+        (λ editors. length editors.items + edit_count editors.items ≤ length bytes.now) }
 {
     let start = Edits {
         before: Seq::new(alloc),

@@ -1,6 +1,6 @@
-//! Scripts: the edits of policies, the answers of a supervisor and the schedule of a play, as they are read, and what a book answers.
-//! Stands on tm_line and tm_domain for words of lines, on tm_pattern for patterns, and on the definitions of tm_rules.
-//! Promises that what is read is what the definitions give, that a fault is the first wrong line with the kind of its first wrong word, and that the first rule that matches answers, without memory.
+//! Scripts: edits of policies, a supervisor's answers and schedules, read; what a book answers.
+//! It stands on the words of lines of `tm_line`, on `tm_pattern` and on the rules of `tm_rules`.
+//! It promises what the definitions give, the first wrong line, and the first rule that matches.
 #![tactic(auto)]
 
 mod answers;
@@ -11,8 +11,10 @@ mod lines;
 mod schedule;
 mod steps;
 
-pub use answers::read_answers;
-pub use book::{book_answer, has_supervisor};
+pub use answers::{colon_at, colon_place, list_at, list_of, list_word, read_answers};
+pub use book::{book_answer, book_code, has_supervisor, list_matches};
 pub use edits::read_edits;
 pub use laws::{faults_are_first, scripts_read};
+pub use lines::{Script, read_script};
 pub use schedule::read_schedule;
+pub use steps::{KindFault, number_at};

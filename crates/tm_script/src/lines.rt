@@ -10,7 +10,7 @@ use tm_types::request::ScriptFault;
 use tm_word::{Text, cut_at, normal_words};
 
 /// What has been read of a script: editors, a book, or turns.
-pub(crate) trait Script: Drop {
+pub trait Script: Drop {
     ghost use Rattle.std.specs.Prelude.{ℕ, List, Result};
     ghost use Rattle.tm_types.specs.declared.request.ScriptKind.{ScriptKind};
     ghost use Rattle.tm_word.specs.Gives.{Gives};
@@ -42,7 +42,8 @@ fn numbered_line<S: Script>(
     so_far: S,
     text: &[u8],
 ) -> Result<S, ScriptFault>
-    ensures { Gives script_cause (λ next. next) result (numbered number (line_read S.line so_far (words_of text.now))) }
+    ensures { Gives script_cause (λ next. next) result
+        (numbered number (line_read S.line so_far (words_of text.now))) }
 {
     match after_line(alloc, so_far, text) {
         Ok(next) => Ok(next),
@@ -55,7 +56,7 @@ fn numbered_line<S: Script>(
 ///
 /// Errors: the first wrong line, from 1, with the kind of its first wrong word, or want of memory.
 #[tactic(auto, unfolding(crate::specs::Lines::script_lines))]
-pub(crate) fn read_script<S: Script>(alloc: Global, start: S, text: &[u8]) -> Result<S, ScriptFault>
+pub fn read_script<S: Script>(alloc: Global, start: S, text: &[u8]) -> Result<S, ScriptFault>
     ensures { Gives script_cause (λ read. read) result (script_of S.line start text.now) }
 {
     let mut so_far = start;

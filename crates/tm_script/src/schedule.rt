@@ -32,7 +32,8 @@ fn one_of(count: u32, n: u64) -> Result<u32, KindFault>
     }
 }
 
-/// Reads the number of one of so many, with nothing after it. Errors: `Arity`, `Number`, `NoActivity`.
+/// Reads the number of one of so many, with nothing after it. Errors: `Arity`, `Number`,
+/// `NoActivity`.
 #[tactic(auto, unfolding(crate::specs::Schedule::activity_of))]
 fn activity_of(count: u32, words: &[Text]) -> Result<u32, KindFault>
     ensures { GivesNow kind_cause (λ n. n) result (activity_of count words.now) }
@@ -73,8 +74,9 @@ impl Script for Schedule {
     }
 }
 
-/// Reads a schedule for so many trees and editors: lines `tree N`, `editor N` and `desk`, where N names one that is there, from 1; `desk`
-/// may stand without a supervisor. Lines without words count and are skipped.
+/// Reads a schedule for so many trees and editors: lines `tree N`, `editor N` and `desk`, where N
+/// names one that is there, from 1; `desk` may stand without a supervisor. Lines without words
+/// count and are skipped.
 ///
 /// Errors: the first wrong line, from 1, with the kind of its first wrong word, or want of memory.
 #[tactic(auto, unfolding(crate::specs::Schedule::schedule_of))]
@@ -84,7 +86,8 @@ pub fn read_schedule(
     trees: u32,
     editors: u32,
 ) -> Result<Vec<Turn>, ScriptFault>
-    ensures { Gives script_cause (λ turns. turns.items) result (schedule_of trees editors bytes.now) }
+    ensures { Gives script_cause (λ turns. turns.items) result
+        (schedule_of trees editors bytes.now) }
 {
     let start = Schedule {
         trees,

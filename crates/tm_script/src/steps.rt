@@ -11,7 +11,7 @@ use tm_word::Text;
 
 /// Why a line of a script was not read: the kind of its first wrong word, or want of memory.
 #[derive(Clone, Copy)]
-pub(crate) enum KindFault {
+pub enum KindFault {
     Kind(ScriptKind),
     NoMemory,
 }
@@ -32,9 +32,10 @@ impl<T: Drop> From<AllocFailed<T>> for KindFault {
     }
 }
 
-/// Reads a plain number below a limit at the front, and answers the words after it. Errors: `Arity` where no word is left, `Number`.
+/// Reads a plain number below a limit at the front, and answers the words after it. Errors: `Arity`
+/// where no word is left, `Number`.
 #[tactic(auto, unfolding(crate::specs::Steps::number_at))]
-pub(crate) fn number_at(limit: u128, words: &[Text]) -> Result<(u64, &[Text]), KindFault>
+pub fn number_at(limit: u128, words: &[Text]) -> Result<(u64, &[Text]), KindFault>
     ensures exact { GivesNow kind_cause (λ x. (x.0, x.1.now)) result (number_at limit words.now) }
     ensures below { IfOk result (λ x. x.0 < limit) }
 {

@@ -13,8 +13,10 @@ situation_of now = record { process = now.process; domain = now.domain; floor = 
 
 -- a process that no line has changed yet stands in the tree's first domain
 abbrev pub first_situation : Option ℕ → ℕ → Situation
-first_situation home pid = record { process = record { pid = pid; ppid = 0; ids = no_ids }; domain = home; floor = 0 }
+first_situation home pid =
+    record { process = record { pid = pid; ppid = 0; ids = no_ids }; domain = home; floor = 0 }
 
 -- the situation of each process, by pid
 unfoldable pub situations : ProcessSituations → Situations
-situations known pid = option_map_or situation_of (get nat_cmp known.changed pid) (first_situation known.home pid)
+situations known pid =
+    option_map_or situation_of (get nat_cmp known.changed pid) (first_situation known.home pid)

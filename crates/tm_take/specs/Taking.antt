@@ -4,6 +4,7 @@ use Rattle.std.specs.Option.{option_to_list}
 use Rattle.tm_word.specs.Words.{Text}
 use Rattle.tm_take.specs.declared.owing.Owed.{Owed}
 use Rattle.tm_take.specs.declared.owing.Awaited.{Awaited}
+use Rattle.tm_take.specs.declared.requests.AttemptParts.{AttemptParts}
 use Rattle.tm_take.specs.declared.requests.NextEvent.{NextEvent}
 use Rattle.tm_take.specs.declared.requests.PendingLook.{PendingLook}
 use Rattle.tm_take.specs.Situations.{situation_of}
@@ -27,6 +28,22 @@ stage_of (Awaited.Steps owed) = Stage.Owing (owed_steps owed)
 stage_of (Awaited.Answer serial) = Stage.Waiting serial
 stage_of Awaited.Look = Stage.Looking
 
+-- what the parts of a take stand for
+abbrev pub in_progress : AttemptParts → InProgress
+in_progress parts =
+    record {
+      now = situation_of parts.now;
+      before = parts.before;
+      request = parts.request;
+      retry = parts.retry;
+      looked = parts.looked;
+      look = parts.look;
+      verdict = parts.verdict;
+      audit = parts.audit;
+      after = parts.after;
+      stage = stage_of parts.awaited;
+    }
+
 -- the steps that a take owes; none where it waits for something else
 abbrev pub rest_of : Stage → List Step
 rest_of (Stage.Owing steps) = steps
@@ -41,10 +58,12 @@ serial_of Stage.Looking = None
 
 -- the steps that a verdict asks for at once
 abbrev pub asked_of : Grammar → ℕ → ℕ → Verdict → List Step
-asked_of g before retry v = steps_of_line g before retry v ++ (if is_granting v.reason then steps_of_move before v else [])
+asked_of g before retry v =
+    steps_of_line g before retry v ++ (if is_granting v.reason then steps_of_move before v else [])
 
 -- the take that a look with this verdict and this audit text begins
-abbrev pub begun_with : Grammar → ℕ → Situation → ℕ → Request → ℕ → List Look → Verdict → Option Text → InProgress
+abbrev pub begun_with : Grammar → ℕ → Situation → ℕ → Request → ℕ → List Look → Verdict
+    → Option Text → InProgress
 begun_with g version now before request retry looked v audit =
     record {
       now = now;
@@ -52,7 +71,14 @@ begun_with g version now before request retry looked v audit =
       request = request;
       retry = retry;
       looked = looked;
-      look = record { version = version; mode = v.mode; reason = v.reason; step = v.step; own = []; heard = None };
+      look = record {
+        version = version;
+        mode = v.mode;
+        reason = v.reason;
+        step = v.step;
+        own = [];
+        heard = None;
+      };
       verdict = v;
       audit = audit;
       after = entered g v.step;
@@ -61,7 +87,8 @@ begun_with g version now before request retry looked v audit =
 
 -- the stage at which such an event comes next
 abbrev pub IsNext : NextEvent → Stage → Type 0
-IsNext NextEvent.OwnStep stage = (step : Step) × (rest : List Step) × (stage ≡ Stage.Owing (step ∷ rest))
+IsNext NextEvent.OwnStep stage =
+    (step : Step) × (rest : List Step) × (stage ≡ Stage.Owing (step ∷ rest))
 IsNext (NextEvent.Answer serial) stage = stage ≡ Stage.Waiting serial
 IsNext NextEvent.Look stage = stage ≡ Stage.Looking
 IsNext NextEvent.End stage = stage ≡ Stage.Owing []
@@ -72,7 +99,8 @@ pub record TakesOut (b : InProgress) (step : Step) (left : InProgress) : Type 0 
   pub owing : b.stage ≡ Stage.Owing (step ∷ rest)
   pub is_left : left ≡ record b { stage = Stage.Owing rest }
 
--- the next look: for the same process at the same request, the retry number one higher, and the look that the take was at behind those before
+-- the next look: for the same process at the same request, the retry number one higher, and the
+-- look that the take was at behind those before
 pub record LooksAgain (b : InProgress) (next : PendingLook) : Type 0 where
   pub now : situation_of next.now ≡ b.now
   pub request : next.request ≡ b.request

@@ -12,7 +12,13 @@ use Rattle.tm_grammar.specs.Tomoyo.{tomoyo_grammar}
 
 -- a tree on its way
 unfoldable pub way_of : TreeOnWay → Way
-way_of tree = record { at = situations tree.known; items = tree.lines; begun = tree.begun; takes = tree.takes }
+way_of tree =
+    record {
+      at = situations tree.known;
+      items = tree.lines;
+      begun = tree.begun;
+      takes = tree.takes;
+    }
 
 -- the serial of the query whose answer a tree waits for
 abbrev pub awaited : Way → Option ℕ

@@ -1,6 +1,6 @@
-//! A take on its way: the situations of processes, a request in progress with the steps that it owes, and the take that it ends as.
-//! Stands on tm_legal, whose definitions of a play its contracts cite, and on tm_entry for the line that a query asks for.
-//! Promises that each call is the definition's part of a tree's event, for whoever drives it: a player by turns or workers by locks.
+//! A take on its way: situations of processes, a request in progress, and the take that it ends as.
+//! Stands on tm_legal, whose play its contracts cite, and on tm_entry for a query's line.
+//! Promises that each call is the definition's part of a tree's event, whoever drives it.
 #![tactic(auto)]
 
 mod laws;

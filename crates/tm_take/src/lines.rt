@@ -65,7 +65,8 @@ impl Lines {
 
     /// Takes the first line out; None where none is left.
     pub fn next(&mut self) -> Option<Item>
-        ensures { MatchOption result ((self.old ≡ []) × (self.new ≡ [])) (λ item. self.old ≡ item ∷ self.new) }
+        ensures { MatchOption result ((self.old ≡ []) × (self.new ≡ []))
+            (λ item. self.old ≡ item ∷ self.new) }
     {
         let item = self.items.pop_front()?;
         if let Item::Do(_, _) = item {
@@ -77,7 +78,8 @@ impl Lines {
 
 // Passes an `ids` or `fork` line; of a request's line it gives its process and the request.
 fn pass_line(known: &mut ProcessSituations, item: Item) -> Result<Option<(u32, Request)>, NoMemory>
-    ensures { IfOk result (λ next. PassesLine next item (situations known.old) (situations known.new)) }
+    ensures { IfOk result
+        (λ next. PassesLine next item (situations known.old) (situations known.new)) }
 {
     match item {
         Item::Ids(pid, ids) => {
@@ -92,13 +94,14 @@ fn pass_line(known: &mut ProcessSituations, item: Item) -> Result<Option<(u32, R
     }
 }
 
-/// Passes the `ids` and `fork` lines before the next request and takes the request out, with the pid of its process; None, and
-/// nothing changed, where no request is left.
+/// Passes the `ids` and `fork` lines before the next request and takes the request out, with the
+/// pid of its process; None, and nothing changed, where no request is left.
 pub fn pass(
     known: &mut ProcessSituations,
     lines: &mut Lines,
 ) -> Result<Option<(u32, Request)>, NoMemory>
-    ensures { IfOk result (λ next. Passes next (situations known.old) lines.old (situations known.new) lines.new) }
+    ensures { IfOk result
+        (λ next. Passes next (situations known.old) lines.old (situations known.new) lines.new) }
 {
     if !lines.has_request() {
         return Ok(None);

@@ -62,7 +62,8 @@ pub(crate) struct Owed {
     pub lead: Option<KeptStep>,
 }
 
-/// What a take waits for: its own steps, one after another; the answer to the query of a serial; another look.
+/// What a take waits for: its own steps, one after another; the answer to the query of a serial;
+/// another look.
 #[derive(Drop)]
 pub(crate) enum Awaited {
     Steps(Owed),
@@ -70,14 +71,15 @@ pub(crate) enum Awaited {
     Look,
 }
 
-/// Whether a verdict grants by its reason alone; a held request waits for its answer. Takes no memory.
+/// Whether a verdict grants by its reason alone; a held request waits for its answer. Takes no
+/// memory.
 pub fn grants(reason: &Reason) -> bool
     ensures { result ≡ is_granting reason.now }
 {
     match reason {
         Reason::Entry(_) | Reason::Disabled | Reason::Permissive | Reason::Quota | Reason::Learn =>
             true,
-        Reason::Ask | Reason::NoEntry | Reason::NotReady | Reason::NoManual => false,
+        _ => false,
     }
 }
 
@@ -97,7 +99,8 @@ fn line_owed(
     retry: u32,
     verdict: &Verdict,
 ) -> Result<Option<KeptStep>, NoMemory>
-    ensures { IfOk result (λ step. option_to_list step ≡ steps_of_line tomoyo_grammar before retry verdict.now) }
+    ensures { IfOk result
+        (λ step. option_to_list step ≡ steps_of_line tomoyo_grammar before retry verdict.now) }
 {
     match verdict.reason {
         Reason::Learn => match &verdict.line {
@@ -151,7 +154,9 @@ fn lead_if_granted(
     before: u32,
     verdict: &Verdict,
 ) -> Result<Option<KeptStep>, NoMemory>
-    ensures { IfOk result (λ step. option_to_list step ≡ (if is_granting verdict.now.reason then steps_of_move before verdict.now else [])) }
+    ensures { IfOk result
+        (λ step. option_to_list step
+        ≡ (if is_granting verdict.now.reason then steps_of_move before verdict.now else [])) }
 {
     if grants(&verdict.reason) {
         lead_owed(alloc, before, verdict)
@@ -167,7 +172,8 @@ pub(crate) fn steps_owed(
     retry: u32,
     verdict: &Verdict,
 ) -> Result<Owed, NoMemory>
-    ensures { IfOk result (λ owed. owed_steps owed ≡ asked_of tomoyo_grammar before retry verdict.now) }
+    ensures { IfOk result
+        (λ owed. owed_steps owed ≡ asked_of tomoyo_grammar before retry verdict.now) }
 {
     let line = line_owed(alloc, before, retry, verdict)?;
     let lead = lead_if_granted(alloc, before, verdict)?;
@@ -197,7 +203,8 @@ impl Owed {
 
     // The first step, and what is owed after it; None where nothing is owed.
     pub(crate) fn first(self) -> Option<(KeptStep, Owed)>
-        ensures { MatchOption result (owed_steps self ≡ []) (λ next. owed_steps self ≡ next.0 ∷ owed_steps next.1) }
+        ensures { MatchOption result (owed_steps self ≡ [])
+            (λ next. owed_steps self ≡ next.0 ∷ owed_steps next.1) }
     {
         let Owed { line, lead } = self;
         match line {

@@ -4,7 +4,7 @@ ghost use Rattle.tm_legal.specs.Legal.{is_yes, look_grants, steps_of_move};
 ghost use Rattle.tm_legal.specs.Play.{Stage, entered, taken, with_own, with_heard, after_step, after_answer};
 ghost use Rattle.tm_grammar.specs.Tomoyo.{tomoyo_grammar};
 ghost use Rattle.tm_take.specs.Situations.{situation_of};
-ghost use Rattle.tm_take.specs.Taking.{owed_steps, stage_of, rest_of, serial_of, begun_with, IsNext, TakesOut, LooksAgain};
+ghost use Rattle.tm_take.specs.Taking.{owed_steps, stage_of, in_progress, rest_of, serial_of, begun_with, IsNext, TakesOut, LooksAgain};
 
 use crate::owing::{Awaited, KeptStep, Owed, grants, lead_owed, steps_owed};
 use crate::situations::ProcessSituation;
@@ -17,7 +17,8 @@ use tm_types::step::{Answered, Heard, Held, Look, MakeReply, Reply, Step, Take};
 use tm_types::verdict::{Move, Reason, Verdict};
 use tm_word::Text;
 
-/// A look that is to be made: for whom, at what request, how often the supervisor has said retry, and the looks before.
+/// A look that is to be made: for whom, at what request, how often the supervisor has said retry,
+/// and the looks before.
 #[derive(Drop)]
 pub struct PendingLook {
     pub now: ProcessSituation,
@@ -40,7 +41,8 @@ impl PendingLook {
     }
 }
 
-/// What comes next of a request in progress: a step of its own, the answer to the query of a serial, another look, or its end.
+/// What comes next of a request in progress: a step of its own, the answer to the query of a
+/// serial, another look, or its end.
 #[derive(Clone, Copy)]
 pub enum NextEvent {
     OwnStep,
@@ -64,9 +66,10 @@ struct AttemptParts {
     awaited: Awaited,
 }
 
-/// A request in progress: a take that has begun and not ended. It has where its process stands and the domain that it is in, the
-/// request, the retry number, the looks before, the look that it is at with that look's verdict and audit text, where it leads, and
-/// what it waits for. These parts are kept apart, so that it is small where it is moved.
+/// A request in progress: a take that has begun and not ended. It has where its process stands and
+/// the domain that it is in, the request, the retry number, the looks before, the look that it is
+/// at with that look's verdict and audit text, where it leads, and what it waits for. These parts
+/// are kept apart, so that it is small where it is moved.
 #[derive(Drop)]
 pub struct RequestInProgress {
     parts: Box<AttemptParts>,
@@ -74,28 +77,17 @@ pub struct RequestInProgress {
 
 impl Model for RequestInProgress {
     ghost use Rattle.tm_legal.specs.Play.{InProgress};
-    ghost use Rattle.tm_take.specs.Situations.{situation_of};
-    ghost use Rattle.tm_take.specs.Taking.{stage_of};
+    ghost use Rattle.tm_take.specs.Taking.{in_progress};
 
     ghost Value = { InProgress };
 
-    ghost view = { λ r. record {
-      now = situation_of r.parts.value.now;
-      before = r.parts.value.before;
-      request = r.parts.value.request;
-      retry = r.parts.value.retry;
-      looked = r.parts.value.looked;
-      look = r.parts.value.look;
-      verdict = r.parts.value.verdict;
-      audit = r.parts.value.audit;
-      after = r.parts.value.after;
-      stage = stage_of r.parts.value.awaited;
-    } };
+    ghost view = { λ r. in_progress r.parts.value };
 }
 
 // The first step that is owed, and what is owed after it; None where none is owed.
 fn first_owed(awaited: Awaited) -> Option<(KeptStep, Owed)>
-    ensures { MatchOption result (rest_of (stage_of awaited) ≡ []) (λ next. stage_of awaited ≡ Stage.Owing (next.0 ∷ owed_steps next.1)) }
+    ensures { MatchOption result (rest_of (stage_of awaited) ≡ [])
+        (λ next. stage_of awaited ≡ Stage.Owing (next.0 ∷ owed_steps next.1)) }
 {
     match awaited {
         Awaited::Steps(owed) => owed.first(),
@@ -104,7 +96,7 @@ fn first_owed(awaited: Awaited) -> Option<(KeptStep, Owed)>
     }
 }
 
-// Whether the answer yes was learned.
+// Whether the answer yes was heard.
 fn is_yes(heard: Option<Heard>) -> bool
     ensures { result ≡ is_yes heard }
 {
@@ -113,8 +105,7 @@ fn is_yes(heard: Option<Heard>) -> bool
     };
     match heard.answer {
         Some(Answered::Yes) => true,
-        Some(Answered::No) => false,
-        Some(Answered::Retry) | Some(Answered::Detached) | None => false,
+        _ => false,
     }
 }
 
@@ -124,14 +115,7 @@ fn look_grants(look: &Look) -> bool
 {
     match look.reason {
         Reason::Ask => is_yes(look.heard),
-        Reason::Entry(_)
-        | Reason::Disabled
-        | Reason::Permissive
-        | Reason::Quota
-        | Reason::Learn
-        | Reason::NoEntry
-        | Reason::NotReady
-        | Reason::NoManual => grants(&look.reason),
+        _ => grants(&look.reason),
     }
 }
 
@@ -161,30 +145,26 @@ fn entered(step: Move) -> Option<u32>
 {
     match step {
         Move::Enter(number) => Some(number),
-        Move::Stay | Move::Make | Move::Fail => None,
+        _ => None,
     }
 }
 
-/// A look at this version has this verdict and this audit text: the request is in progress, and owes the steps that the verdict asks
-/// for: the Learn or the Ask of its line, and then, where it grants, the Make or the Fail of its move. `before` is the number of the
-/// domain that its process is in. An Ask has the retry number and the printed line.
-pub fn begin(
+// What is kept of a request whose look at this version has this verdict and this audit text, and
+// which owes these steps.
+fn parts_at(
     alloc: Global,
     version: u64,
     before: u32,
     pending: PendingLook,
     verdict: Verdict,
     audit: Option<Text>,
-) -> Result<RequestInProgress, NoMemory>
-    ensures { IfOk result (λ begun. begun ≡ begun_with tomoyo_grammar version (situation_of pending.now) before pending.request pending.retry pending.looked verdict audit) }
+    owed: Owed,
+) -> AttemptParts
+    ensures { in_progress result ≡ record
+        (begun_with tomoyo_grammar version (situation_of pending.now) before pending.request
+        pending.retry pending.looked verdict audit)
+        { stage = Stage.Owing (owed_steps owed) } }
 {
-    let PendingLook {
-        now,
-        request,
-        retry,
-        looked,
-    } = pending;
-    let owed = steps_owed(alloc, before, retry, &verdict)?;
     let look = Look {
         version,
         mode: verdict.mode,
@@ -193,24 +173,67 @@ pub fn begin(
         own: Seq::new(alloc),
         heard: None,
     };
-    let after = entered(verdict.step);
-    let parts = AttemptParts {
+    let PendingLook {
+        now,
+        request,
+        retry,
+        looked,
+    } = pending;
+    AttemptParts {
         now,
         before,
         request,
         retry,
         looked,
         look,
+        after: entered(verdict.step),
         verdict,
         audit,
-        after,
         awaited: Awaited::Steps(owed),
-    };
-    match Box::new(alloc, parts) {
-        Ok(parts) => Ok(RequestInProgress { parts }),
-        Err(refused) => {
-            drop(refused);
-            Err(AllocError)
+    }
+}
+
+impl AttemptParts {
+    // Kept apart.
+    fn boxed(self, alloc: Global) -> Result<RequestInProgress, NoMemory>
+        ensures { IfOk result (λ begun. begun ≡ in_progress self) }
+    {
+        match Box::new(alloc, self) {
+            Ok(parts) => Ok(RequestInProgress { parts }),
+            Err(refused) => {
+                drop(refused);
+                Err(AllocError)
+            }
+        }
+    }
+}
+
+/// A look at this version has this verdict and this audit text: the request is in progress, and
+/// owes the steps that the verdict asks for: the Learn or the Ask of its line, and then, where it
+/// grants, the Make or the Fail of its move. `before` is the number of the domain that its process
+/// is in. An Ask has the retry number and the printed line.
+pub fn begin(
+    alloc: Global,
+    version: u64,
+    before: u32,
+    pending: PendingLook,
+    verdict: Verdict,
+    audit: Option<Text>,
+) -> Result<RequestInProgress, NoMemory>
+    ensures { IfOk result (λ begun. begun ≡ begun_with tomoyo_grammar version
+        (situation_of pending.now) before pending.request pending.retry pending.looked
+        verdict audit) }
+{
+    match steps_owed(alloc, before, pending.retry, &verdict) {
+        Ok(owed) => {
+            let parts = parts_at(alloc, version, before, pending, verdict, audit, owed);
+            parts.boxed(alloc)
+        }
+        Err(fault) => {
+            drop(pending);
+            drop(verdict);
+            drop(audit);
+            Err(fault)
         }
     }
 }
@@ -284,7 +307,8 @@ impl RequestInProgress {
 
     /// Takes the first step out that it owes; None where it owes none. Takes no memory.
     pub fn next_owed(self) -> Option<(Step, RequestInProgress)>
-        ensures { MatchOption result (rest_of self.stage ≡ []) (λ next. TakesOut self next.0 next.1) }
+        ensures { MatchOption result (rest_of self.stage ≡ [])
+            (λ next. TakesOut self next.0 next.1) }
     {
         let (awaited, attempt) = self.take_awaited();
         let (step, left) = first_owed(awaited)?;
@@ -313,7 +337,8 @@ impl RequestInProgress {
 
     // Its look has one own step more; after want of memory it is gone.
     fn noted(self, number: u64) -> Result<RequestInProgress, NoMemory>
-        ensures { IfOk result (λ next. next ≡ record self { look = with_own tomoyo_grammar self.look number }) }
+        ensures { IfOk result
+            (λ next. next ≡ record self { look = with_own tomoyo_grammar self.look number }) }
     {
         let mut attempt = self;
         match attempt.parts.look.own.push(number) {
@@ -325,9 +350,10 @@ impl RequestInProgress {
         }
     }
 
-    // Its look has learned this.
-    fn learned(self, answer: Option<Answered>, version: u64) -> RequestInProgress
-        ensures { result ≡ record self { look = with_heard tomoyo_grammar self.look answer version } }
+    // Its look has heard this.
+    fn hearing(self, answer: Option<Answered>, version: u64) -> RequestInProgress
+        ensures { result
+            ≡ record self { look = with_heard tomoyo_grammar self.look answer version } }
     {
         let mut attempt = self;
         attempt.parts.look.heard = Some(Heard { answer, version });
@@ -343,33 +369,31 @@ impl RequestInProgress {
         attempt
     }
 
-    /// Its own step has been made with this number and this reply: the number is noted, a Make's reply says where it leads, an Ask's
-    /// is waited for or, where nobody is attached, learned at once. The step is the one that `next_owed` took out.
+    /// Its own step has been made with this number and this reply: the number is noted, a Make's
+    /// reply says where it leads, an Ask's is waited for or, where nobody is attached, heard at
+    /// once. The step is the one that `next_owed` took out.
     pub fn after_step(self, number: u64, reply: Reply) -> Result<RequestInProgress, NoMemory>
-        ensures { IfOk result (λ next. next ≡ after_step tomoyo_grammar self (rest_of self.stage) number reply) }
+        ensures { IfOk result
+            (λ next. next ≡ after_step tomoyo_grammar self (rest_of self.stage) number reply) }
     {
         let attempt = self.noted(number)?;
         match reply {
             Reply::Ask(Held::Serial(serial)) => Ok(attempt.awaiting(Awaited::Answer(serial))),
             Reply::Ask(Held::Nobody) => {
-                let attempt = attempt.learned(None, number);
+                let attempt = attempt.hearing(None, number);
                 Ok(attempt.awaiting(Awaited::Steps(Owed::nothing())))
             }
             Reply::Make(MakeReply::New(made)) => Ok(attempt.leading(made).still_owing()),
             Reply::Make(MakeReply::Old(made)) => Ok(attempt.leading(made).still_owing()),
-            Reply::Learn(_)
-            | Reply::Fail(_)
-            | Reply::Answer(_)
-            | Reply::Attach(_)
-            | Reply::Detach(_)
-            | Reply::Edit(_)
-            | Reply::End => Ok(attempt.still_owing()),
+            _ => Ok(attempt.still_owing()),
         }
     }
 
     // It owes the Make or the Fail of its move; after want of memory it is gone.
     fn owing_lead(self, alloc: Global) -> Result<RequestInProgress, NoMemory>
-        ensures { IfOk result (λ next. next ≡ record self { stage = Stage.Owing (steps_of_move self.before self.verdict) }) }
+        ensures { IfOk result (λ next. next ≡ record self {
+          stage = Stage.Owing (steps_of_move self.before self.verdict);
+        }) }
     {
         match lead_owed(alloc, self.parts.before, &self.parts.verdict) {
             Ok(lead) => Ok(self.awaiting(Awaited::Steps(Owed { line: None, lead }))),
@@ -380,8 +404,8 @@ impl RequestInProgress {
         }
     }
 
-    /// Its query has this answer, taken at this version: after a yes it owes the Make or the Fail of its move, after a retry it is to
-    /// look again, else it ends.
+    /// Its query has this answer, taken at this version: after a yes it owes the Make or the Fail
+    /// of its move, after a retry it is to look again, else it ends.
     pub fn after_answer(
         self,
         alloc: Global,
@@ -390,7 +414,7 @@ impl RequestInProgress {
     ) -> Result<RequestInProgress, NoMemory>
         ensures { IfOk result (λ next. next ≡ after_answer tomoyo_grammar self version answer) }
     {
-        let attempt = self.learned(Some(answer), version);
+        let attempt = self.hearing(Some(answer), version);
         match answer {
             Answered::Yes => attempt.owing_lead(alloc),
             Answered::Retry => Ok(attempt.awaiting(Awaited::Look)),
@@ -399,35 +423,52 @@ impl RequestInProgress {
         }
     }
 
-    /// The look that it is to make after a retry: the retry number is one higher, and the look that it is at is put behind those
-    /// before. A retry number past the end of its type is answered as want of memory.
+    /// The look that it is to make after a retry: the retry number is one higher, and the look that
+    /// it is at is put behind those before. A retry number past the end of its type is answered as
+    /// want of memory.
     pub fn again(self) -> Result<PendingLook, NoMemory>
         ensures { IfOk result (λ next. LooksAgain self next) }
     {
+        let Some(retry) = self.parts.retry.checked_add(1) else {
+            drop(self);
+            return Err(AllocError);
+        };
         let RequestInProgress { parts } = self;
         let AttemptParts {
             now,
+            before: _,
             request,
-            retry,
+            retry: _,
             looked,
             look,
-            ..
+            verdict,
+            audit,
+            after: _,
+            awaited,
         } = Box::into_inner(parts);
-        let Some(retry) = retry.checked_add(1) else {
-            return Err(AllocError);
-        };
-        let looked = with_last(looked, look)?;
-        Ok(PendingLook {
-            now,
-            request,
-            retry,
-            looked,
-        })
+        drop(verdict);
+        drop(audit);
+        drop(awaited);
+        match with_last(looked, look) {
+            Ok(looked) => Ok(PendingLook {
+                now,
+                request,
+                retry,
+                looked,
+            }),
+            Err(fault) => {
+                drop(now);
+                drop(request);
+                Err(fault)
+            }
+        }
     }
 
     // The domain that its process is in after it.
     fn domain_after(&self, granted: bool) -> u32
-        ensures { result ≡ (if granted then unwrap_or self.entry.now.after self.entry.now.before else self.entry.now.before) }
+        ensures { result
+            ≡ (if granted then unwrap_or self.entry.now.after self.entry.now.before
+            else self.entry.now.before) }
     {
         if granted {
             self.parts.after.unwrap_or(self.parts.before)
@@ -436,8 +477,8 @@ impl RequestInProgress {
         }
     }
 
-    /// The take that it ends as: granted by its last look, into the domain where it leads, with all its looks and the last one's audit
-    /// text.
+    /// The take that it ends as: granted by its last look, into the domain where it leads, with all
+    /// its looks and the last one's audit text.
     pub fn into_take(self) -> Result<Take, NoMemory>
         ensures { IfOk result (λ ended. ended ≡ taken tomoyo_grammar self) }
     {
@@ -447,19 +488,34 @@ impl RequestInProgress {
         let pid = self.parts.now.process.pid;
         let RequestInProgress { parts } = self;
         let AttemptParts {
+            now,
+            before: _,
+            request,
+            retry: _,
             looked,
             look,
+            verdict,
             audit,
-            ..
+            after: _,
+            awaited,
         } = Box::into_inner(parts);
-        let looks = with_last(looked, look)?;
-        Ok(Take {
-            pid,
-            before,
-            after,
-            granted,
-            looks,
-            audit,
-        })
+        drop(now);
+        drop(request);
+        drop(verdict);
+        drop(awaited);
+        match with_last(looked, look) {
+            Ok(looks) => Ok(Take {
+                pid,
+                before,
+                after,
+                granted,
+                looks,
+                audit,
+            }),
+            Err(fault) => {
+                drop(audit);
+                Err(fault)
+            }
+        }
     }
 }

@@ -15,7 +15,8 @@ pub struct ProcessSituation {
     pub domain: Option<u32>,
 }
 
-/// The processes of a tree. One that no line has changed yet stands in the tree's first domain, without ids and parent.
+/// The processes of a tree. One that no line has changed yet stands in the tree's first domain,
+/// without ids and parent.
 #[derive(Drop)]
 pub struct ProcessSituations {
     home: Option<u32>,
@@ -43,7 +44,8 @@ fn first_of(home: Option<u32>, pid: u32) -> ProcessSituation
 }
 
 impl ProcessSituations {
-    /// Every process stands in this domain; None where the tree's first domain isn't there. Takes no memory.
+    /// Every process stands in this domain; None where the tree's first domain isn't there. Takes
+    /// no memory.
     #[tactic(auto, unfolding(crate::specs::Situations::situations))]
     pub fn new(alloc: Global, home: Option<u32>) -> ProcessSituations
         ensures { situations result ≡ first_situation home }
@@ -68,7 +70,8 @@ impl ProcessSituations {
     // Puts another process in the place of that pid; the others stay.
     #[tactic(auto, unfolding(crate::specs::Situations::situations))]
     fn put(&mut self, pid: u32, now: ProcessSituation) -> Result<(), NoMemory>
-        ensures { OnOk result (situations self.new ≡ with_situation (situations self.old) pid (situation_of now)) }
+        ensures { OnOk result
+            (situations self.new ≡ with_situation (situations self.old) pid (situation_of now)) }
     {
         self.changed.insert(pid, now)?;
         Ok(())
@@ -76,7 +79,8 @@ impl ProcessSituations {
 
     /// An `ids` line: the process has these ids from now on.
     pub fn set_ids(&mut self, pid: u32, ids: Ids) -> Result<(), NoMemory>
-        ensures { OnOk result (situations self.new ≡ with_situation (situations self.old) pid (with_ids (situations self.old pid) ids)) }
+        ensures { OnOk result (situations self.new ≡ with_situation (situations self.old) pid
+            (with_ids (situations self.old pid) ids)) }
     {
         let ProcessSituation { process, domain } = self.at(pid);
         let process = Proc { ids, ..process };
@@ -85,7 +89,8 @@ impl ProcessSituations {
 
     /// A `fork` line: the child has its parent's ids and domain.
     pub fn fork(&mut self, pid: u32, child: u32) -> Result<(), NoMemory>
-        ensures { OnOk result (situations self.new ≡ with_situation (situations self.old) child (forked (situations self.old pid) child)) }
+        ensures { OnOk result (situations self.new ≡ with_situation (situations self.old) child
+            (forked (situations self.old pid) child)) }
     {
         let ProcessSituation { process, domain } = self.at(pid);
         let process = Proc {
@@ -98,7 +103,8 @@ impl ProcessSituations {
 
     /// After a take the process is in that domain.
     pub fn move_to(&mut self, pid: u32, domain: u32) -> Result<(), NoMemory>
-        ensures { OnOk result (situations self.new ≡ with_situation (situations self.old) pid (record (situations self.old pid) { domain = Some domain })) }
+        ensures { OnOk result (situations self.new ≡ with_situation (situations self.old) pid
+            (record (situations self.old pid) { domain = Some domain })) }
     {
         let ProcessSituation { process, .. } = self.at(pid);
         let domain = Some(domain);

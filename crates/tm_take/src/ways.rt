@@ -15,7 +15,8 @@ use tm_list::{NoMemory, Seq};
 use tm_types::request::{Item, Request};
 use tm_types::step::Take;
 
-/// A tree on its way: its processes, the lines that are left, the request in progress, if one is, and the takes that have ended.
+/// A tree on its way: its processes, the lines that are left, the request in progress, if one is,
+/// and the takes that have ended.
 #[derive(Drop)]
 pub struct TreeOnWay {
     known: ProcessSituations,
@@ -25,10 +26,12 @@ pub struct TreeOnWay {
 }
 
 impl TreeOnWay {
-    /// A tree at its beginning: all its lines are left, and its processes stand in this domain. Takes no memory.
+    /// A tree at its beginning: all its lines are left, and its processes stand in this domain.
+    /// Takes no memory.
     #[tactic(auto, unfolding(crate::specs::Ways::way_of))]
     pub fn new(alloc: Global, home: Option<u32>, records: Seq<Item>) -> TreeOnWay
-        ensures { way_of result ≡ record { at = first_situation home; items = records; begun = None; takes = [] } }
+        ensures { way_of result
+            ≡ record { at = first_situation home; items = records; begun = None; takes = [] } }
     {
         TreeOnWay {
             known: ProcessSituations::new(alloc, home),
@@ -62,7 +65,8 @@ impl TreeOnWay {
         self.begun.as_ref()
     }
 
-    /// The serial of the query whose answer it waits for; None where it waits for none. Takes no memory.
+    /// The serial of the query whose answer it waits for; None where it waits for none. Takes no
+    /// memory.
     #[tactic(auto, unfolding(crate::specs::Ways::way_of))]
     pub fn awaits(&self) -> Option<u64>
         ensures { result ≡ awaited (way_of self.now) }
@@ -81,8 +85,8 @@ impl TreeOnWay {
         self.takes.as_slice()
     }
 
-    /// Passes the `ids` and `fork` lines before the next request and takes the request out, with the pid of its process; None, and
-    /// nothing changed, where no request is left.
+    /// Passes the `ids` and `fork` lines before the next request and takes the request out, with
+    /// the pid of its process; None, and nothing changed, where no request is left.
     #[tactic(auto, unfolding(crate::specs::Ways::way_of))]
     pub fn pass(&mut self) -> Result<Option<(u32, Request)>, NoMemory>
         ensures { IfOk result (λ next. WayPasses next (way_of self.old) (way_of self.new)) }
@@ -111,7 +115,8 @@ impl TreeOnWay {
     // A take ends with its last event: it is put last, and its process is in the domain after it.
     #[tactic(auto, unfolding(crate::specs::Ways::way_of))]
     fn end(&mut self, attempt: RequestInProgress) -> Result<(), NoMemory>
-        ensures { OnOk result (way_of self.new ≡ ended_way tomoyo_grammar (way_of self.old) attempt) }
+        ensures { OnOk result
+            (way_of self.new ≡ ended_way tomoyo_grammar (way_of self.old) attempt) }
     {
         let take = attempt.into_take()?;
         match self.known.move_to(take.pid, take.after) {
@@ -126,10 +131,11 @@ impl TreeOnWay {
         }
     }
 
-    /// A request in progress goes on while it owes a step, waits for an answer or is to look again; else it ends: its take is put last,
-    /// and its process is in the domain after it.
+    /// A request in progress goes on while it owes a step, waits for an answer or is to look again;
+    /// else it ends: its take is put last, and its process is in the domain after it.
     pub fn go_on(&mut self, attempt: RequestInProgress) -> Result<(), NoMemory>
-        ensures { OnOk result (way_of self.new ≡ going_on tomoyo_grammar (way_of self.old) attempt) }
+        ensures { OnOk result
+            (way_of self.new ≡ going_on tomoyo_grammar (way_of self.old) attempt) }
     {
         match attempt.next_event() {
             NextEvent::End => self.end(attempt),

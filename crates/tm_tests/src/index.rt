@@ -1,15 +1,16 @@
-//! Calls of `tm_index`.
+//! Calls of `tm_indexed`.
 ghost use Rattle.std.specs.Prelude.{IfOk};
 ghost use Rattle.tm_rules.specs.Few.{IsFew};
 
 use crate::samples::{entry, files, process, read, request};
 use std::alloc::{AllocError, Global};
 use std::test::Fail;
-use tm_index::Indexed;
+use tm_change_domains::{domain_at, profile_of};
+use tm_indexed::{Indexed, load_indexed};
 use tm_list::NoMemory;
-use tm_load::{load, load_indexed};
 use tm_number::{Addr, AddrRange, Base, Number, Range, write_number};
-use tm_policy::{Plain, Rep, domain_at, is_few, profile_of};
+use tm_policy::{Plain, is_few, load};
+use tm_rep::Rep;
 use tm_types::entry::{Args, Entry, InetKind};
 use tm_types::request::Request;
 use tm_types::step::{EditReply, FileKind, LearnReply, PolicyFiles};
@@ -137,7 +138,8 @@ fn edit(alloc: Global, rep: &mut Indexed, line: &[u8]) -> Result<EditReply, NoMe
     rep.apply_line(alloc, FileKind::Domain, &mut cursor, line)
 }
 
-/// Whether a walk and the index find the same for a read of this file, and find it or not as is wanted.
+/// Whether a walk and the index find the same for a read of this file, and find it or not as is
+/// wanted.
 fn agree(walked: &Plain, found: &Indexed, request: &Request, wanted: bool) -> bool
     requires walked { IsFew walked.now }
     requires found { IsFew found.now }
@@ -147,7 +149,8 @@ fn agree(walked: &Plain, found: &Indexed, request: &Request, wanted: bool) -> bo
     by_walk == by_index && by_index.is_some() == wanted
 }
 
-/// Whether they agree on reads of all names below this number, which are there, and on that of the name of the number.
+/// Whether they agree on reads of all names below this number, which are there, and on that of the
+/// name of the number.
 fn all_agree(alloc: Global, walked: &Plain, found: &Indexed, count: u32) -> Result<bool, NoMemory>
     requires walked { IsFew walked.now }
     requires found { IsFew found.now }

@@ -1,5 +1,5 @@
-//! The tests of policies with and without an index, of queries and of runs read again: what no row of tm_plays shows.
-//! Stands on every crate whose calls it tries, and nothing stands on it. A test of a private item stands in the crate of that item.
+//! Tests of policies with and without an index, of queries, runs and sorted records: what no row shows.
+//! Stands on every crate whose calls it tries, and nothing stands on it.
 //! Promises nothing; the name of each test says what it shows.
 #![tactic(auto)]
 
@@ -15,3 +15,5 @@ mod query;
 mod run_reading;
 #[cfg(test)]
 mod samples;
+#[cfg(test)]
+mod sort;

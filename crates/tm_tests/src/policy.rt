@@ -5,10 +5,10 @@ ghost use Rattle.tm_rules.specs.Few.{IsFew};
 use crate::samples::{entry, files, policy};
 use std::alloc::{AllocError, Global};
 use std::test::Fail;
+use tm_change_domains::{domain_at, profile_of};
 use tm_list::{Copied, NoMemory, Seq};
-use tm_policy::{
-    Plain, PolicyCalls, Rep, apply_learn, apply_make, domain_at, is_few, print_entry, profile_of,
-};
+use tm_policy::{Plain, PolicyCalls, apply_learn, apply_make, is_few, print_entry};
+use tm_rep::Rep;
 use tm_types::entry::Entry;
 use tm_types::policy::Policy;
 use tm_types::step::{LearnReply, MakeReply};
@@ -34,7 +34,8 @@ fn learn(alloc: Global, policy: &mut Policy, line: &Entry) -> Result<LearnReply,
     apply_learn(alloc, policy, 0, line)
 }
 
-/// The reply to a domain of this name that is made from the first domain; that one and its profile are there.
+/// The reply to a domain of this name that is made from the first domain; that one and its profile
+/// are there.
 fn make(alloc: Global, policy: &mut Policy, name: &[u8]) -> Result<MakeReply, NoMemory> {
     let Some(domain) = domain_at(policy, 0) else {
         return Err(AllocError);

@@ -1,4 +1,5 @@
--- Worked example: a category's mode, and a function that uses the default, as two profile lines set them.
+-- Worked example: a category's mode, and a function that uses the default, as two profile lines set
+-- them.
 use Rattle.std.proofs.Common.{◌≡◌, true, refl}
 use Rattle.std.specs.Prelude.{codes, Some, Result, Ok, Err, option_map}
 use Rattle.tm_word.specs.Words.{Text}
@@ -28,7 +29,8 @@ with_line ns text = with_effect ns (line_of (words_of text))
 abbrev pub after_both : Namespace
 after_both = with_line (with_line (empty_namespace kernel) (codes "0-CONFIG::file={ mode=learning }")) (codes "0-CONFIG::file::open=use_default")
 
--- a read has the category's mode, and writes both logs; what is in no category of these lines is as in a new profile
+-- a read has the category's mode, and writes both logs; what is in no category of these lines is as
+-- in a new profile
 pub a_default_below_a_category : option_map (λ profile. config_of profile Function.Open) (at_key after_both.profiles 0) ≡ Some (record { mode = Mode.Learning; logs = record { grant = true; reject = true } })
 unfolding words_of number_of value_of plain_of namespace_of namespace_at function_text slot_text key_of seen_after closed setting_after limits_with limits_after slot_of begins_some_slot begins_effect numbered effect_at line_of profile_line config_of
 a_default_below_a_category = refl

@@ -24,15 +24,20 @@ entry_line entry = printed_line (entry_words entry)
 
 -- the name and the profile of a domain
 abbrev pub name_lines : Domain → Text
-name_lines domain = printed_line (domain_parts domain.name) ++ printed_line (profile_words domain.profile)
+name_lines domain =
+    printed_line (domain_parts domain.name) ++ printed_line (profile_words domain.profile)
 
 -- the flags of a domain that are set
 abbrev pub flag_lines : Domain → Text
-flag_lines domain = flag_line quota_words domain.quota_exceeded ++ flag_line failed_words domain.transition_failed
+flag_lines domain =
+    flag_line quota_words domain.quota_exceeded ++ flag_line failed_words domain.transition_failed
 
--- a domain's name, its profile, its groups by their numbers, its flags, its entries in order, and an empty line
+-- a domain's name, its profile, its groups by their numbers, its flags, its entries in order, and
+-- an empty line
 unfoldable pub block_text : Domain → Text
-block_text domain = name_lines domain ++ flat_map group_line domain.groups ++ flag_lines domain ++ flat_map entry_line domain.entries ++ 10 ∷ []
+block_text domain =
+    name_lines domain ++ flat_map group_line domain.groups ++ flag_lines domain
+    ++ flat_map entry_line domain.entries ++ 10 ∷ []
 
 -- a domain that isn't live prints nothing
 abbrev pub live_text : Domain → Text

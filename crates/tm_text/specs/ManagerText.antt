@@ -12,4 +12,5 @@ manager_line name = printed_line (manager_words name)
 
 -- `manage_by_non_root` where it stands, then the other lines in written order
 unfoldable pub manager_text : Policy → Text
-manager_text policy = flag_line non_root_words policy.by_non_root ++ flat_map manager_line policy.managers
+manager_text policy =
+    flag_line non_root_words policy.by_non_root ++ flat_map manager_line policy.managers

@@ -9,7 +9,11 @@ use Rattle.tm_net.specs.NetLines.{inet_word, unix_word, inet_permissions, unix_p
 
 -- reading, writing and appending are opening
 abbrev pub opened : Text → Text
-opened word = if texts_equal word (codes "read") || texts_equal word (codes "write") || texts_equal word (codes "append") then codes "open" else word
+opened word =
+    if texts_equal word (codes "read") || texts_equal word (codes "write")
+    || texts_equal word (codes "append")
+    then codes "open"
+    else word
 
 -- for each permission of a row of files, in the row's order
 abbrev pub file_texts : Row → List Text
@@ -17,7 +21,8 @@ file_texts acl_row = map (λ word. codes "CONFIG::file::" ++ opened word) (names
 
 -- for each permission of a kind of sockets, in the row's order
 abbrev pub socket_texts : Text → Text → Row → List Text
-socket_texts family kind acl_row = map (λ word. codes "CONFIG::network::" ++ family ++ kind ++ 95 ∷ word) (names acl_row)
+socket_texts family kind acl_row =
+    map (λ word. codes "CONFIG::network::" ++ family ++ kind ++ 95 ∷ word) (names acl_row)
 
 -- for each permission of a line with these arguments; a manual transition has no function
 unfoldable pub permission_texts : Args → List Text
@@ -27,7 +32,9 @@ permission_texts (Args.PathNumber name number) = file_texts Row.PathNumber
 permission_texts (Args.Device name mode major minor) = file_texts Row.Device
 permission_texts (Args.Path2 first second) = file_texts Row.Pair
 permission_texts (Args.Mount device dir kind flags) = codes "CONFIG::file::mount" ∷ []
-permission_texts (Args.Inet kind address port) = socket_texts (codes "inet_") (inet_word kind) (inet_permissions kind)
-permission_texts (Args.Unix kind name) = socket_texts (codes "unix_") (unix_word kind) (unix_permissions kind)
+permission_texts (Args.Inet kind address port) =
+    socket_texts (codes "inet_") (inet_word kind) (inet_permissions kind)
+permission_texts (Args.Unix kind name) =
+    socket_texts (codes "unix_") (unix_word kind) (unix_permissions kind)
 permission_texts (Args.Env pattern_) = codes "CONFIG::misc::env" ∷ []
 permission_texts (Args.Manual domain) = []

@@ -7,7 +7,8 @@ use Rattle.tm_types.specs.declared.policy.Namespace.{Namespace}
 use Rattle.tm_types.specs.declared.policy.Policy.{Policy}
 use Rattle.tm_profile.specs.Printing.{profiles_text}
 
--- a text comes before another one by its bytes: at the first that differs the lesser one decides, and a front comes first
+-- a text comes before another one by its bytes: at the first that differs the lesser one decides,
+-- and a front comes first
 abbrev pub comes_before : Text → Text → Bool
 comes_before [] [] = false
 comes_before [] (b ∷ right) = true
@@ -17,7 +18,9 @@ comes_before (a ∷ left) (b ∷ right) = if a == b then comes_before left right
 -- a namespace goes before the first one whose name comes after its own
 abbrev pub with_namespace : Namespace → List Namespace → List Namespace
 with_namespace ns [] = ns ∷ []
-with_namespace ns (other ∷ others) = if comes_before ns.name other.name then ns ∷ other ∷ others else other ∷ with_namespace ns others
+with_namespace ns (other ∷ others) =
+    if comes_before ns.name other.name then ns ∷ other ∷ others
+    else other ∷ with_namespace ns others
 
 -- each of these goes into its place among those that are ordered
 abbrev pub placed : List Namespace → List Namespace → List Namespace
@@ -43,4 +46,5 @@ lent references = map (λ reference. reference.now) references
 -- how many namespaces a namespace goes behind
 abbrev pub place_for : Namespace → List Namespace → ℕ
 place_for ns [] = 0
-place_for ns (other ∷ others) = if comes_before ns.name other.name then 0 else suc (place_for ns others)
+place_for ns (other ∷ others) =
+    if comes_before ns.name other.name then 0 else suc (place_for ns others)

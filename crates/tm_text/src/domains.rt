@@ -108,9 +108,9 @@ fn domain_text(alloc: Global, policy: &Policy) -> Result<Vec<u8>, NoMemory>
     Ok(text)
 }
 
-/// Appends the printed domain policy: for each live domain, by its number, its name, `use_profile N`, `use_group N` by rising
-/// number, `quota_exceeded` and `transition_failed` where they are set, its entries in order, and an empty line. After want of
-/// memory `out` is as before.
+/// Appends the printed domain policy: for each live domain, by its number, its name, `use_profile
+/// N`, `use_group N` by rising number, `quota_exceeded` and `transition_failed` where they are set,
+/// its entries in order, and an empty line. After want of memory `out` is as before.
 pub fn print_domain(alloc: Global, policy: &Policy, out: &mut Vec<u8>) -> Result<(), NoMemory>
     ensures ok { OnOk result (out.new.items ≡ out.old.items ++ domain_text policy.now) }
     ensures err { OnErr result (out.new.items ≡ out.old.items) }

@@ -22,7 +22,8 @@ fn push_group(
     entries: &[Entry],
     out: &mut Vec<u8>,
 ) -> Result<(), NoMemory>
-    ensures { OnOk result (out.new.items ≡ out.old.items ++ acl_lines name.now (number, entries.now)) }
+    ensures { OnOk result
+        (out.new.items ≡ out.old.items ++ acl_lines name.now (number, entries.now)) }
 {
     for entry in entries {
         print_acl_group_line(alloc, name, number, entry, out)?;
@@ -37,7 +38,8 @@ fn push_groups(
     groups: &[(u8, Seq<Entry>)],
     out: &mut Vec<u8>,
 ) -> Result<(), NoMemory>
-    ensures { OnOk result (out.new.items ≡ out.old.items ++ flat_map (acl_lines name.now) groups.now) }
+    ensures { OnOk result
+        (out.new.items ≡ out.old.items ++ flat_map (acl_lines name.now) groups.now) }
 {
     for (number, entries) in groups {
         push_group(alloc, name, *number, entries.as_slice(), out)?;
@@ -60,7 +62,8 @@ fn push_namespaces(
     namespaces: &[&Namespace],
     out: &mut Vec<u8>,
 ) -> Result<(), NoMemory>
-    ensures { OnOk result (out.new.items ≡ out.old.items ++ flat_map exception_lines (lent namespaces.now)) }
+    ensures { OnOk result
+        (out.new.items ≡ out.old.items ++ flat_map exception_lines (lent namespaces.now)) }
 {
     for ns in namespaces {
         push_namespace(alloc, ns, out)?;
@@ -79,9 +82,10 @@ fn exception_text(alloc: Global, policy: &Policy) -> Result<Vec<u8>, NoMemory>
     Ok(text)
 }
 
-/// Appends the printed exception policy: for each namespace, by the order of its name's bytes, its path groups, number groups, address
-/// groups, aggregators and controls, and then the entries of its ACL groups by their numbers, each list in written order and each
-/// line with the namespace word in front. After want of memory `out` is as before.
+/// Appends the printed exception policy: for each namespace, by the order of its name's bytes, its
+/// path groups, number groups, address groups, aggregators and controls, and then the entries of
+/// its ACL groups by their numbers, each list in written order and each line with the namespace
+/// word in front. After want of memory `out` is as before.
 pub fn print_exception(alloc: Global, policy: &Policy, out: &mut Vec<u8>) -> Result<(), NoMemory>
     ensures ok { OnOk result (out.new.items ≡ out.old.items ++ exception_text policy.now) }
     ensures err { OnErr result (out.new.items ≡ out.old.items) }

@@ -1,6 +1,6 @@
 //! The printed files of a policy: its profiles, its exceptions, its domains and its managers.
-//! Stands on tm_policy_line, tm_except and tm_profile, whose lines it joins, and on the types of policies.
-//! Promises that each printer appends the one text of its part, on every policy, that `out` is as before after want of memory, and that namespaces are all printed in the order of their names.
+//! It stands on `tm_policy_line`, `tm_except` and `tm_profile`, whose lines it joins.
+//! It promises one text for each part of any policy, in order, and `out` kept after want of memory.
 #![tactic(auto)]
 
 mod domains;

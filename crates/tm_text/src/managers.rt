@@ -44,8 +44,9 @@ fn manager_text(alloc: Global, policy: &Policy) -> Result<Vec<u8>, NoMemory>
     Ok(text)
 }
 
-/// Appends the printed manager file: `manage_by_non_root` where it stands, then the domain names and the programs' paths in
-/// written order, each on a line. After want of memory `out` is as before.
+/// Appends the printed manager file: `manage_by_non_root` where it stands, then the domain names
+/// and the programs' paths in written order, each on a line. After want of memory `out` is as
+/// before.
 pub fn print_manager(alloc: Global, policy: &Policy, out: &mut Vec<u8>) -> Result<(), NoMemory>
     ensures ok { OnOk result (out.new.items ≡ out.old.items ++ manager_text policy.now) }
     ensures err { OnErr result (out.new.items ≡ out.old.items) }

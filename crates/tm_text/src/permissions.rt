@@ -5,8 +5,9 @@ ghost use Rattle.tm_types.specs.Functions.{row_functions};
 ghost use Rattle.tm_profile.specs.Slots.{function_text};
 ghost use Rattle.tm_text.specs.PermissionWords.{permission_texts};
 
-/// Each permission of a line has the function in profiles that its word tells, `open` for reading, writing and appending: the
-/// functions of a row are as many as its permissions, and stand in the row's order.
+/// Each permission of a line has the function in profiles that its word tells, `open` for reading,
+/// writing and appending: the functions of a row are as many as its permissions, and stand in the
+/// row's order.
 pub fn permissions_name_functions()
     ensures { (args : Args) → map function_text (row_functions args) ≡ permission_texts args }
 {}

@@ -35,7 +35,8 @@ fn comes_before(left: &[u8], right: &[u8]) -> bool
     }
 }
 
-/// The place of the first namespace whose name comes after this one's; past the last where there is none.
+/// The place of the first namespace whose name comes after this one's; past the last where there is
+/// none.
 fn place_of(ns: &Namespace, ordered: &[&Namespace]) -> usize
     ensures within { result ≤ length ordered.now }
     ensures place { result ≡ place_for ns.now (lent ordered.now) }
@@ -51,7 +52,8 @@ fn place_of(ns: &Namespace, ordered: &[&Namespace]) -> usize
 /// Puts a namespace into its place.
 #[tactic(auto, using(crate::proofs::LentLaws::lent_placed))]
 fn put_in_place<'a>(ordered: &mut Vec<&'a Namespace>, ns: &'a Namespace) -> Result<(), NoMemory>
-    ensures { OnOk result (lent ordered.new.items ≡ with_namespace ns.now (lent ordered.old.items)) }
+    ensures { OnOk result
+        (lent ordered.new.items ≡ with_namespace ns.now (lent ordered.old.items)) }
 {
     let place = place_of(ns, ordered);
     ordered.insert(place, ns)?;
@@ -76,7 +78,8 @@ fn push_namespaces(
     namespaces: &[&Namespace],
     out: &mut Vec<u8>,
 ) -> Result<(), NoMemory>
-    ensures { OnOk result (out.new.items ≡ out.old.items ++ flat_map namespace_text (lent namespaces.now)) }
+    ensures { OnOk result
+        (out.new.items ≡ out.old.items ++ flat_map namespace_text (lent namespaces.now)) }
 {
     for ns in namespaces {
         print_profiles(alloc, &ns.name, &ns.profiles, out)?;
@@ -95,8 +98,9 @@ fn profile_text(alloc: Global, policy: &Policy) -> Result<Vec<u8>, NoMemory>
     Ok(text)
 }
 
-/// Appends the printed profiles: for each namespace that has one, by the order of its name's bytes, the line `PROFILE_VERSION` and
-/// the lines of its profiles by their numbers, each with the namespace word in front. After want of memory `out` is as before.
+/// Appends the printed profiles: for each namespace that has one, by the order of its name's bytes,
+/// the line `PROFILE_VERSION` and the lines of its profiles by their numbers, each with the
+/// namespace word in front. After want of memory `out` is as before.
 pub fn print_profile(alloc: Global, policy: &Policy, out: &mut Vec<u8>) -> Result<(), NoMemory>
     ensures ok { OnOk result (out.new.items ≡ out.old.items ++ profile_text policy.now) }
     ensures err { OnErr result (out.new.items ≡ out.old.items) }
@@ -105,7 +109,8 @@ pub fn print_profile(alloc: Global, policy: &Policy, out: &mut Vec<u8>) -> Resul
     append(text, out)
 }
 
-/// The order of namespaces, as a law over all lists of them: each is kept, and none stands right before one whose name comes first.
+/// The order of namespaces, as a law over all lists of them: each is kept, and none stands right
+/// before one whose name comes first.
 pub fn name_order()
     ensures kept { (namespaces : List Namespace) → IsPermutation namespaces (by_name namespaces) }
     ensures ordered { (namespaces : List Namespace) → IsOrdered (by_name namespaces) }

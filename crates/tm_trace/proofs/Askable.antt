@@ -1,4 +1,5 @@
--- A request that a trace can write is its line and its attributes; it can be asked of the engine, and its line is one of a policy.
+-- A request that a trace can write is its line and its attributes; it can be asked of the engine,
+-- and its line is one of a policy.
 use Rattle.std.proofs.Common.{◌≡◌, ℕ, ◌^◌, ◌==◌, nat_lt, Bool, true, false, cond, ◌&&◌, ◌||◌, not, List, [], ◌∷◌, Option, Some, None, refl, sym, ap, subst, ◌∙◌}
 use Rattle.std.specs.Prelude.{is_some}
 use Rattle.std.specs.Bool.{beq}

@@ -1,4 +1,5 @@
--- The requests that a trace can write: the line and the attributes of each, and that each can be asked.
+-- The requests that a trace can write: the line and the attributes of each, and that each can be
+-- asked.
 use Rattle.std.proofs.Common.{◌≡◌, ℕ, ◌<◌, ◌==◌, nat_lt, Bool, true, false, cond, ◌&&◌, ◌||◌, not, List, [], ◌∷◌, length, Option, Some, None, refl, sym, ap, subst, arith}
 use Rattle.std.specs.Prelude.{is_some, slice_get}
 use Rattle.std.specs.Bool.{beq}

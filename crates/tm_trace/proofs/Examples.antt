@@ -401,7 +401,8 @@ pub attribute_target_twice : in_tree (codes "do 1 file symlink /a symlink.target
 unfolding computed
 attribute_target_twice = refl
 
--- a name twice: `do 1 file execute /a exec.realpath="/a" exec.argv="a" exec.envp["A"]="1" exec.envp["A"]="2"`
+-- a name twice: `do 1 file execute /a exec.realpath="/a" exec.argv="a" exec.envp["A"]="1"
+-- exec.envp["A"]="2"`
 pub attribute_name_twice : in_tree (codes "do 1 file execute /a exec.realpath=\"/a\" exec.argv=\"a\" exec.envp[\"A\"]=\"1\" exec.envp[\"A\"]=\"2\"" ∷ []) ≡ Err (2, TraceKind.Attribute)
 unfolding computed
 attribute_name_twice = refl
@@ -640,7 +641,8 @@ no_line_of_a_tree = refl
 
 -- Bounds of requests
 
--- a request for a symlink whose target is no word of bytes: it can't be asked, since its learned line couldn't be written
+-- a request for a symlink whose target is no word of bytes: it can't be asked, since its learned
+-- line couldn't be written
 abbrev wide : Request
 wide = record { args = Args.Path (NameUnion.One (literal (codes "/a"))); perm = 8; attributes = record no_attributes { target = Some (300 ∷ []) } }
 

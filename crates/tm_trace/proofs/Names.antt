@@ -1,4 +1,5 @@
--- Literal names: their patterns are right, their printed words are read again, and what is read is one of bytes.
+-- Literal names: their patterns are right, their printed words are read again, and what is read is
+-- one of bytes.
 use Rattle.std.proofs.Common.{◌≡◌, ℕ, ◌+◌, ◌/◌, ◌%◌, ◌==◌, nat_lt, Bool, true, false, cond, ◌&&◌, ◌||◌, not, [], ◌∷◌, ◌++◌, Ok, Err, refl, sym, ap, subst, ◌∙◌}
 use Rattle.std.specs.Bool.{beq}
 use Rattle.std.specs.List.{list_any}

@@ -189,10 +189,10 @@ perm_at acl_row words x e =
 
 -- the value that was read is this one
 line_is : (perm : ℕ) (made x : Args × Line) → done made ≡ done x → is_line made.0 perm ≡ true → is_line x.0 perm ≡ true
-line_is perm made x e h = subst (λ (y : Args × Line). is_line y.0 perm ≡ true) (ok_is made x e) h
+line_is perm made x e h = subst (λ (y : Args × Line). is_line y.0 perm ≡ true) {x = made} (ok_is made x e) h
 
 whole_is : (made x : Whole) → done made ≡ done x → IsLine made → IsLine x
-whole_is made x e h = subst IsLine (ok_is made x e) h
+whole_is made x e h = subst IsLine {x = made} (ok_is made x e) h
 
 three : (a b c : Bool) → a ≡ true → b ≡ true → c ≡ true → (a && b && c) ≡ true
 three a b c h i j = all (a && b) c (all a b h i) j

@@ -1,4 +1,5 @@
--- A request and its attributes: what is printed is read again, and what is read is a request of a trace.
+-- A request and its attributes: what is printed is read again, and what is read is a request of a
+-- trace.
 use Rattle.std.proofs.Common.{◌≡◌, ℕ, true, List, ◌++◌, Result, Ok, Err, refl, ap, subst}
 use Rattle.tm_word.specs.Words.{Text}
 use Rattle.tm_types.specs.declared.entry.Args.{Args}

@@ -82,7 +82,7 @@ fork_count trees next (Some tree) words at e =
     let pid = bind_ok (process_at tree words) (λ pid. new_at trees pid.1 >>= λ child. in_trace TraceKind.Number (ended (Item.Fork pid.0 child.0) child.1) >>= λ item. Ok (with_record trees tree item)) next e in
     let child = bind_ok (new_at trees pid.0.1) (λ child. in_trace TraceKind.Number (ended (Item.Fork pid.0.0 child.0) child.1) >>= λ item. Ok (with_record trees tree item)) next pid.2 in
     let item = bind_ok (in_trace TraceKind.Number (ended (Item.Fork pid.0.0 child.0.0) child.0.1)) (λ item. done (with_record trees tree item)) next child.2 in
-    subst (Counts 0 trees) (ok_is (with_record trees tree item.0) next item.2) (same_count trees tree item.0 at)
+    subst (Counts 0 trees) {x = with_record trees tree item.0} (ok_is (with_record trees tree item.0) next item.2) (same_count trees tree item.0 at)
 
 do_count : (trees next : Trees) (last : Option Tree) (words : List Text) → trees.last ≡ last → do_line trees last words ≡ Ok next → Counts 0 trees next
 unfolding do_line

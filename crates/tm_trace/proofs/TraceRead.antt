@@ -132,7 +132,7 @@ with_new trees pid start fits h k s = record {
 }
 
 fits_as : (made next : Trees) → done made ≡ done next → Fits made → Fits next
-fits_as made next e h = subst Fits (ok_is made next e) h
+fits_as made next e h = subst Fits {x = made} (ok_is made next e) h
 
 -- the processes that a record makes are new
 abbrev Fresh : List ℕ → Item → Type 0

@@ -52,7 +52,9 @@ has_stat stat stats = list_any (λ other. stat_rank other == stat_rank stat) sta
 -- before the first that is printed later
 unfoldable pub put_stat : Stat → List Stat → List Stat
 put_stat stat [] = stat ∷ []
-put_stat stat (other ∷ stats) = if nat_lt (stat_rank stat) (stat_rank other) then stat ∷ other ∷ stats else other ∷ put_stat stat stats
+put_stat stat (other ∷ stats) =
+    if nat_lt (stat_rank stat) (stat_rank other) then stat ∷ other ∷ stats
+    else other ∷ put_stat stat stats
 
 -- The kind of a request, by its arguments and the place of its permission
 
@@ -92,31 +94,43 @@ has_name name envp = list_any (λ pair. texts_equal pair.0 name) envp
 
 -- one argument more of an execute
 unfoldable pub with_argument : Args → ℕ → Attributes → Text → Result Attributes LineKind
-with_argument args perm at text = only_if (executes args perm) (quoted_word text >>= λ word. Ok (record at { argv = at.argv ++ word ∷ [] }))
+with_argument args perm at text =
+    only_if (executes args perm)
+    (quoted_word text >>= λ word. Ok (record at { argv = at.argv ++ word ∷ [] }))
 
 -- the real path of an execute, once
 unfoldable pub with_real_path : Args → ℕ → Attributes → Text → Result Attributes LineKind
-with_real_path args perm at text = only_if (executes args perm && not (is_some at.real_path)) (quoted_word text >>= λ word. Ok (record at { real_path = Some word }))
+with_real_path args perm at text =
+    only_if (executes args perm && not (is_some at.real_path))
+    (quoted_word text >>= λ word. Ok (record at { real_path = Some word }))
 
 -- a name of its environment, once
 unfoldable pub with_name : Args → ℕ → Attributes → Word → Text → Result Attributes LineKind
-with_name args perm at name text = only_if (executes args perm && not (has_name name at.envp)) (quoted_word text >>= λ word. Ok (record at { envp = at.envp ++ (name, word) ∷ [] }))
+with_name args perm at name text =
+    only_if (executes args perm && not (has_name name at.envp))
+    (quoted_word text >>= λ word. Ok (record at { envp = at.envp ++ (name, word) ∷ [] }))
 
 -- the target of a symlink, once
 unfoldable pub with_target : Args → ℕ → Attributes → Text → Result Attributes LineKind
-with_target args perm at text = only_if (links args perm && not (is_some at.target)) (quoted_word text >>= λ word. Ok (record at { target = Some word }))
+with_target args perm at text =
+    only_if (links args perm && not (is_some at.target))
+    (quoted_word text >>= λ word. Ok (record at { target = Some word }))
 
 -- a stat of a name that the request has, once
 unfoldable pub with_stat : Args → Attributes → Stat → Result Attributes LineKind
-with_stat args at stat = only_if (may_have args stat && not (has_stat stat at.stats)) (Ok (record at { stats = put_stat stat at.stats }))
+with_stat args at stat =
+    only_if (may_have args stat && not (has_stat stat at.stats))
+    (Ok (record at { stats = put_stat stat at.stats }))
 
 -- by the left word; attributes of the process and of its counts are none of a request
 unfoldable pub with_attribute : Args → ℕ → Attributes → Attr → Text → Result Attributes LineKind
 with_attribute args perm at Attr.RealPath text = with_real_path args perm at text
 with_attribute args perm at (Attr.Envp name) text = with_name args perm at name text
 with_attribute args perm at Attr.Target text = with_target args perm at text
-with_attribute args perm at (Attr.Stat place field) text = value_word text >>= λ value. with_stat args at (Stat.Number place field value)
-with_attribute args perm at (Attr.Kind place) text = or_wrong (kind_word text) >>= λ kind. with_stat args at (Stat.Kind place kind)
+with_attribute args perm at (Attr.Stat place field) text =
+    value_word text >>= λ value. with_stat args at (Stat.Number place field value)
+with_attribute args perm at (Attr.Kind place) text =
+    or_wrong (kind_word text) >>= λ kind. with_stat args at (Stat.Kind place kind)
 with_attribute args perm at (Attr.Task field) text = Err LineKind.Condition
 with_attribute args perm at Attr.Argc text = Err LineKind.Condition
 with_attribute args perm at Attr.Envc text = Err LineKind.Condition
@@ -125,7 +139,8 @@ with_attribute args perm at (Attr.Argv n) text = Err LineKind.Condition
 -- the left word and the right side; arguments have no number here
 unfoldable pub with_sides : Args → ℕ → Attributes → Text → Text → Result Attributes LineKind
 with_sides args perm at left text =
-    if texts_equal left (codes "exec.argv") then with_argument args perm at text else (attr_word left >>= λ attr. with_attribute args perm at attr text)
+    if texts_equal left (codes "exec.argv") then with_argument args perm at text
+    else (attr_word left >>= λ attr. with_attribute args perm at attr text)
 
 -- a word without `=` is no attribute
 abbrev pub with_word_at : Args → ℕ → Attributes → Option ℕ → Text → Result Attributes LineKind
@@ -138,9 +153,12 @@ with_word args perm at word = with_word_at args perm at (position (λ b. b == 61
 
 -- an execute has its real path and an argument at least, a symlink its target
 abbrev pub is_complete : Args → ℕ → Attributes → Bool
-is_complete args perm at = (not (executes args perm) || (is_some at.real_path && not (is_empty at.argv))) && (not (links args perm) || is_some at.target)
+is_complete args perm at =
+    (not (executes args perm) || (is_some at.real_path && not (is_empty at.argv)))
+    && (not (links args perm) || is_some at.target)
 
 -- what is missing comes last
 unfoldable pub attributes_from : Args → ℕ → Attributes → List Text → Result Attributes LineKind
 attributes_from args perm at [] = only_if (is_complete args perm at) (Ok at)
-attributes_from args perm at (word ∷ words) = with_word args perm at word >>= λ next. attributes_from args perm next words
+attributes_from args perm at (word ∷ words) =
+    with_word args perm at word >>= λ next. attributes_from args perm next words

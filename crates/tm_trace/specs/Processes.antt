@@ -21,7 +21,17 @@ id_at words = word_at (plain_word (2 ^ 32)) words
 
 -- the ids in their written order
 abbrev pub eight_ids : ℕ → ℕ → ℕ → ℕ → ℕ → ℕ → ℕ → ℕ → Ids
-eight_ids uid euid suid fsuid gid egid sgid fsgid = record { uid = uid; euid = euid; suid = suid; fsuid = fsuid; gid = gid; egid = egid; sgid = sgid; fsgid = fsgid }
+eight_ids uid euid suid fsuid gid egid sgid fsgid =
+    record {
+      uid = uid;
+      euid = euid;
+      suid = suid;
+      fsuid = fsuid;
+      gid = gid;
+      egid = egid;
+      sgid = sgid;
+      fsgid = fsgid;
+    }
 
 -- eight ids, and no word after them
 unfoldable pub ids_to_end : List Text → Result Ids LineKind

@@ -87,19 +87,23 @@ line_at trees (word ∷ words) =
     if texts_equal word (codes "tree") then tree_line trees words else
     (if texts_equal word (codes "ids") then ids_line trees trees.last words else
     (if texts_equal word (codes "fork") then fork_line trees trees.last words else
-    (if texts_equal word (codes "do") then do_line trees trees.last words else Err TraceKind.Keyword)))
+    (if texts_equal word (codes "do")
+    then do_line trees trees.last words
+    else Err TraceKind.Keyword)))
 
 -- Texts
 
 -- a fault stands in this line; without one the lines after it follow
-abbrev pub next_line : ℕ → Result Trees TraceKind → (Trees → Result Trace (ℕ × TraceKind)) → Result Trace (ℕ × TraceKind)
+abbrev pub next_line : ℕ → Result Trees TraceKind → (Trees → Result Trace (ℕ × TraceKind))
+    → Result Trace (ℕ × TraceKind)
 next_line line (Ok trees) rest = rest trees
 next_line line (Err kind) rest = Err (line, kind)
 
 -- the trace after these lines, the first with this number
 unfoldable pub trace_from : ℕ → Trees → List Text → Result Trace (ℕ × TraceKind)
 trace_from line trees [] = Ok (all_trees trees)
-trace_from line trees (text ∷ texts) = next_line line (line_at trees (words_of text)) (λ next. trace_from (suc line) next texts)
+trace_from line trees (text ∷ texts) =
+    next_line line (line_at trees (words_of text)) (λ next. trace_from (suc line) next texts)
 
 -- the trace that a text is
 unfoldable pub trace_of : Text → Result Trace (ℕ × TraceKind)
@@ -116,7 +120,9 @@ is_tree_line (word ∷ words) = texts_equal word (codes "tree")
 unfoldable pub tree_line_from : ℕ → ℕ → List Text → Option ℕ
 tree_line_from line n [] = None
 tree_line_from line n (text ∷ texts) =
-    if is_tree_line (words_of text) then (if n == 0 then Some line else tree_line_from (suc line) (n - 1) texts) else tree_line_from (suc line) n texts
+    if is_tree_line (words_of text)
+    then (if n == 0 then Some line else tree_line_from (suc line) (n - 1) texts)
+    else tree_line_from (suc line) n texts
 
 -- the number of the line of the tree at place n, from 0
 unfoldable pub tree_line_at : Text → ℕ → Option ℕ

@@ -1,4 +1,5 @@
--- The requests of a trace: an ACL line with one permission, literal names, single numbers and a single address. A wrong word is never an unfinished one.
+-- The requests of a trace: an ACL line with one permission, literal names, single numbers and a
+-- single address. A wrong word is never an unfinished one.
 use Rattle.std.specs.Prelude.{ℕ, ◌==◌, ◌&&◌, not, if◌then◌else◌, List, [], ◌∷◌, codes, Option, Some, None, Result, Ok, Err}
 use Rattle.std.specs.List.{position}
 use Rattle.tm_word.specs.Words.{Text, Pattern}
@@ -46,23 +47,30 @@ place_in acl_row word = position (λ name. texts_equal word name) (names acl_row
 
 -- a literal name: a spelled word, not empty, without `@` in front
 unfoldable pub literal_name : Text → Result NameUnion LineKind
-literal_name text = if begins_with_byte 64 text then Err LineKind.Name else (group_word text >>= λ word. Ok (NameUnion.One (literal word)))
+literal_name text =
+    if begins_with_byte 64 text then Err LineKind.Name
+    else (group_word text >>= λ word. Ok (NameUnion.One (literal word)))
 
 -- that of a single path; the path of an execute begins with `/`
 unfoldable pub path_name : ℕ → Text → Result NameUnion LineKind
-path_name perm text = if perm == 0 && not (begins_with_byte 47 text) then Err LineKind.Name else literal_name text
+path_name perm text =
+    if perm == 0 && not (begins_with_byte 47 text) then Err LineKind.Name else literal_name text
 
 -- a single number
 unfoldable pub single_number : Text → Result NumberUnion LineKind
-single_number text = kinded LineKind.Number (number_of text) >>= λ n. Ok (NumberUnion.One (numbers.range n n))
+single_number text =
+    kinded LineKind.Number (number_of text) >>= λ n. Ok (NumberUnion.One (numbers.range n n))
 
 -- a single address
 unfoldable pub single_address : Text → Result AddrUnion LineKind
-single_address text = kinded LineKind.Address (addr_of text) >>= λ a. Ok (AddrUnion.One (addresses.range a a))
+single_address text =
+    kinded LineKind.Address (addr_of text) >>= λ a. Ok (AddrUnion.One (addresses.range a a))
 
--- the name of an environment variable: a spelled word, not empty, without `=`; it may begin with `@`
+-- the name of an environment variable: a spelled word, not empty, without `=`; it may begin with
+-- `@`
 unfoldable pub env_name : Text → Result Pattern LineKind
-env_name text = if has_equals text then Err LineKind.Name else (group_word text >>= λ word. Ok (literal word))
+env_name text =
+    if has_equals text then Err LineKind.Name else (group_word text >>= λ word. Ok (literal word))
 
 -- Rows
 
@@ -98,13 +106,15 @@ mount_at words = do
   Ok (Args.Mount device.0 dir.0 type.0 flags.0, flags.1)
 
 -- the arguments, the place of the permission, and the words that are left
-abbrev pub with_perm : ℕ → Result (Args × List Text) LineKind → Result (Args × ℕ × List Text) LineKind
+abbrev pub with_perm : ℕ → Result (Args × List Text) LineKind
+    → Result (Args × ℕ × List Text) LineKind
 with_perm perm read = read >>= λ x. Ok (x.0, perm, x.1)
 
 -- the permission's place in its row, and the arguments of the row
 abbrev pub row_request : Option Row → Text → List Text → Result (Args × ℕ × List Text) LineKind
 row_request None word words = Err LineKind.Keyword
-row_request (Some acl_row) word words = or_keyword (place_in acl_row word) >>= λ perm. with_perm perm (args_at acl_row perm words)
+row_request (Some acl_row) word words =
+    or_keyword (place_in acl_row word) >>= λ perm. with_perm perm (args_at acl_row perm words)
 
 -- a single path with this name, and the words after it
 abbrev pub named_path : ℕ → Text → List Text → Result (Args × ℕ × List Text) LineKind
@@ -113,7 +123,9 @@ named_path perm name words = path_name perm name >>= λ x. Ok (Args.Path x, perm
 -- what stands after `file`: the permission tells the row
 unfoldable pub file_request : List Text → Result (Args × ℕ × List Text) LineKind
 file_request [] = Err LineKind.Arity
-file_request (word ∷ words) = if texts_equal word (codes "mount") then with_perm 0 (mount_at words) else row_request (row_of word) word words
+file_request (word ∷ words) =
+    if texts_equal word (codes "mount") then with_perm 0 (mount_at words)
+    else row_request (row_of word) word words
 
 -- `inet KIND PERMISSION ADDRESS NUMBER`, past the first word
 unfoldable pub inet_request : List Text → Result (Args × ℕ × List Text) LineKind
@@ -136,7 +148,8 @@ unix_request words = do
 unfoldable pub network_request : List Text → Result (Args × ℕ × List Text) LineKind
 network_request [] = Err LineKind.Arity
 network_request (word ∷ words) =
-    if texts_equal word (codes "inet") then inet_request words else (if texts_equal word (codes "unix") then unix_request words else Err LineKind.Keyword)
+    if texts_equal word (codes "inet") then inet_request words else
+    (if texts_equal word (codes "unix") then unix_request words else Err LineKind.Keyword)
 
 -- `env NAME`, which stands after `misc`
 unfoldable pub misc_request : List Text → Result (Args × ℕ × List Text) LineKind
@@ -158,4 +171,5 @@ request_line [] = Err LineKind.Arity
 request_line (word ∷ words) =
     if texts_equal word (codes "file") then file_request words else
     (if texts_equal word (codes "network") then network_request words else
-    (if texts_equal word (codes "misc") then misc_request words else (if texts_equal word (codes "task") then task_request words else Err LineKind.Keyword)))
+    (if texts_equal word (codes "misc") then misc_request words else
+    (if texts_equal word (codes "task") then task_request words else Err LineKind.Keyword)))

@@ -48,7 +48,8 @@ Holds set pids = (pid : ℕ) → contains nat_cmp set pid ≡ is_among pids pid
 
 -- a set with one pid more
 unfoldable pub HasMore : BTreeSet ℕ → BTreeSet ℕ → ℕ → Type 0
-HasMore set next pid = (q : ℕ) → contains nat_cmp next q ≡ (contains nat_cmp set q || is_among (pid ∷ []) q)
+HasMore set next pid =
+    (q : ℕ) → contains nat_cmp next q ≡ (contains nat_cmp set q || is_among (pid ∷ []) q)
 
 -- a set with this pid alone
 unfoldable pub IsOnly : BTreeSet ℕ → ℕ → Type 0
@@ -71,4 +72,6 @@ recorded trees (Some tree) item = Ok (with_record trees tree item)
 
 -- a request with these arguments, and its attributes after it
 abbrev pub with_attributes : Args → ℕ → List Text → Result Request TraceKind
-with_attributes args perm words = in_trace TraceKind.Attribute (attributes_from args perm no_attributes words) >>= λ attributes. Ok (request args perm attributes)
+with_attributes args perm words =
+    in_trace TraceKind.Attribute (attributes_from args perm no_attributes words)
+    >>= λ attributes. Ok (request args perm attributes)

@@ -45,7 +45,8 @@ has_word (Stat.Kind place kind) = has_type place
 -- a request that can be asked, with each environment name once, and stats that have words, in order
 unfoldable pub is_trace_request : Request → Bool
 is_trace_request r =
-    is_request is_path r && are_names r.attributes.envp && names_once r.attributes.envp && list_all has_word r.attributes.stats && rises r.attributes.stats
+    is_request is_path r && are_names r.attributes.envp && names_once r.attributes.envp
+    && list_all has_word r.attributes.stats && rises r.attributes.stats
 
 -- Records
 
@@ -59,7 +60,9 @@ is_id id = nat_lt id (2 ^ 32)
 
 -- all eight
 abbrev pub are_ids : Ids → Bool
-are_ids ids = is_id ids.uid && is_id ids.euid && is_id ids.suid && is_id ids.fsuid && is_id ids.gid && is_id ids.egid && is_id ids.sgid && is_id ids.fsgid
+are_ids ids =
+    is_id ids.uid && is_id ids.euid && is_id ids.suid && is_id ids.fsuid && is_id ids.gid
+    && is_id ids.egid && is_id ids.sgid && is_id ids.fsgid
 
 -- the process is one of its tree so far; a child has a pid, and a request is right
 abbrev pub is_item : List ℕ → Item → Bool
@@ -76,7 +79,8 @@ are_items own (item ∷ items) = is_item own item && are_items (own ++ made_by i
 
 -- it starts in a domain name, and its records are of its own processes
 unfoldable pub is_tree : Tree → Bool
-is_tree tree = is_pid tree.pid && is_domain_name is_path tree.start && are_items (tree.pid ∷ []) tree.records
+is_tree tree =
+    is_pid tree.pid && is_domain_name is_path tree.start && are_items (tree.pid ∷ []) tree.records
 
 -- a pid is made once in the whole trace
 pub record IsTrace (trace : Trace) : Type 0 where

@@ -28,15 +28,7 @@ fn executes(args: &Args, perm: u8) -> bool
 {
     match args {
         Args::Path(_) => perm == 0,
-        Args::Execute(_, _)
-        | Args::PathNumber(_, _)
-        | Args::Device(_, _, _, _)
-        | Args::Path2(_, _)
-        | Args::Mount(_, _, _, _)
-        | Args::Inet(_, _, _)
-        | Args::Unix(_, _)
-        | Args::Env(_)
-        | Args::Manual(_) => false,
+        _ => false,
     }
 }
 
@@ -46,15 +38,7 @@ fn links(args: &Args, perm: u8) -> bool
 {
     match args {
         Args::Path(_) => perm == 8,
-        Args::Execute(_, _)
-        | Args::PathNumber(_, _)
-        | Args::Device(_, _, _, _)
-        | Args::Path2(_, _)
-        | Args::Mount(_, _, _, _)
-        | Args::Inet(_, _, _)
-        | Args::Unix(_, _)
-        | Args::Env(_)
-        | Args::Manual(_) => false,
+        _ => false,
     }
 }
 
@@ -98,17 +82,17 @@ fn with_argument(
     alloc: Global,
     args: &Args,
     perm: u8,
-    mut at: Attributes,
+    at: &mut Attributes,
     text: &[u8],
-) -> Result<Attributes, LineFault>
-    ensures { Gives line_cause (λ next. next) result (with_argument args.now perm at text.now) }
+) -> Result<(), LineFault>
+    ensures { Gives line_cause (λ _. at.new) result (with_argument args.now perm at.old text.now) }
 {
     if !executes(args, perm) {
         return Err(wrong());
     }
     let word = quoted_word(alloc, text)?;
     at.argv.push(word)?;
-    Ok(at)
+    Ok(())
 }
 
 // The real path of an execute, once.
@@ -117,16 +101,16 @@ fn with_real_path(
     alloc: Global,
     args: &Args,
     perm: u8,
-    mut at: Attributes,
+    at: &mut Attributes,
     text: &[u8],
-) -> Result<Attributes, LineFault>
-    ensures { Gives line_cause (λ next. next) result (with_real_path args.now perm at text.now) }
+) -> Result<(), LineFault>
+    ensures { Gives line_cause (λ _. at.new) result (with_real_path args.now perm at.old text.now) }
 {
     if !executes(args, perm) || at.real_path.is_some() {
         return Err(wrong());
     }
     at.real_path = Some(quoted_word(alloc, text)?);
-    Ok(at)
+    Ok(())
 }
 
 // A name of its environment, once.
@@ -135,18 +119,18 @@ fn with_name(
     alloc: Global,
     args: &Args,
     perm: u8,
-    mut at: Attributes,
+    at: &mut Attributes,
     name: Word,
     text: &[u8],
-) -> Result<Attributes, LineFault>
-    ensures { Gives line_cause (λ next. next) result (with_name args.now perm at name text.now) }
+) -> Result<(), LineFault>
+    ensures { Gives line_cause (λ _. at.new) result (with_name args.now perm at.old name text.now) }
 {
     if !executes(args, perm) || has_name(&name, at.envp.as_slice()) {
         return Err(wrong());
     }
     let word = quoted_word(alloc, text)?;
     at.envp.push((name, word))?;
-    Ok(at)
+    Ok(())
 }
 
 // The target of a symlink, once.
@@ -155,33 +139,28 @@ fn with_target(
     alloc: Global,
     args: &Args,
     perm: u8,
-    mut at: Attributes,
+    at: &mut Attributes,
     text: &[u8],
-) -> Result<Attributes, LineFault>
-    ensures { Gives line_cause (λ next. next) result (with_target args.now perm at text.now) }
+) -> Result<(), LineFault>
+    ensures { Gives line_cause (λ _. at.new) result (with_target args.now perm at.old text.now) }
 {
     if !links(args, perm) || at.target.is_some() {
         return Err(wrong());
     }
     at.target = Some(quoted_word(alloc, text)?);
-    Ok(at)
+    Ok(())
 }
 
 // An attribute of a file that the request names, once.
 #[tactic(auto, unfolding(crate::specs::Attributes::with_stat))]
-fn with_stat(
-    alloc: Global,
-    args: &Args,
-    mut at: Attributes,
-    stat: Stat,
-) -> Result<Attributes, LineFault>
-    ensures { Gives line_cause (λ next. next) result (with_stat args.now at stat) }
+fn with_stat(alloc: Global, args: &Args, at: &mut Attributes, stat: Stat) -> Result<(), LineFault>
+    ensures { Gives line_cause (λ _. at.new) result (with_stat args.now at.old stat) }
 {
     if !may_have(args, stat) || has_stat(stat, at.stats.as_slice()) {
         return Err(wrong());
     }
     at.stats = put_stat(alloc, stat, at.stats.as_slice())?;
-    Ok(at)
+    Ok(())
 }
 
 // An attribute with its value; those of the process and of counts are none of a request.
@@ -190,11 +169,12 @@ fn with_attribute(
     alloc: Global,
     args: &Args,
     perm: u8,
-    at: Attributes,
+    at: &mut Attributes,
     attr: Attr,
     text: &[u8],
-) -> Result<Attributes, LineFault>
-    ensures { Gives line_cause (λ next. next) result (with_attribute args.now perm at attr text.now) }
+) -> Result<(), LineFault>
+    ensures { Gives line_cause (λ _. at.new) result
+        (with_attribute args.now perm at.old attr text.now) }
 {
     match attr {
         Attr::RealPath => with_real_path(alloc, args, perm, at, text),
@@ -218,11 +198,12 @@ fn with_sides(
     alloc: Global,
     args: &Args,
     perm: u8,
-    at: Attributes,
+    at: &mut Attributes,
     left: &[u8],
     text: &[u8],
-) -> Result<Attributes, LineFault>
-    ensures { Gives line_cause (λ next. next) result (with_sides args.now perm at left.now text.now) }
+) -> Result<(), LineFault>
+    ensures { Gives line_cause (λ _. at.new) result
+        (with_sides args.now perm at.old left.now text.now) }
 {
     if bytes_equal(left, b"exec.argv") {
         return with_argument(alloc, args, perm, at, text);
@@ -237,10 +218,10 @@ fn with_word(
     alloc: Global,
     args: &Args,
     perm: u8,
-    at: Attributes,
+    at: &mut Attributes,
     word: &[u8],
-) -> Result<Attributes, LineFault>
-    ensures { Gives line_cause (λ next. next) result (with_word args.now perm at word.now) }
+) -> Result<(), LineFault>
+    ensures { Gives line_cause (λ _. at.new) result (with_word args.now perm at.old word.now) }
 {
     match place_of(b'=', word) {
         Some(place) => with_sides(alloc, args, perm, at, &word[..place], &word[place + 1..]),
@@ -273,9 +254,11 @@ fn no_attributes(alloc: Global) -> Attributes
     }
 }
 
-/// Reads all these words as the attributes of a request with these arguments and the permission at this place.
+/// Reads all these words as the attributes of a request with these arguments and the permission at
+/// this place.
 ///
-/// Errors: `Condition` at the first word that is no attribute of it or stands once too often, or else where one is missing.
+/// Errors: `Condition` at the first word that is no attribute of it or stands once too often, or
+/// else where one is missing.
 #[tactic(auto, unfolding(crate::specs::Attributes::attributes_from))]
 pub(crate) fn read_attributes(
     alloc: Global,
@@ -283,11 +266,12 @@ pub(crate) fn read_attributes(
     perm: u8,
     words: &[Text],
 ) -> Result<Attributes, LineFault>
-    ensures { Gives line_cause (λ at. at) result (attributes_from args.now perm no_attributes words.now) }
+    ensures { Gives line_cause (λ at. at) result
+        (attributes_from args.now perm no_attributes words.now) }
 {
     let mut at = no_attributes(alloc);
     for word in words {
-        at = with_word(alloc, args, perm, at, word.bytes())?;
+        with_word(alloc, args, perm, &mut at, word.bytes())?;
     }
     if is_complete(args, perm, &at) {
         Ok(at)

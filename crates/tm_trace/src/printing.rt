@@ -27,8 +27,8 @@ fn permission(place: u8) -> u16
     if place < 16 { 1 << place } else { 0 }
 }
 
-/// Appends the line of a request, an ACL line with its one permission, whose words are joined by single spaces. After want of memory
-/// `out` is as before.
+/// Appends the line of a request, an ACL line with its one permission, whose words are joined by
+/// single spaces. After want of memory `out` is as before.
 #[tactic(auto, using(crate::proofs::PrintLaws::one_permission), unfolding(crate::specs::Printing::request_words))]
 pub fn print_request(alloc: Global, request: &Request, out: &mut Vec<u8>) -> Result<(), NoMemory>
     ensures ok { OnOk result (out.new.items ≡ out.old.items ++ request_text request.now) }
@@ -56,7 +56,8 @@ fn push_attribute(
     word: &Word,
     out: &mut Vec<u8>,
 ) -> Result<(), NoMemory>
-    ensures { OnOk result (out.new.items ≡ out.old.items ++ 32 ∷ (attr_text attr.now ++ 61 ∷ quoted_text word.now)) }
+    ensures { OnOk result
+        (out.new.items ≡ out.old.items ++ 32 ∷ (attr_text attr.now ++ 61 ∷ quoted_text word.now)) }
 {
     out.push(b' ')?;
     print_attr(alloc, attr, out)?;
@@ -66,7 +67,8 @@ fn push_attribute(
 
 // Appends the real path of an execute, where it is there.
 fn push_real_path(alloc: Global, path: &Option<Word>, out: &mut Vec<u8>) -> Result<(), NoMemory>
-    ensures { OnOk result (out.new.items ≡ out.old.items ++ spaced (words_if real_path_text path.now)) }
+    ensures { OnOk result
+        (out.new.items ≡ out.old.items ++ spaced (words_if real_path_text path.now)) }
 {
     match path {
         None => Ok(()),
@@ -86,7 +88,8 @@ fn push_named(alloc: Global, name: &[u8], word: &Word, out: &mut Vec<u8>) -> Res
 
 // Appends words under one name, such as arguments, which are written without their number.
 fn push_words(alloc: Global, name: &[u8], words: &[Word], out: &mut Vec<u8>) -> Result<(), NoMemory>
-    ensures { OnOk result (out.new.items ≡ out.old.items ++ spaced (map (named_text name.now) words.now)) }
+    ensures { OnOk result
+        (out.new.items ≡ out.old.items ++ spaced (map (named_text name.now) words.now)) }
 {
     for word in words {
         push_named(alloc, name, word, out)?;
@@ -101,7 +104,8 @@ fn push_variable(
     value: &Word,
     out: &mut Vec<u8>,
 ) -> Result<(), NoMemory>
-    ensures { OnOk result (out.new.items ≡ out.old.items ++ 32 ∷ environment_text (name.now, value.now)) }
+    ensures { OnOk result
+        (out.new.items ≡ out.old.items ++ 32 ∷ environment_text (name.now, value.now)) }
 {
     let attr = Attr::Envp(name.copy(alloc)?);
     push_attribute(alloc, &attr, value, out)
@@ -109,7 +113,8 @@ fn push_variable(
 
 // Appends an environment.
 fn push_environment(alloc: Global, envp: &[(Word, Word)], out: &mut Vec<u8>) -> Result<(), NoMemory>
-    ensures { OnOk result (out.new.items ≡ out.old.items ++ spaced (map environment_text envp.now)) }
+    ensures { OnOk result
+        (out.new.items ≡ out.old.items ++ spaced (map environment_text envp.now)) }
 {
     for (name, value) in envp {
         push_variable(alloc, name, value, out)?;
@@ -119,7 +124,8 @@ fn push_environment(alloc: Global, envp: &[(Word, Word)], out: &mut Vec<u8>) -> 
 
 // Appends the target of a symlink, where it is there.
 fn push_target(alloc: Global, target: &Option<Word>, out: &mut Vec<u8>) -> Result<(), NoMemory>
-    ensures { OnOk result (out.new.items ≡ out.old.items ++ spaced (words_if target_text target.now)) }
+    ensures { OnOk result
+        (out.new.items ≡ out.old.items ++ spaced (words_if target_text target.now)) }
 {
     match target {
         None => Ok(()),
@@ -133,13 +139,7 @@ fn base_of(field: StatField) -> Base
 {
     match field {
         StatField::Perm => Base::Octal,
-        StatField::Uid
-        | StatField::Gid
-        | StatField::Ino
-        | StatField::Major
-        | StatField::Minor
-        | StatField::DevMajor
-        | StatField::DevMinor => Base::Decimal,
+        _ => Base::Decimal,
     }
 }
 
@@ -188,8 +188,9 @@ fn attributes_text(alloc: Global, request: &Request) -> Result<Vec<u8>, NoMemory
     Ok(text)
 }
 
-/// Appends the attributes of a request, each after a space: the real path, the arguments, the environment, the target of a symlink,
-/// and those of files; numbers in decimal, permission bits in octal. After want of memory `out` is as before.
+/// Appends the attributes of a request, each after a space: the real path, the arguments, the
+/// environment, the target of a symlink, and those of files; numbers in decimal, permission bits in
+/// octal. After want of memory `out` is as before.
 pub fn print_attributes(alloc: Global, request: &Request, out: &mut Vec<u8>) -> Result<(), NoMemory>
     ensures ok { OnOk result (out.new.items ≡ out.old.items ++ attributes_text request.now) }
     ensures err { OnErr result (out.new.items ≡ out.old.items) }
@@ -215,7 +216,8 @@ fn push_four(
     fourth: u32,
     out: &mut Vec<u8>,
 ) -> Result<(), NoMemory>
-    ensures { OnOk result (out.new.items ≡ out.old.items ++ spaced (decimal first ∷ decimal second ∷ decimal third ∷ decimal fourth ∷ [])) }
+    ensures { OnOk result (out.new.items ≡ out.old.items ++ spaced
+        (decimal first ∷ decimal second ∷ decimal third ∷ decimal fourth ∷ [])) }
 {
     push_number(alloc, first, out)?;
     push_number(alloc, second, out)?;
@@ -291,7 +293,8 @@ fn tree_text(alloc: Global, tree: &Tree) -> Result<Vec<u8>, NoMemory>
 
 // Appends the lines of records.
 fn push_items(alloc: Global, items: &[Item], out: &mut Vec<u8>) -> Result<(), NoMemory>
-    ensures { OnOk result (out.new.items ≡ out.old.items ++ flat_map line_text (map item_words items.now)) }
+    ensures { OnOk result
+        (out.new.items ≡ out.old.items ++ flat_map line_text (map item_words items.now)) }
 {
     for item in items {
         let text = item_text(alloc, item)?;
@@ -303,7 +306,8 @@ fn push_items(alloc: Global, items: &[Item], out: &mut Vec<u8>) -> Result<(), No
 
 // Appends the lines of a tree.
 fn push_tree(alloc: Global, tree: &Tree, out: &mut Vec<u8>) -> Result<(), NoMemory>
-    ensures { OnOk result (out.new.items ≡ out.old.items ++ flat_map line_text (tree_lines tree.now)) }
+    ensures { OnOk result
+        (out.new.items ≡ out.old.items ++ flat_map line_text (tree_lines tree.now)) }
 {
     let text = tree_text(alloc, tree)?;
     out.extend_from_slice(&text)?;
@@ -323,8 +327,8 @@ fn trace_text(alloc: Global, trees: &[Tree]) -> Result<Vec<u8>, NoMemory>
     Ok(text)
 }
 
-/// Appends the lines of a trace, each ended by byte 10, tree by tree and in the order of their records. After want of memory `out` is as
-/// before.
+/// Appends the lines of a trace, each ended by byte 10, tree by tree and in the order of their
+/// records. After want of memory `out` is as before.
 pub fn print_trace(alloc: Global, trace: &Trace, out: &mut Vec<u8>) -> Result<(), NoMemory>
     ensures ok { OnOk result (out.new.items ≡ out.old.items ++ trace_text trace.now) }
     ensures err { OnErr result (out.new.items ≡ out.old.items) }

@@ -24,9 +24,11 @@ fn pid_word(text: &[u8]) -> Result<u32, LineFault>
     }
 }
 
-/// Reads a pid at the front of a text, and answers the text after it. Errors: `Arity` where no word is left, `Number`.
+/// Reads a pid at the front of a text, and answers the text after it. Errors: `Arity` where no word
+/// is left, `Number`.
 pub(crate) fn pid_at(text: &[u8]) -> Result<(u32, &[u8]), LineFault>
-    ensures { GivesNow line_cause (λ x. (x.0, words_of x.1.now)) result (word_at pid_word (words_of text.now)) }
+    ensures { GivesNow line_cause (λ x. (x.0, words_of x.1.now)) result
+        (word_at pid_word (words_of text.now)) }
 {
     match cut_word(text) {
         None => Err(LineFault::Kind(LineKind::Arity)),
@@ -37,7 +39,8 @@ pub(crate) fn pid_at(text: &[u8]) -> Result<(u32, &[u8]), LineFault>
 // A plain number below 2^32.
 #[tactic(auto, unfolding(crate::specs::Processes::id_at))]
 fn id_at(text: &[u8]) -> Result<(u32, &[u8]), LineFault>
-    ensures { GivesNow line_cause (λ x. (x.0, words_of x.1.now)) result (id_at (words_of text.now)) }
+    ensures { GivesNow line_cause (λ x. (x.0, words_of x.1.now)) result
+        (id_at (words_of text.now)) }
 {
     match cut_word(text) {
         None => Err(LineFault::Kind(LineKind::Arity)),
@@ -46,7 +49,7 @@ fn id_at(text: &[u8]) -> Result<(u32, &[u8]), LineFault>
 }
 
 // What was read, where no word is left.
-fn ended(ids: Ids, text: &[u8]) -> Result<Ids, LineFault>
+fn last_ids(ids: Ids, text: &[u8]) -> Result<Ids, LineFault>
     ensures { GivesNow line_cause (λ read. read) result (ended ids (words_of text.now)) }
 {
     match cut_word(text) {
@@ -55,7 +58,8 @@ fn ended(ids: Ids, text: &[u8]) -> Result<Ids, LineFault>
     }
 }
 
-/// Reads eight ids, after which no word stands. Errors: `Arity` where a word is missing or one too many, `Number`.
+/// Reads eight ids, after which no word stands. Errors: `Arity` where a word is missing or one too
+/// many, `Number`.
 #[tactic(auto, unfolding(crate::specs::Processes::ids_to_end))]
 pub(crate) fn ids_to_end(text: &[u8]) -> Result<Ids, LineFault>
     ensures { GivesNow line_cause (λ ids. ids) result (ids_to_end (words_of text.now)) }
@@ -78,5 +82,5 @@ pub(crate) fn ids_to_end(text: &[u8]) -> Result<Ids, LineFault>
         sgid,
         fsgid,
     };
-    ended(ids, rest)
+    last_ids(ids, rest)
 }

@@ -1,8 +1,9 @@
 //! Reading traces, line by line.
-ghost use Rattle.std.specs.Prelude.{◌≡◌, [], ◌++◌, IfOk, option_to_list};
+ghost use Rattle.std.specs.Prelude.{◌≡◌, [], ◌++◌, Ok, IfOk, option_to_list};
 ghost use Rattle.tm_word.specs.Spelling.{words_of};
 ghost use Rattle.tm_types.specs.declared.request.Item.{Item};
 ghost use Rattle.tm_word.specs.Gives.{Gives, GivesNow};
+ghost use Rattle.tm_trace.specs.Attributes.{request};
 ghost use Rattle.tm_trace.specs.Lines.{trace_cause};
 ghost use Rattle.tm_trace.specs.Trees.{made_by, new_tree, with_tree, no_trees, all_trees, with_item};
 ghost use Rattle.tm_trace.specs.Reading.{new_at, request_of, tree_line, ids_line, fork_line, do_line, line_at, trace_of, is_tree_line, tree_line_at};
@@ -19,9 +20,19 @@ use std::mem::replace;
 use tm_line::domain_to_end;
 use tm_list::{NoMemory, Seq};
 use tm_types::entry::Args;
-use tm_types::request::{Item, Request, Trace, TraceFault, TraceKind, Tree};
+use tm_types::request::{Attributes, Item, Request, Trace, TraceFault, TraceKind, Tree};
 use tm_types::unions::DomainName;
 use tm_word::{Text, bytes_equal, cut_at, cut_word, normal_words};
+
+// A request of these parts.
+fn made(alloc: Global, args: Args, perm: u8, attributes: Attributes) -> Result<Request, StepFault>
+    ensures { Gives step_cause (λ made. made) result (Ok (request args perm attributes)) }
+{
+    match Request::new(alloc, args, perm, attributes) {
+        Ok(request) => Ok(request),
+        Err(_) => Err(StepFault::NoMemory),
+    }
+}
 
 // A request with these arguments, and its attributes, which are all words after it.
 fn with_attributes(
@@ -34,7 +45,7 @@ fn with_attributes(
 {
     match read_attributes(alloc, &args, perm, words) {
         Err(fault) => Err(step_fault(TraceKind::Attribute, fault)),
-        Ok(attributes) => Ok(Request::new(alloc, args, perm, attributes)?),
+        Ok(attributes) => made(alloc, args, perm, attributes),
     }
 }
 
@@ -51,7 +62,8 @@ fn any_request(alloc: Global, text: &[u8]) -> Result<Request, StepFault>
     }
 }
 
-// A request and its attributes. That of a single path, the most frequent one, is read without a list of its words.
+// A request and its attributes. That of a single path, the most frequent one, is read without a
+// list of its words.
 #[tactic(auto, unfolding(crate::specs::Reading::request_of, crate::specs::Reading::request_at))]
 fn request_of(alloc: Global, text: &[u8]) -> Result<Request, StepFault>
     ensures { Gives step_cause (λ request. request) result (request_of (words_of text.now)) }
@@ -125,7 +137,8 @@ fn one_pid(alloc: Global, pid: u32) -> Result<BTreeSet<u32>, NoMemory>
     Ok(set)
 }
 
-// The trees that have been read: those before the last one and the last one, and beside them the pids of all and those of the last one.
+// The trees that have been read: those before the last one and the last one, and beside them the
+// pids of all and those of the last one.
 #[derive(Drop)]
 struct Reading {
     before: Seq<Tree>,
@@ -143,7 +156,8 @@ impl Model for Reading {
 
     ghost view = { λ r. record { before = r.before; last = r.last } };
 
-    ghost invariant = { λ r. Holds r.made (trace_pids (r.before ++ option_to_list r.last)) × Holds r.own (last_pids r.last) };
+    ghost invariant = { λ r. Holds r.made (trace_pids (r.before ++ option_to_list r.last))
+        × Holds r.own (last_pids r.last) };
 }
 
 impl Reading {
@@ -169,7 +183,8 @@ impl Reading {
     // A pid that no line has made.
     #[tactic(auto, unfolding(crate::specs::Reading::new_at))]
     fn new_at<'a>(&self, text: &'a [u8]) -> Result<(u32, &'a [u8]), StepFault>
-        ensures { GivesNow step_cause (λ x. (x.0, words_of x.1.now)) result (new_at self.now (words_of text.now)) }
+        ensures { GivesNow step_cause (λ x. (x.0, words_of x.1.now)) result
+            (new_at self.now (words_of text.now)) }
     {
         let (pid, rest) = as_step(TraceKind::Number, pid_at(text))?;
         if self.made.contains(&pid) {
@@ -182,7 +197,8 @@ impl Reading {
     // A process of the last tree.
     #[tactic(auto, unfolding(crate::specs::Reading::process_at))]
     fn process_at<'a>(&self, text: &'a [u8]) -> Result<(u32, &'a [u8]), StepFault>
-        ensures { GivesNow step_cause (λ x. (x.0, words_of x.1.now)) result (process_in self.now.last (words_of text.now)) }
+        ensures { GivesNow step_cause (λ x. (x.0, words_of x.1.now)) result
+            (process_in self.now.last (words_of text.now)) }
     {
         if self.last.is_none() {
             return Err(StepFault::Kind(TraceKind::NoTree));
@@ -233,7 +249,8 @@ impl Reading {
 
     // A child of a process of the last tree.
     fn with_child(self, pid: u32, child: u32) -> Result<Reading, StepFault>
-        ensures { Gives step_cause (λ next. next) result (recorded self self.last (Item.Fork pid child)) }
+        ensures { Gives step_cause (λ next. next) result
+            (recorded self self.last (Item.Fork pid child)) }
     {
         let Reading {
             before,
@@ -274,7 +291,8 @@ impl Reading {
     #[inline(never)]
     #[tactic(auto, unfolding(crate::specs::Reading::ids_line))]
     fn ids_line(&mut self, text: &[u8]) -> Result<(), StepFault>
-        ensures { Gives step_cause (λ _. self.new) result (ids_line self.old self.old.last (words_of text.now)) }
+        ensures { Gives step_cause (λ _. self.new) result
+            (ids_line self.old self.old.last (words_of text.now)) }
     {
         let (pid, rest) = self.process_at(text)?;
         let ids = as_step(TraceKind::Number, ids_to_end(rest))?;
@@ -285,7 +303,8 @@ impl Reading {
     #[inline(never)]
     #[tactic(auto, unfolding(crate::specs::Reading::fork_line))]
     fn fork_line(&mut self, alloc: Global, text: &[u8]) -> Result<(), StepFault>
-        ensures { Gives step_cause (λ _. self.new) result (fork_line self.old self.old.last (words_of text.now)) }
+        ensures { Gives step_cause (λ _. self.new) result
+            (fork_line self.old self.old.last (words_of text.now)) }
     {
         let (pid, rest) = self.process_at(text)?;
         let (child, rest) = self.new_at(rest)?;
@@ -299,7 +318,8 @@ impl Reading {
     // `do PID REQUEST ATTRIBUTES`, past the first word.
     #[tactic(auto, unfolding(crate::specs::Reading::do_line))]
     fn do_line(&mut self, alloc: Global, text: &[u8]) -> Result<(), StepFault>
-        ensures { Gives step_cause (λ _. self.new) result (do_line self.old self.old.last (words_of text.now)) }
+        ensures { Gives step_cause (λ _. self.new) result
+            (do_line self.old self.old.last (words_of text.now)) }
     {
         let (pid, rest) = self.process_at(text)?;
         let request = request_of(alloc, rest)?;
@@ -332,10 +352,11 @@ impl Reading {
     }
 }
 
-/// Reads a trace: trees, each of them a line `tree PID DOMAIN` and then lines `ids`, `fork` and `do` of its processes. A line without
-/// words does nothing.
+/// Reads a trace: trees, each of them a line `tree PID DOMAIN` and then lines `ids`, `fork` and
+/// `do` of its processes. A line without words does nothing.
 ///
-/// Errors: the first faulty line, numbered from 1, and the kind of the first word at which it can't go on; or want of memory.
+/// Errors: the first faulty line, numbered from 1, and the kind of the first word at which it can't
+/// go on; or want of memory.
 #[tactic(auto, unfolding(crate::specs::Reading::trace_of, crate::specs::Reading::trace_from))]
 pub fn read_trace(alloc: Global, bytes: &[u8]) -> Result<Trace, TraceFault>
     ensures { Gives trace_cause (λ trace. trace) result (trace_of bytes.now) }
@@ -365,7 +386,8 @@ fn is_tree_line(line: &[u8]) -> bool
     }
 }
 
-/// The number of the line, from 1, that begins the tree at this place, from 0; None where the text has no such tree. Takes no memory.
+/// The number of the line, from 1, that begins the tree at this place, from 0; None where the text
+/// has no such tree. Takes no memory.
 #[tactic(auto, unfolding(crate::specs::Reading::tree_line_at, crate::specs::Reading::tree_line_from))]
 pub fn tree_line_at(bytes: &[u8], place: usize) -> Option<u64>
     ensures { result ≡ tree_line_at bytes.now place }

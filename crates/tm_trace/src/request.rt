@@ -1,4 +1,5 @@
-//! Reading requests: an ACL line with one permission, literal names, single numbers and a single address.
+//! Reading requests: an ACL line with one permission, literal names, single numbers and a single
+//! address.
 ghost use Rattle.std.specs.Prelude.{◌≡◌, Some, None, IfSome, MatchOption};
 ghost use Rattle.tm_word.specs.Spelling.{words_of};
 ghost use Rattle.tm_word.specs.Gives.{Gives, GivesNow};
@@ -45,7 +46,8 @@ fn literal_name(alloc: Global, text: &[u8]) -> Result<NameUnion, LineFault>
     Ok(NameUnion::One(Pattern::literal(word)))
 }
 
-/// A literal name for the permission at this place of single paths, which begins with `/` for an execute.
+/// A literal name for the permission at this place of single paths, which begins with `/` for an
+/// execute.
 #[tactic(auto, unfolding(crate::specs::Requests::path_name))]
 pub(crate) fn path_name(alloc: Global, perm: u8, text: &[u8]) -> Result<NameUnion, LineFault>
     ensures { Gives line_cause (λ name. name) result (path_name perm text.now) }
@@ -178,7 +180,8 @@ fn pair_at(alloc: Global, words: &[Text]) -> Result<(Args, &[Text]), LineFault>
     Ok((Args::Path2(first, second), rest))
 }
 
-// The arguments of a row of files. Those of the rare rows are read by functions that aren't inlined, so that the frame stays small.
+// The arguments of a row of files. Those of the rare rows are read by functions that aren't
+// inlined, so that the frame stays small.
 #[tactic(auto, unfolding(crate::specs::Requests::args_at))]
 fn args_at(alloc: Global, row: Row, perm: u8, words: &[Text]) -> Result<(Args, &[Text]), LineFault>
     ensures { Gives line_cause (λ x. (x.0, x.1.now)) result (args_at row perm words.now) }
@@ -233,7 +236,8 @@ fn perm_at(row: Row, words: &[Text]) -> Result<(u8, &[Text]), LineFault>
 // The row that has this permission, and its place there.
 #[tactic(auto, using(crate::proofs::PlaceLaws::row_by_place))]
 fn row_and_place(word: &[u8]) -> Option<(Row, u8)>
-    ensures { MatchOption result (row_of word.now ≡ None) (λ found. (row_of word.now ≡ Some found.0) × (place_in found.0 word.now ≡ Some found.1)) }
+    ensures { MatchOption result (row_of word.now ≡ None)
+        (λ found. (row_of word.now ≡ Some found.0) × (place_in found.0 word.now ≡ Some found.1)) }
 {
     if let Some(place) = place_in(Row::Path, word) {
         return Some((Row::Path, place));
@@ -256,7 +260,8 @@ fn row_request<'a>(
     word: &[u8],
     words: &'a [Text],
 ) -> Result<(Args, u8, &'a [Text]), LineFault>
-    ensures { Gives line_cause (λ x. (x.0, x.1, x.2.now)) result (row_request (row_of word.now) word.now words.now) }
+    ensures { Gives line_cause (λ x. (x.0, x.1, x.2.now)) result
+        (row_request (row_of word.now) word.now words.now) }
 {
     match row_and_place(word) {
         None => Err(LineFault::Kind(LineKind::Keyword)),
@@ -374,11 +379,12 @@ fn task_request(alloc: Global, words: &[Text]) -> Result<(Args, u8, &[Text]), Li
     Ok((Args::Manual(domain), 0, rest))
 }
 
-/// The place of the permission, the name's word and the text after it, where a text begins with a request of a single path. Takes no
-/// memory.
+/// The place of the permission, the name's word and the text after it, where a text begins with a
+/// request of a single path. Takes no memory.
 #[tactic(auto, using(crate::proofs::PlaceLaws::path_is))]
 pub(crate) fn path_request(text: &[u8]) -> Option<(u8, &[u8], &[u8])>
-    ensures { IfSome result (λ found. request_line (words_of text.now) ≡ named_path found.0 found.1.now (words_of found.2.now)) }
+    ensures { IfSome result (λ found. request_line (words_of text.now)
+        ≡ named_path found.0 found.1.now (words_of found.2.now)) }
 {
     let (keyword, rest) = cut_word(text)?;
     if !bytes_equal(keyword, b"file") {
@@ -393,8 +399,8 @@ pub(crate) fn path_request(text: &[u8]) -> Option<(u8, &[u8], &[u8])>
     Some((perm, name, rest))
 }
 
-/// Reads a request at the front of these words: its arguments, the place of its permission, and the words after them, which are its
-/// attributes.
+/// Reads a request at the front of these words: its arguments, the place of its permission, and the
+/// words after them, which are its attributes.
 ///
 /// Errors: `Arity` where a word is missing, another kind at the first wrong word.
 #[tactic(auto, unfolding(crate::specs::Requests::request_line))]

@@ -42,7 +42,8 @@ row_functions (args.Execute name prefer) = fun.Execute ∷ []
 unfoldable pub function_of : Args → ℕ → Option Function
 function_of args perm = slice_get (row_functions args) perm
 
--- the category of a function: the first 23 are of files, the last one is of environments, those between are of sockets
+-- the category of a function: the first 23 are of files, the last one is of environments, those
+-- between are of sockets
 abbrev pub category_of : Function → SlotName
 category_of function =
     if nat_lt (function_rank function) 23

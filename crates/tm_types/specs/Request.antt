@@ -6,7 +6,8 @@ use Rattle.tm_types.specs.declared.unions.NameUnion.{NameUnion}
 use Rattle.tm_types.specs.declared.entry.Args.{Args}
 use Rattle.tm_types.specs.declared.request.Attributes.{Attributes}
 
--- the arguments of a line with literal names, the place of its permission in the row, and its attributes
+-- the arguments of a line with literal names, the place of its permission in the row, and its
+-- attributes
 pub record Asked : Type 0 where
   pub args : Args
   pub perm : ℕ

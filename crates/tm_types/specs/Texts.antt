@@ -1,5 +1,5 @@
 -- The words of closed types, as they are written wherever they are written.
-use Rattle.std.specs.Prelude.{◌++◌, codes}
+use Rattle.std.specs.Prelude.{List, [], ◌∷◌, ◌++◌, codes}
 use Rattle.tm_word.specs.Words.{Text}
 use Rattle.tm_types.specs.declared.entry.LineKind.{LineKind}
 use Rattle.tm_types.specs.declared.policy.Mode.{Mode}
@@ -16,12 +16,18 @@ mode_text Mode.Learning = codes "learning"
 mode_text Mode.Permissive = codes "permissive"
 mode_text Mode.Enforcing = codes "enforcing"
 
+abbrev pub modes : List Mode
+modes = Mode.Disabled ∷ Mode.Learning ∷ Mode.Permissive ∷ Mode.Enforcing ∷ []
+
 -- the name of a policy file
 abbrev pub policy_text : FileKind → Text
 policy_text FileKind.Profile = codes "profile"
 policy_text FileKind.Exception = codes "exception_policy"
 policy_text FileKind.Domain = codes "domain_policy"
 policy_text FileKind.Manager = codes "manager"
+
+abbrev pub policies : List FileKind
+policies = FileKind.Profile ∷ FileKind.Exception ∷ FileKind.Domain ∷ FileKind.Manager ∷ []
 
 -- what is wrong with a policy line
 abbrev pub kind_text : LineKind → Text
@@ -35,6 +41,11 @@ kind_text LineKind.Condition = codes "condition"
 kind_text LineKind.Profile = codes "profile"
 kind_text LineKind.Version = codes "version"
 kind_text LineKind.KernelDomain = codes "kernel_domain"
+
+abbrev pub kinds : List LineKind
+kinds =
+    LineKind.Keyword ∷ LineKind.Arity ∷ LineKind.Name ∷ LineKind.Number ∷ LineKind.Address ∷ LineKind.Domain
+    ∷ LineKind.Condition ∷ LineKind.Profile ∷ LineKind.Version ∷ LineKind.KernelDomain ∷ []
 
 -- what became of a policy line; a bad one has its kind
 abbrev pub edit_text : EditReply → Text
@@ -51,6 +62,9 @@ learn_text LearnReply.Added = codes "added"
 learn_text LearnReply.There = codes "there"
 learn_text LearnReply.Quota = codes "quota"
 learn_text LearnReply.Mode = codes "mode"
+
+abbrev pub learn_replies : List LearnReply
+learn_replies = LearnReply.Added ∷ LearnReply.There ∷ LearnReply.Quota ∷ LearnReply.Mode ∷ []
 
 -- what is wrong with a line of a trace
 abbrev pub trace_text : TraceKind → Text

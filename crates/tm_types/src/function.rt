@@ -76,8 +76,8 @@ fn row(args: &Args) -> &'static [Function]
     }
 }
 
-/// The function of the permission at this place, from 0, of the row of `args`: None past the row's last permission, and for a
-/// manual transition, for which no profile has a mode.
+/// The function of the permission at this place, from 0, of the row of `args`: None past the row's
+/// last permission, and for a manual transition, for which no profile has a mode.
 #[tactic(auto, unfolding(crate::specs::Functions::function_of))]
 pub fn function_at(args: &Args, perm: u8) -> Option<Function>
     ensures { result ≡ function_of args.now perm }
@@ -85,7 +85,8 @@ pub fn function_at(args: &Args, perm: u8) -> Option<Function>
     row(args).get(usize::from(perm)).copied()
 }
 
-/// The function of the permission at this place, from 0, of the row of `args`, where the row has that place.
+/// The function of the permission at this place, from 0, of the row of `args`, where the row has
+/// that place.
 #[tactic(auto, unfolding(crate::specs::Functions::function_of))]
 pub fn function_of(args: &Args, perm: u8) -> Function
     requires { perm < length (row_functions args.now) }

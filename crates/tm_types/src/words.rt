@@ -1,4 +1,4 @@
-//! The words of closed types, each written in one place.
+//! The words of closed types: one table a type, by which it is read and printed.
 ghost use Rattle.std.specs.Prelude.{◌≡◌};
 ghost use Rattle.tm_types.specs.Texts.{mode_text, policy_text, kind_text, edit_text, learn_text, trace_text, script_text};
 
@@ -7,18 +7,21 @@ use crate::policy::Mode;
 use crate::request::{ScriptKind, TraceKind};
 use crate::step::{EditReply, FileKind, LearnReply};
 use std::fmt;
+use tm_word::Closed;
+
+const MODES: [(&str, Mode); 4] = [
+    ("disabled", Mode::Disabled),
+    ("learning", Mode::Learning),
+    ("permissive", Mode::Permissive),
+    ("enforcing", Mode::Enforcing),
+];
 
 impl Mode {
     /// What a profile line calls the mode.
     pub fn text(self) -> &'static str
         ensures { result.now ≡ mode_text self }
     {
-        match self {
-            Mode::Disabled => "disabled",
-            Mode::Learning => "learning",
-            Mode::Permissive => "permissive",
-            Mode::Enforcing => "enforcing",
-        }
+        MODES[self as usize].0
     }
 }
 
@@ -33,17 +36,34 @@ impl fmt::Display for Mode {
     }
 }
 
+impl Closed for Mode {
+    ghost use Rattle.std.proofs.Common.{rules};
+    ghost use Rattle.tm_types.specs.Texts.{mode_text, modes};
+
+    ghost all = { modes };
+
+    ghost text = { mode_text };
+
+    ghost again = { Prim.search rules };
+
+    fn table() -> &'static [(&'static str, Mode)] {
+        &MODES
+    }
+}
+
+const FILES: [(&str, FileKind); 4] = [
+    ("profile", FileKind::Profile),
+    ("exception_policy", FileKind::Exception),
+    ("domain_policy", FileKind::Domain),
+    ("manager", FileKind::Manager),
+];
+
 impl FileKind {
     /// The name of the policy file.
     pub fn text(self) -> &'static str
         ensures { result.now ≡ policy_text self }
     {
-        match self {
-            FileKind::Profile => "profile",
-            FileKind::Exception => "exception_policy",
-            FileKind::Domain => "domain_policy",
-            FileKind::Manager => "manager",
-        }
+        FILES[self as usize].0
     }
 }
 
@@ -58,23 +78,40 @@ impl fmt::Display for FileKind {
     }
 }
 
+impl Closed for FileKind {
+    ghost use Rattle.std.proofs.Common.{rules};
+    ghost use Rattle.tm_types.specs.Texts.{policy_text, policies};
+
+    ghost all = { policies };
+
+    ghost text = { policy_text };
+
+    ghost again = { Prim.search rules };
+
+    fn table() -> &'static [(&'static str, FileKind)] {
+        &FILES
+    }
+}
+
+const KINDS: [(&str, LineKind); 10] = [
+    ("keyword", LineKind::Keyword),
+    ("arity", LineKind::Arity),
+    ("name", LineKind::Name),
+    ("number", LineKind::Number),
+    ("address", LineKind::Address),
+    ("domain", LineKind::Domain),
+    ("condition", LineKind::Condition),
+    ("profile", LineKind::Profile),
+    ("version", LineKind::Version),
+    ("kernel_domain", LineKind::KernelDomain),
+];
+
 impl LineKind {
     /// What is wrong with the line, in a word.
     pub fn text(self) -> &'static str
         ensures { result.now ≡ kind_text self }
     {
-        match self {
-            LineKind::Keyword => "keyword",
-            LineKind::Arity => "arity",
-            LineKind::Name => "name",
-            LineKind::Number => "number",
-            LineKind::Address => "address",
-            LineKind::Domain => "domain",
-            LineKind::Condition => "condition",
-            LineKind::Profile => "profile",
-            LineKind::Version => "version",
-            LineKind::KernelDomain => "kernel_domain",
-        }
+        KINDS[self as usize].0
     }
 }
 
@@ -86,6 +123,21 @@ impl fmt::Display for LineKind {
 
     fn fmt<W: fmt::Write>(&self, f: &mut fmt::Formatter<W>) -> fmt::Result {
         f.write_str(self.text())
+    }
+}
+
+impl Closed for LineKind {
+    ghost use Rattle.std.proofs.Common.{rules};
+    ghost use Rattle.tm_types.specs.Texts.{kind_text, kinds};
+
+    ghost all = { kinds };
+
+    ghost text = { kind_text };
+
+    ghost again = { Prim.search rules };
+
+    fn table() -> &'static [(&'static str, LineKind)] {
+        &KINDS
     }
 }
 
@@ -125,17 +177,19 @@ impl fmt::Display for EditReply {
     }
 }
 
+const LEARNED: [(&str, LearnReply); 4] = [
+    ("added", LearnReply::Added),
+    ("there", LearnReply::There),
+    ("quota", LearnReply::Quota),
+    ("mode", LearnReply::Mode),
+];
+
 impl LearnReply {
     /// What became of the learned line, in a word.
     pub fn text(self) -> &'static str
         ensures { result.now ≡ learn_text self }
     {
-        match self {
-            LearnReply::Added => "added",
-            LearnReply::There => "there",
-            LearnReply::Quota => "quota",
-            LearnReply::Mode => "mode",
-        }
+        LEARNED[self as usize].0
     }
 }
 
@@ -147,6 +201,21 @@ impl fmt::Display for LearnReply {
 
     fn fmt<W: fmt::Write>(&self, f: &mut fmt::Formatter<W>) -> fmt::Result {
         f.write_str(self.text())
+    }
+}
+
+impl Closed for LearnReply {
+    ghost use Rattle.std.proofs.Common.{rules};
+    ghost use Rattle.tm_types.specs.Texts.{learn_text, learn_replies};
+
+    ghost all = { learn_replies };
+
+    ghost text = { learn_text };
+
+    ghost again = { Prim.search rules };
+
+    fn table() -> &'static [(&'static str, LearnReply)] {
+        &LEARNED
     }
 }
 

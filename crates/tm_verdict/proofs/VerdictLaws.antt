@@ -1,7 +1,7 @@
 -- The verdict by kinds: what is in common to the code and the definition.
 use Rattle.std.proofs.Common.{◌≡◌, ℕ, ◌<◌, ◌≤◌, Bool, true, false, ◌==◌, ◌&&◌, ◌||◌, not, refl, sym, ap, ◌∙◌, subst, length, arith, eqb-true}
 use Rattle.std.specs.Prelude.{Option, Some, None, Result, Ok, Err, IfOk, option_map, is_some, if◌then◌else◌}
-use Rattle.std.specs.List.{find}
+use Rattle.std.specs.Option.{option_and_then}
 use Rattle.std.proofs.lemmas.Option.{slice_get_within}
 use Rattle.tm_word.specs.Words.{Text, Word}
 use Rattle.tm_rules.specs.Words.{DomainName}
@@ -19,21 +19,21 @@ use Rattle.tm_types.specs.declared.verdict.Move.{Move}
 use Rattle.tm_types.specs.declared.verdict.Reason.{Reason}
 use Rattle.tm_types.specs.declared.verdict.Verdict.{Verdict}
 use Rattle.tm_types.specs.Functions.{function_of, row_functions}
-use Rattle.tm_word.specs.Texts.{texts_equal}
 use Rattle.tm_types.specs.declared.policy.Profile.{Profile}
 use Rattle.tm_types.specs.declared.request.Proc.{Proc}
 use Rattle.tm_types.specs.declared.verdict.Found.{Found}
 use Rattle.tm_rules.proofs.EqualityLaws.{both}
-use Rattle.tm_rules.specs.Policy.{at_key, domain_at, profile_of, namespace_word, namespace_named, namespace_of}
+use Rattle.tm_rules.specs.Policy.{domain_at, profile_of, namespace_of}
 use Rattle.tm_rules.specs.Requests.{is_request, are_literal}
 use Rattle.tm_rules.specs.Condition.{is_execute, is_manual}
 use Rattle.tm_rules.specs.Learned.{learned_line, line_of}
-use Rattle.tm_rules.specs.Search.{Granting, aggregated, path_of, first, found, found_of}
+use Rattle.tm_change_domains.specs.Standing.{Standing, StandsIn}
+use Rattle.tm_rules.specs.Search.{Granting, first, found_of}
 use Rattle.tm_rules.specs.Transition.{candidate, decision, is_domain_name, can_enter}
 use Rattle.tm_legal.specs.Verdict.{is_enforcing, made, denied, by_entry, by_mode, move_to, manual_verdict, execute_verdict, verdict_in, verdict}
 use Rattle.tm_verdict.specs.declared.targets.Way.{Way}
 use Rattle.tm_verdict.specs.Leading.{granting_at, way_to, way_by}
-use Rattle.tm_verdict.specs.Outcomes.{outcome_of, completed}
+use Rattle.tm_verdict.specs.Bare.{bare_of, completed}
 use Rattle.tm_verdict.proofs.Firsts.{told}
 
 -- a target is told once
@@ -63,13 +63,13 @@ line_any request x y other = rw other refl
 
 module _ (is_path : Text → Bool) (policy : Policy) (domain : Domain) where
   -- a manual transition by where its name leads
-  pub manual_entered : (name : DomainName) (found : Granting) (way : Way) → way ≡ way_to is_path policy domain true (Some name) → way.ready ≡ true → (line : Entry) → completed (outcome_of (by_entry None found way.leads.step way.leads.target)) line ≡ manual_verdict is_path policy domain name (Some found)
+  pub manual_entered : (name : DomainName) (found : Granting) (way : Way) → way ≡ way_to is_path policy domain true (Some name) → way.ready ≡ true → (line : Entry) → completed (bare_of (by_entry None found way.leads.step way.leads.target)) line ≡ manual_verdict is_path policy domain name (Some found)
   unfolding manual_verdict
   manual_entered name found way is ready line =
       let can : can_enter is_path policy domain.name name ≡ true = sym (ap (λ (w : Way). w.ready) is) ∙ ready in
       rw (can, is) (by_entry-made None found (move_to is_path policy domain (Some name)) (Some name))
 
-  pub manual_barred : (name : DomainName) (found : Granting) (way : Way) → way ≡ way_to is_path policy domain true (Some name) → way.ready ≡ false → (line : Entry) → completed (outcome_of (denied None Reason.NotReady)) line ≡ manual_verdict is_path policy domain name (Some found)
+  pub manual_barred : (name : DomainName) (found : Granting) (way : Way) → way ≡ way_to is_path policy domain true (Some name) → way.ready ≡ false → (line : Entry) → completed (bare_of (denied None Reason.NotReady)) line ≡ manual_verdict is_path policy domain name (Some found)
   unfolding manual_verdict
   manual_barred name found way is ready line =
       let can : can_enter is_path policy domain.name name ≡ false = sym (ap (λ (w : Way). w.ready) is) ∙ ready in
@@ -141,36 +141,23 @@ pub if_ok : {A E : Type 0} (P Q : A → Type 0) (r : Result A E) → ((x : A) �
 if_ok P Q (Ok x) f h = f x h
 if_ok P Q (Err e) f h = tt
 
--- The verdict where a domain, its namespace or its profile isn't there, and where they are
-module _ (is_path : Text → Bool) (policy : Policy) (attached : Bool) (d : ℕ) (process : Proc) (request : Request) where
-  pub no_domain : domain_at policy d ≡ None → None ≡ verdict is_path policy attached d process request
+-- The verdict by where its look stands
+module _ (is_path : Text → Bool) (policy : Policy) (attached : Bool) (process : Proc) (request : Request) where
+  -- there is none where the domain or its profile isn't there
+  pub nowhere : (d : ℕ) → option_and_then (profile_of policy) (domain_at policy d) ≡ None → None ≡ verdict is_path policy attached d process request
   unfolding verdict
-  no_domain absent = rw absent refl
+  nowhere d absent = go (domain_at policy d) absent
+    where
+      go : (o : Option Domain) → option_and_then (profile_of policy) o ≡ None
+          → None ≡ option_and_then (λ domain. option_and_then (verdict_in is_path policy attached process request domain) (profile_of policy domain)) o
+      go None e = refl
+      go (Some domain) e = rw e refl
 
-  module _ (domain : Domain) (there : domain_at policy d ≡ Some domain) where
-    abbrev home : Option Namespace
-    home = find (λ (ns : Namespace). texts_equal ns.name (namespace_word domain.name)) policy.namespaces
-
-    pub no_namespace : home ≡ None → None ≡ verdict is_path policy attached d process request
-    unfolding verdict namespace_named
-    no_namespace absent = rw (there, absent) refl
-
-    pub no_profile : (ns : Namespace) → home ≡ Some ns → at_key ns.profiles domain.profile ≡ None → None ≡ verdict is_path policy attached d process request
-    unfolding verdict namespace_named
-    no_profile ns is absent = rw (there, is, absent) refl
-
-    home_is : (ns : Namespace) → home ≡ Some ns → namespace_of policy domain ≡ ns
-    unfolding namespace_named
-    home_is ns is = rw is refl
-
-    -- by what a search told
-    pub by_search : (ns : Namespace) (profile : Profile) (seen : Option Found) (v : Option Verdict) → home ≡ Some ns → at_key ns.profiles domain.profile ≡ Some profile → seen ≡ found policy d process request
-        → ((process : Proc) → namespace_of policy domain ≡ ns → first ns domain process request ≡ granting_at ns domain seen → v ≡ verdict_in is_path policy attached process request domain profile)
-        → v ≡ verdict is_path policy attached d process request
-    unfolding verdict found
-    by_search ns profile seen v is has sees judged =
-        let own : namespace_of policy domain ≡ ns = home_is ns is in
-        let searched : seen ≡ option_map found_of (first ns domain process request) = sees ∙ rw (there, own) refl in
-        let granting : first ns domain process request ≡ granting_at ns domain seen = rw searched (sym (told ns domain process request)) in
-        let profiled : profile_of policy domain ≡ Some profile = rw own has in
-        judged process own granting ∙ rw (there, profiled) refl
+  -- by what a search told there
+  pub by_standing : (s : Standing) (seen : Option Found) (v : Option Verdict) → StandsIn policy s → seen ≡ option_map found_of (first s.namespace s.domain process request)
+      → ((process : Proc) → namespace_of policy s.domain ≡ s.namespace → first s.namespace s.domain process request ≡ granting_at s.namespace s.domain seen → v ≡ verdict_in is_path policy attached process request s.domain s.profile)
+      → v ≡ verdict is_path policy attached s.number process request
+  unfolding verdict
+  by_standing s seen v stands sees judged =
+      let granting : first s.namespace s.domain process request ≡ granting_at s.namespace s.domain seen = rw sees (sym (told s.namespace s.domain process request)) in
+      judged process stands.namespace granting ∙ rw (stands.domain, stands.profile) refl

@@ -15,7 +15,9 @@ use Rattle.tm_verdict.specs.declared.targets.Way.{Way}
 -- the entry that a search found, by its place
 abbrev pub granting_at : Namespace → Domain → Option Found → Option Granting
 granting_at ns domain None = None
-granting_at ns domain (Some found) = option_map (λ entry. record { place = found.place; entry = entry; name = found.name }) (entry_at ns domain found.place)
+granting_at ns domain (Some found) =
+    option_map (λ entry. record { place = found.place; entry = entry; name = found.name })
+    (entry_at ns domain found.place)
 
 module _ (is_path : Text → Bool) where
   -- whether a target can be entered, and how
@@ -24,9 +26,13 @@ module _ (is_path : Text → Bool) where
       record {
         ready = is_ready is_path policy domain target;
         strict = strict;
-        leads = record { step = move_to is_path policy domain target; target = made (move_to is_path policy domain target) target };
+        leads = record {
+          step = move_to is_path policy domain target;
+          target = made (move_to is_path policy domain target) target;
+        };
       }
 
   -- where a decision leads
   abbrev pub way_by : Policy → Domain → Text → Decision → Way
-  way_by policy domain program decided = way_to policy domain (is_strict decided) (target_name domain.name program decided)
+  way_by policy domain program decided =
+      way_to policy domain (is_strict decided) (target_name domain.name program decided)

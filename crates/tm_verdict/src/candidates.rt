@@ -4,16 +4,16 @@ ghost use Rattle.std.specs.Option.{option_copied};
 ghost use Rattle.tm_word.specs.Spelling.{spell};
 ghost use Rattle.tm_word.specs.Printing.{spelled_pattern};
 ghost use Rattle.tm_rules.specs.Condition.{is_execute};
-ghost use Rattle.tm_rules.specs.Search.{found_of, aggregated, path_of, union_name, written_name, preference};
+ghost use Rattle.tm_rules.specs.Search.{found_of, union_name, written_name, preference};
 ghost use Rattle.tm_rules.specs.Transition.{candidate};
 ghost use Rattle.tm_verdict.specs.Leading.{granting_at};
 
 use std::alloc::Global;
 use std::marker::Model;
-use tm_except::aggregated;
+use tm_change_domains::entry_at;
 use tm_list::{NoMemory, Seq};
 use tm_pattern::print_pattern;
-use tm_policy::entry_at;
+use tm_rep::executed_name;
 use tm_types::entry::{Args, Entry, Prefer};
 use tm_types::policy::{Domain, Namespace};
 use tm_types::request::Request;
@@ -54,21 +54,13 @@ impl<'a> Granting<'a> {
     {
         match &self.entry.args {
             Args::Execute(_, prefer) => Some(prefer),
-            Args::Path(_)
-            | Args::PathNumber(_, _)
-            | Args::Device(_, _, _, _)
-            | Args::Path2(_, _)
-            | Args::Mount(_, _, _, _)
-            | Args::Inet(_, _, _)
-            | Args::Unix(_, _)
-            | Args::Env(_)
-            | Args::Manual(_) => None,
+            _ => None,
         }
     }
 }
 
-// What the verdict on a request goes by: whether a supervisor is attached, the domain that asks, its namespace, and the entry that
-// grants the request.
+// What the verdict on a request goes by: whether a supervisor is attached, the domain that asks,
+// its namespace, and the entry that grants the request.
 #[derive(Drop)]
 pub(crate) struct Access<'a> {
     pub attached: bool,
@@ -142,34 +134,18 @@ fn written_name(alloc: Global, groups: &Groups, found: &Granting<'_>) -> Result<
     match &found.entry.args {
         Args::Path(union) => union_text(alloc, groups, union, found.name),
         Args::Execute(union, _) => union_text(alloc, groups, union, found.name),
-        Args::PathNumber(_, _)
-        | Args::Device(_, _, _, _)
-        | Args::Path2(_, _)
-        | Args::Mount(_, _, _, _)
-        | Args::Inet(_, _, _)
-        | Args::Unix(_, _)
-        | Args::Env(_)
-        | Args::Manual(_) => Ok(Seq::new(alloc)),
+        _ => Ok(Seq::new(alloc)),
     }
 }
 
-// The aggregated name of an execute.
-#[tactic(auto, using(tm_policy::proofs::Lists::execute_path))]
-pub(crate) fn executed_name<'a>(namespace: &'a Namespace, request: &'a Request) -> &'a Word
-    requires { is_execute request.now ≡ true }
-    ensures { result.now ≡ aggregated namespace.now (path_of request.now) }
-{
-    match request.name(0) {
-        Some(path) => aggregated(namespace, path),
-        None => unreachable!(),
-    }
-}
-
-// The candidate of an execute: the written name of the entry that grants it, else its spelled aggregated name.
+// The candidate of an execute: the written name of the entry that grants it, else its spelled
+// aggregated name.
 #[tactic(auto, unfolding(tm_rules::specs::Transition::candidate))]
 pub(crate) fn candidate(alloc: Global, access: &Access<'_>) -> Result<Text, NoMemory>
     requires { is_execute access.now.request.now ≡ true }
-    ensures { IfOk result (λ text. text ≡ candidate access.now.namespace.now access.now.found access.now.request.now) }
+    ensures { IfOk result
+        (λ text. text
+        ≡ candidate access.now.namespace.now access.now.found access.now.request.now) }
 {
     match &access.found {
         None => word_text(alloc, executed_name(access.namespace, access.request)),

@@ -14,7 +14,7 @@ use std::alloc::{AllocError, Global};
 use tm_domain::{DomainFault, child, initial, namespace, preferred, root};
 use tm_except::control_kind;
 use tm_list::NoMemory;
-use tm_policy::Rep;
+use tm_rep::Rep;
 use tm_types::entry::Prefer;
 use tm_types::policy::{ControlKind, Domain, Mode};
 use tm_types::unions::{DomainName, NamePlace};
@@ -28,16 +28,18 @@ pub(crate) struct Leads {
     pub target: Option<DomainName>,
 }
 
-// What a verdict is but for its line: its reason tells whether it has the one that is to be learned or asked for.
+// What a verdict is but for its line: its reason tells whether it has the one that is to be learned
+// or asked for.
 #[derive(Drop)]
-pub(crate) struct Outcome {
+pub(crate) struct BareVerdict {
     pub mode: Option<Mode>,
     pub reason: Reason,
     pub name: NamePlace,
     pub leads: Leads,
 }
 
-// Where a transition leads: whether its target can be entered, whether a target that can't be is denied in every mode, and the move.
+// Where a transition leads: whether its target can be entered, whether a target that can't be is
+// denied in every mode, and the move.
 #[derive(Drop)]
 pub(crate) struct Way {
     pub ready: bool,
@@ -48,7 +50,12 @@ pub(crate) struct Way {
 impl Way {
     // Ready, without a domain that is to be made.
     fn to(strict: bool, step: Move) -> Way
-        ensures { result ≡ record { ready = true; strict = strict; leads = record { step = step; target = None } } }
+        ensures { result
+            ≡ record {
+              ready = true;
+              strict = strict;
+              leads = record { step = step; target = None };
+            } }
     {
         Way {
             ready: true,
@@ -60,7 +67,11 @@ impl Way {
     // Into a target that can't be entered.
     fn fails(strict: bool) -> Way
         ensures { result
-            ≡ record { ready = false; strict = strict; leads = record { step = Move.Fail; target = None } } }
+            ≡ record {
+              ready = false;
+              strict = strict;
+              leads = record { step = Move.Fail; target = None };
+            } }
     {
         Way {
             ready: false,
@@ -73,7 +84,8 @@ impl Way {
     }
 }
 
-// Where a right name leads: a live domain of that name is entered, another name of the domain's own namespace is made.
+// Where a right name leads: a live domain of that name is entered, another name of the domain's own
+// namespace is made.
 pub(crate) fn way_to<R: Rep>(rep: &R, domain: &Domain, strict: bool, name: DomainName) -> Way
     requires few { IsFew (R.policy rep.now) }
     ensures { is_domain_name is_path name ≡ true →
@@ -98,7 +110,8 @@ pub(crate) fn way_to<R: Rep>(rep: &R, domain: &Domain, strict: bool, name: Domai
     }
 }
 
-// Where a name leads that was made for a transition. A text that is no domain name leads nowhere: no live domain has it.
+// Where a name leads that was made for a transition. A text that is no domain name leads nowhere:
+// no live domain has it.
 #[tactic(auto, using(crate::proofs::WayLaws::readable))]
 fn way_of_made<R: Rep>(
     rep: &R,
@@ -108,8 +121,10 @@ fn way_of_made<R: Rep>(
 ) -> Result<Way, NoMemory>
     requires few { IsFew (R.policy rep.now) }
     requires named { IsNamed is_path (R.policy rep.now) }
-    ensures { IfOk result (λ way. (name : Text) → Gives domain_cause (λ x. x) made (domain_of name) →
-        IfOk made (λ made. made ≡ name) → way ≡ way_to is_path (R.policy rep.now) domain.now strict (Some name)) }
+    ensures { IfOk result
+        (λ way. (name : Text) → Gives domain_cause (λ x. x) made (domain_of name) →
+        IfOk made (λ made. made ≡ name)
+        → way ≡ way_to is_path (R.policy rep.now) domain.now strict (Some name)) }
 {
     match made {
         Ok(name) => Ok(way_to(rep, domain, strict, name)),
@@ -165,7 +180,8 @@ fn way_by_preference<R: Rep>(
     requires few { IsFew (R.policy rep.now) }
     requires named { IsNamed is_path (R.policy rep.now) }
     ensures { IfOk result (λ way.
-        way ≡ way_by is_path (R.policy rep.now) domain.now candidate.now (By_preference prefer.now)) }
+        way ≡ way_by is_path (R.policy rep.now) domain.now candidate.now
+        (By_preference prefer.now)) }
 {
     match prefer {
         Prefer::Keep => Ok(Way::to(true, Move::Stay)),
@@ -193,7 +209,8 @@ pub(crate) fn execute_way<R: Rep>(
     requires execute { is_execute access.now.request.now ≡ true }
     ensures { IfOk result (λ way. way ≡ way_by is_path (R.policy rep.now) access.now.domain.now
         (candidate access.now.namespace.now access.now.found access.now.request.now)
-        (decision access.now.namespace.now access.now.domain.now.name access.now.found access.now.request.now)) }
+        (decision access.now.namespace.now access.now.domain.now.name access.now.found
+        access.now.request.now)) }
 {
     let domain = access.domain;
     let candidate = candidate(alloc, access)?;

@@ -5,6 +5,7 @@ ghost use Rattle.tm_rules.specs.Mode.{mode_of};
 ghost use Rattle.tm_types.specs.declared.request.Proc.{Proc};
 ghost use Rattle.tm_domain.specs.Names.{is_path};
 ghost use Rattle.tm_grammar.specs.Tomoyo.{tomoyo_grammar};
+ghost use Rattle.tm_change_domains.specs.Standing.{StandsIn};
 ghost use Rattle.tm_rules.specs.Few.{IsFew};
 ghost use Rattle.tm_rules.specs.Condition.{is_execute};
 ghost use Rattle.tm_types.specs.declared.entry.Entry.{Entry};
@@ -15,16 +16,16 @@ ghost use Rattle.tm_rules.specs.Search.{first};
 ghost use Rattle.tm_rules.specs.Transition.{is_domain_name};
 ghost use Rattle.tm_legal.specs.Play.{IsNamed};
 ghost use Rattle.tm_legal.specs.Verdict.{is_enforcing, made, moving, denied, by_entry, by_mode, in_mode, manual_verdict, execute_verdict, verdict_in, verdict};
-ghost use Rattle.tm_verdict.specs.Outcomes.{outcome_of, completed, with_line_of};
+ghost use Rattle.tm_verdict.specs.Bare.{bare_of, completed, with_line_of};
 
-use crate::candidates::{Access, Granting, executed_name, found_entry};
-use crate::targets::{Leads, Outcome, Way, execute_way, way_to};
+use crate::candidates::{Access, Granting, found_entry};
+use crate::targets::{BareVerdict, Leads, Way, execute_way, way_to};
 use std::alloc::Global;
-use tm_domain::namespace as namespace_word;
+use tm_change_domains::{Standing, standing_at};
 use tm_learn::learned_line;
 use tm_list::{Copied, NoMemory, Seq};
-use tm_policy::{Rep, domain_at, find_namespace};
 use tm_profile::config_of;
+use tm_rep::{Rep, executed_name};
 use tm_rules::is_execute;
 use tm_types::entry::{Args, Entry};
 use tm_types::function_at;
@@ -47,10 +48,10 @@ fn made(leads: Leads) -> Leads
 }
 
 // Granted or asked, with where it leads.
-fn moving(mode: Mode, reason: Reason, leads: Leads) -> Outcome
-    ensures { result ≡ outcome_of (moving (Some mode) reason leads.step leads.target) }
+fn moving(mode: Mode, reason: Reason, leads: Leads) -> BareVerdict
+    ensures { result ≡ bare_of (moving (Some mode) reason leads.step leads.target) }
 {
-    Outcome {
+    BareVerdict {
         mode: Some(mode),
         reason,
         name: NamePlace::Own,
@@ -59,11 +60,11 @@ fn moving(mode: Mode, reason: Reason, leads: Leads) -> Outcome
 }
 
 // Granted by an entry, with where it leads.
-fn by_entry(mode: Option<Mode>, granting: &Granting<'_>, leads: Leads) -> Outcome
-    ensures { result ≡ outcome_of (by_entry mode granting.now leads.step leads.target) }
+fn by_entry(mode: Option<Mode>, granting: &Granting<'_>, leads: Leads) -> BareVerdict
+    ensures { result ≡ bare_of (by_entry mode granting.now leads.step leads.target) }
 {
     let found = granting.found();
-    Outcome {
+    BareVerdict {
         mode,
         reason: Reason::Entry(found.place),
         name: found.name,
@@ -72,10 +73,10 @@ fn by_entry(mode: Option<Mode>, granting: &Granting<'_>, leads: Leads) -> Outcom
 }
 
 // Denied: the process stays.
-fn denied(mode: Option<Mode>, reason: Reason) -> Outcome
-    ensures { result ≡ outcome_of (denied mode reason) }
+fn denied(mode: Option<Mode>, reason: Reason) -> BareVerdict
+    ensures { result ≡ bare_of (denied mode reason) }
 {
-    Outcome {
+    BareVerdict {
         mode,
         reason,
         name: NamePlace::Own,
@@ -88,7 +89,7 @@ fn denied(mode: Option<Mode>, reason: Reason) -> Outcome
 
 // What the mode says where no entry grants.
 #[tactic(auto, unfolding(tm_legal::specs::Verdict::by_mode))]
-fn without_entry(access: &Access<'_>, mode: Mode, leads: Leads) -> Outcome
+fn without_entry(access: &Access<'_>, mode: Mode, leads: Leads) -> BareVerdict
     ensures { (line : Entry) → completed result line
         ≡ by_mode mode access.now.attached access.now.domain.now None line leads.step leads.target }
 {
@@ -114,9 +115,10 @@ fn without_entry(access: &Access<'_>, mode: Mode, leads: Leads) -> Outcome
 
 // From the mode on: disabled grants, then the entry that was found, then what the mode says.
 #[tactic(auto, unfolding(tm_legal::specs::Verdict::by_mode))]
-fn by_mode(access: &Access<'_>, mode: Mode, leads: Leads) -> Outcome
+fn by_mode(access: &Access<'_>, mode: Mode, leads: Leads) -> BareVerdict
     ensures { (line : Entry) → completed result line
-        ≡ by_mode mode access.now.attached access.now.domain.now access.now.found line leads.step leads.target }
+        ≡ by_mode mode access.now.attached access.now.domain.now access.now.found line
+        leads.step leads.target }
 {
     match &access.found {
         None => without_entry(access, mode, leads),
@@ -137,11 +139,12 @@ fn manual<R: Rep>(
     rep: &R,
     access: &Access<'_>,
     name: &DomainName,
-) -> Result<Outcome, NoMemory>
+) -> Result<BareVerdict, NoMemory>
     requires few { IsFew (R.policy rep.now) }
     requires right { is_domain_name is_path name.now ≡ true }
     ensures { IfOk result (λ v. (line : Entry) → completed v line
-        ≡ manual_verdict is_path (R.policy rep.now) access.now.domain.now name.now access.now.found) }
+        ≡ manual_verdict is_path
+        (R.policy rep.now) access.now.domain.now name.now access.now.found) }
 {
     let Some(found) = &access.found else {
         return Ok(denied(None, Reason::NoManual));
@@ -154,7 +157,8 @@ fn manual<R: Rep>(
     }
 }
 
-// Whether an execute is denied since its target can't be entered: where the decision is strict, or in mode enforcing.
+// Whether an execute is denied since its target can't be entered: where the decision is strict, or
+// in mode enforcing.
 fn is_barred(mode: Mode, way: &Way) -> bool
     ensures { result ≡ (not way.now.ready && (way.now.strict || is_enforcing mode)) }
 {
@@ -169,18 +173,20 @@ fn is_barred(mode: Mode, way: &Way) -> bool
     }
 }
 
-// An execute is denied where its target can't be entered and has to be; else it is as the mode says.
+// An execute is denied where its target can't be entered and has to be; else it is as the mode
+// says.
 #[inline(never)]
 fn execute<R: Rep>(
     alloc: Global,
     rep: &R,
     access: &Access<'_>,
     mode: Mode,
-) -> Result<Outcome, NoMemory>
+) -> Result<BareVerdict, NoMemory>
     requires few { IsFew (R.policy rep.now) }
     requires named { IsNamed is_path (R.policy rep.now) }
     requires execute { is_execute access.now.request.now ≡ true }
-    ensures { IfOk result (λ v. completed v (line_of access.now.namespace.now access.now.request.now)
+    ensures { IfOk result
+        (λ v. completed v (line_of access.now.namespace.now access.now.request.now)
         ≡ execute_verdict is_path (R.policy rep.now) access.now.attached access.now.domain.now
         access.now.namespace.now mode access.now.found access.now.request.now) }
 {
@@ -191,16 +197,18 @@ fn execute<R: Rep>(
     Ok(by_mode(access, mode, way.leads))
 }
 
-// The verdict in a mode: an execute goes by its target, and every other request stays in its domain.
+// The verdict in a mode: an execute goes by its target, and every other request stays in its
+// domain.
 fn in_mode<R: Rep>(
     alloc: Global,
     rep: &R,
     access: &Access<'_>,
     mode: Mode,
-) -> Result<Outcome, NoMemory>
+) -> Result<BareVerdict, NoMemory>
     requires few { IsFew (R.policy rep.now) }
     requires named { IsNamed is_path (R.policy rep.now) }
-    ensures { IfOk result (λ v. completed v (line_of access.now.namespace.now access.now.request.now)
+    ensures { IfOk result
+        (λ v. completed v (line_of access.now.namespace.now access.now.request.now)
         ≡ in_mode is_path (R.policy rep.now) access.now.attached access.now.domain.now
         access.now.namespace.now access.now.request.now access.now.found mode) }
 {
@@ -214,18 +222,21 @@ fn in_mode<R: Rep>(
     Ok(by_mode(access, mode, leads))
 }
 
-// The verdict on a request that is no manual transition: in the mode of its function. None where it has no such permission.
+// The verdict on a request that is no manual transition: in the mode of its function. None where it
+// has no such permission.
 fn by_function<R: Rep>(
     alloc: Global,
     rep: &R,
     access: &Access<'_>,
     profile: &Profile,
-) -> Result<Option<Outcome>, NoMemory>
+) -> Result<Option<BareVerdict>, NoMemory>
     requires few { IsFew (R.policy rep.now) }
     requires named { IsNamed is_path (R.policy rep.now) }
-    ensures { IfOk result (λ v. option_map (with_line_of access.now.namespace.now access.now.request.now) v
+    ensures { IfOk result
+        (λ v. option_map (with_line_of access.now.namespace.now access.now.request.now) v
         ≡ option_map (λ function.
-        in_mode is_path (R.policy rep.now) access.now.attached access.now.domain.now access.now.namespace.now
+        in_mode is_path (R.policy rep.now) access.now.attached access.now.domain.now
+        access.now.namespace.now
         access.now.request.now access.now.found (mode_of profile.now function))
         (function_of access.now.request.now.args access.now.request.now.perm)) }
 {
@@ -244,28 +255,21 @@ fn judged<R: Rep>(
     rep: &R,
     access: &Access<'_>,
     profile: &Profile,
-) -> Result<Option<Outcome>, NoMemory>
+) -> Result<Option<BareVerdict>, NoMemory>
     requires few { IsFew (R.policy rep.now) }
     requires named { IsNamed is_path (R.policy rep.now) }
     requires asked { is_request is_path access.now.request.now ≡ true }
     ensures { IfOk result (λ v. (process : Proc) →
         namespace_of (R.policy rep.now) access.now.domain.now ≡ access.now.namespace.now →
-        first access.now.namespace.now access.now.domain.now process access.now.request.now ≡ access.now.found →
+        first access.now.namespace.now access.now.domain.now process access.now.request.now
+        ≡ access.now.found →
         option_map (with_line_of access.now.namespace.now access.now.request.now) v
         ≡ verdict_in is_path (R.policy rep.now) access.now.attached process access.now.request.now
         access.now.domain.now profile.now) }
 {
     match access.request.args() {
         Args::Manual(name) => Ok(Some(manual(alloc, rep, access, name)?)),
-        Args::Path(_)
-        | Args::Execute(_, _)
-        | Args::PathNumber(_, _)
-        | Args::Device(_, _, _, _)
-        | Args::Path2(_, _)
-        | Args::Mount(_, _, _, _)
-        | Args::Inet(_, _, _)
-        | Args::Unix(_, _)
-        | Args::Env(_) => by_function(alloc, rep, access, profile),
+        _ => by_function(alloc, rep, access, profile),
     }
 }
 
@@ -284,23 +288,23 @@ fn line_of(alloc: Global, access: &Access<'_>) -> Result<Entry, NoMemory>
     learned_line(alloc, access.request, &name)
 }
 
-// A verdict of this outcome, with this line.
-fn verdict_with(outcome: Outcome, line: Option<Entry>) -> Verdict
+// The whole verdict, with this line.
+fn verdict_with(bare: BareVerdict, line: Option<Entry>) -> Verdict
     ensures { result ≡ record {
-      mode = outcome.mode;
-      reason = outcome.reason;
-      name = outcome.name;
-      step = outcome.leads.step;
-      target = outcome.leads.target;
+      mode = bare.mode;
+      reason = bare.reason;
+      name = bare.name;
+      step = bare.leads.step;
+      target = bare.leads.target;
       line = line;
     } }
 {
-    let Outcome {
+    let BareVerdict {
         mode,
         reason,
         name,
         leads,
-    } = outcome;
+    } = bare;
     Verdict {
         mode,
         reason,
@@ -311,27 +315,27 @@ fn verdict_with(outcome: Outcome, line: Option<Entry>) -> Verdict
     }
 }
 
-// The verdict of an outcome that wants a line: with the one that is to be learned or asked for.
+// The whole verdict where its reason wants a line: with the one that is to be learned or asked for.
 #[inline(never)]
 fn with_line(
     alloc: Global,
     access: &Access<'_>,
-    outcome: Outcome,
+    bare: BareVerdict,
 ) -> Result<Option<Verdict>, NoMemory>
     requires { access.now.request.now.perm < 16 }
     ensures { IfOk result (λ v. v ≡ Some (record {
-      mode = outcome.mode;
-      reason = outcome.reason;
-      name = outcome.name;
-      step = outcome.leads.step;
-      target = outcome.leads.target;
+      mode = bare.mode;
+      reason = bare.reason;
+      name = bare.name;
+      step = bare.leads.step;
+      target = bare.leads.target;
       line = Some (line_of access.now.namespace.now access.now.request.now);
     })) }
 {
     match line_of(alloc, access) {
-        Ok(line) => Ok(Some(verdict_with(outcome, Some(line)))),
+        Ok(line) => Ok(Some(verdict_with(bare, Some(line)))),
         Err(fault) => {
-            drop(outcome);
+            drop(bare);
             Err(fault)
         }
     }
@@ -341,34 +345,63 @@ fn with_line(
 fn finished(
     alloc: Global,
     access: &Access<'_>,
-    outcome: Option<Outcome>,
+    bare: Option<BareVerdict>,
 ) -> Result<Option<Verdict>, NoMemory>
     requires { access.now.request.now.perm < 16 }
-    ensures { IfOk result (λ v. v ≡ option_map (with_line_of access.now.namespace.now access.now.request.now) outcome) }
+    ensures { IfOk result
+        (λ v. v ≡ option_map (with_line_of access.now.namespace.now access.now.request.now) bare) }
 {
-    let Some(outcome) = outcome else {
+    let Some(bare) = bare else {
         return Ok(None);
     };
-    match outcome.reason {
-        Reason::Learn | Reason::Ask => with_line(alloc, access, outcome),
-        Reason::Entry(_)
-        | Reason::Disabled
-        | Reason::Permissive
-        | Reason::Quota
-        | Reason::NoEntry
-        | Reason::NotReady
-        | Reason::NoManual => Ok(Some(verdict_with(outcome, None))),
+    match bare.reason {
+        Reason::Learn | Reason::Ask => with_line(alloc, access, bare),
+        _ => Ok(Some(verdict_with(bare, None))),
     }
 }
 
-/// The verdict on a request of a process in the domain of this number, with a supervisor attached or not. A manual transition wants an
-/// entry and a target that can be entered. An execute whose target can't be entered is denied where a preference or a reset chose it,
-/// or in mode enforcing. Every request else goes by its mode: disabled grants, then the first entry that grants, then learning (up to
-/// the quota) and permissive grant, and enforcing asks the supervisor, where one is attached, or denies. With the verdict come the move
-/// (stay, enter a live domain, make one, or fail), the domain to be made, and the line to be learned or asked for.
+/// The verdict on a request of a process where the look's standing is known, by which nothing is
+/// looked for again: as `verdict_of` in the domain of its number.
+///
+/// Errors: want of memory.
+#[tactic(auto, using(crate::proofs::VerdictLaws::asked_below))]
+pub fn verdict_in<R: Rep>(
+    alloc: Global,
+    rep: &R,
+    attached: bool,
+    standing: &Standing<'_>,
+    process: &Proc,
+    request: &Request,
+) -> Result<Option<Verdict>, NoMemory>
+    requires few { IsFew (R.policy rep.now) }
+    requires named { IsNamed tomoyo_grammar.is_path (R.policy rep.now) }
+    requires standing { StandsIn (R.policy rep.now) standing.now }
+    requires asked { is_request tomoyo_grammar.is_path request.now ≡ true }
+    ensures { IfOk result (λ v. v ≡ verdict tomoyo_grammar.is_path (R.policy rep.now) attached
+        standing.now.number process.now request.now) }
+{
+    let found = rep.search_in(standing, process, request);
+    let access = Access {
+        attached,
+        namespace: standing.namespace,
+        domain: standing.domain,
+        found: found_entry(standing.namespace, standing.domain, found),
+        request,
+    };
+    let bare = judged(alloc, rep, &access, standing.profile)?;
+    finished(alloc, &access, bare)
+}
+
+/// The verdict on a request of a process in the domain of this number, with a supervisor attached
+/// or not. A manual transition wants an entry and a target that can be entered. An execute whose
+/// target can't be entered is denied where a preference or a reset chose it, or in mode enforcing.
+/// Every request else goes by its mode: disabled grants, then the first entry that grants, then
+/// learning (up to the quota) and permissive grant, and enforcing asks the supervisor, where one is
+/// attached, or denies. With the verdict come the move (stay, enter a live domain, make one, or
+/// fail), the domain to be made, and the line to be learned or asked for.
 ///
 /// None where the domain or its profile isn't there. Errors: want of memory.
-#[tactic(auto, using(crate::proofs::VerdictLaws::asked_below))]
+#[tactic(auto, using(crate::proofs::VerdictLaws::nowhere))]
 pub fn verdict_of<R: Rep>(
     alloc: Global,
     rep: &R,
@@ -381,26 +414,11 @@ pub fn verdict_of<R: Rep>(
     requires named { IsNamed tomoyo_grammar.is_path (R.policy rep.now) }
     requires asked { is_request tomoyo_grammar.is_path request.now ≡ true }
     ensures { IfOk result (λ v. v
-        ≡ verdict tomoyo_grammar.is_path (R.policy rep.now) attached domain process.now request.now) }
+        ≡ verdict tomoyo_grammar.is_path
+        (R.policy rep.now) attached domain process.now request.now) }
 {
-    let policy = rep.policy();
-    let Some(place) = domain_at(policy, domain) else {
-        return Ok(None);
-    };
-    let word = namespace_word(&place.name);
-    let Some(namespace) = find_namespace(policy.namespaces.as_slice(), word) else {
-        return Ok(None);
-    };
-    let Some(profile) = namespace.profiles.get(&place.profile) else {
-        return Ok(None);
-    };
-    let access = Access {
-        attached,
-        namespace,
-        domain: place,
-        found: found_entry(namespace, place, rep.search(domain, process, request)),
-        request,
-    };
-    let outcome = judged(alloc, rep, &access, profile)?;
-    finished(alloc, &access, outcome)
+    match standing_at(rep.policy(), domain) {
+        Some(standing) => verdict_in(alloc, rep, attached, &standing, process, request),
+        None => Ok(None),
+    }
 }

@@ -1,7 +1,11 @@
 -- A text of bytes that stand for themselves spells itself.
-use Rattle.std.specs.Prelude.{◌≡◌, ℕ, ◌+◌, ◌/◌, ◌%◌, ◌==◌, nat_lt, ◌&&◌, not, if◌then◌else◌, Bool, true, false, [], ◌∷◌, ◌++◌, refl, Ok}
+use Rattle.std.specs.Prelude.{◌≡◌, ℕ, ◌+◌, ◌/◌, ◌%◌, ◌<◌, ◌==◌, nat_lt, ◌&&◌, not, if◌then◌else◌, Bool, true, false, [], ◌∷◌, ◌++◌, take, drop, length, refl, Ok}
 use Rattle.std.proofs.Common.{ap, ◌∙◌, sym, rules}
 use Rattle.std.proofs.lemmas.Bool.Decides.{nat_tests}
+use Rattle.std.proofs.lemmas.Grind.{flat_map-append}
+use Rattle.std.proofs.lemmas.List.{take_more, append-nil, append_assoc}
+use Rattle.std.proofs.Math.Seq.{take-add}
+use Rattle.std.proofs.Common.{get_or}
 use Rattle.tm_word.specs.Words.{Text}
 use Rattle.tm_word.specs.Spelling.{are_bytes, spelling_of, spell, is_own_spelling, are_own_spellings, word_of}
 use Rattle.tm_word.proofs.Spelled.{read_again}
@@ -40,3 +44,23 @@ own_bytes (b ∷ text) h =
 
 pub own_word : (text : Text) → are_own_spellings text ≡ true → word_of text ≡ Ok text
 own_word text h = ap word_of (sym (own_spelled text h)) ∙ read_again text (own_bytes text h)
+
+-- a front of bytes that stand for themselves, and the byte after it
+front_spelled : (text : Text) (n : ℕ) → n < length text → are_own_spellings (take n text) ≡ true →
+    spell (take (n + 1) text) ≡ take n text ++ spelling_of (get_or text n 0)
+front_spelled text n inside own =
+    ap spell (take_more text n 0 inside) ∙ flat_map-append spelling_of (take n text) (get_or text n 0 ∷ [])
+    ∙ rw (own_spelled (take n text) own, append-nil (spelling_of (get_or text n 0))) refl
+
+-- the same behind what stands before
+pub front_pushed : (before text : Text) (n : ℕ) → n < length text → are_own_spellings (take n text) ≡ true →
+    (before ++ take n text) ++ spelling_of (get_or text n 0) ≡ before ++ spell (take (n + 1) text)
+front_pushed before text n inside own =
+    append_assoc before (take n text) (spelling_of (get_or text n 0)) ∙ ap (λ (t : Text). before ++ t) (sym (front_spelled text n inside own))
+
+-- the next so many bytes of a text go on where those before end
+pub pieces_pushed : (before text : Text) (n m : ℕ) →
+    (before ++ spell (take n text)) ++ spell (take m (drop n text)) ≡ before ++ spell (take (n + m) text)
+pieces_pushed before text n m =
+    append_assoc before (spell (take n text)) (spell (take m (drop n text)))
+    ∙ ap (λ (t : Text). before ++ t) (sym (ap spell (take-add n m text) ∙ flat_map-append spelling_of (take n text) (take m (drop n text))))

@@ -1,4 +1,5 @@
-//! Patterns as data: a literal is kept as the bytes of its name, any other pattern as its components.
+//! Patterns as data: a literal is kept as the bytes of its name, any other pattern as its
+//! components.
 ghost use Rattle.std.specs.Prelude.{◌≡◌, IfOk, IfErr};
 ghost use Rattle.tm_word.specs.Printing.{literal};
 ghost use Rattle.tm_word.specs.Patterns.{IsNoLiteral};
@@ -17,8 +18,9 @@ enum Form {
     Components(Seq<Component>),
 }
 
-/// A pattern of names. Contracts see it as its components between the slashes. The literal of a name is kept as the bytes of this name,
-/// so that it is copied, compared, matched and printed as they are.
+/// A pattern of names. Contracts see it as its components between the slashes. The literal of a
+/// name is kept as the bytes of this name, so that it is copied, compared, matched and printed as
+/// they are.
 #[derive(Drop)]
 pub struct Pattern {
     form: Form,
@@ -37,7 +39,8 @@ impl Model for Pattern {
 }
 
 impl Pattern {
-    /// The literal of a name: the pattern of its own bytes, which matches this name alone. Takes no memory.
+    /// The literal of a name: the pattern of its own bytes, which matches this name alone. Takes no
+    /// memory.
     #[tactic(auto, unfolding(crate::specs::Patterns::components_of, crate::specs::Patterns::IsKept))]
     pub fn literal(name: Word) -> Pattern
         ensures { result ≡ literal name }
@@ -58,7 +61,8 @@ impl Pattern {
         }
     }
 
-    /// Lends the name whose literal it is; as an error, the components of a pattern that is no name's literal.
+    /// Lends the name whose literal it is; as an error, the components of a pattern that is no
+    /// name's literal.
     #[tactic(auto, unfolding(crate::specs::Patterns::components_of, crate::specs::Patterns::IsKept))]
     pub fn name(&self) -> Result<&Word, &[Component]>
         ensures name { IfOk result (λ name. self.now ≡ literal name.now) }

@@ -1,4 +1,5 @@
-//! Small questions on texts: how they begin, where they are cut, whether they are equal. Nothing here takes memory.
+//! Small questions on texts: how they begin, where they are cut, whether they are equal. Nothing
+//! here takes memory.
 ghost use Rattle.std.specs.Prelude.{◌≡◌, ◌<◌, ◌≤◌, ◌==◌, ◌∷◌, ◌++◌, [], length, Some, None, IsTrue, MatchOption};
 ghost use Rattle.std.specs.List.{list_any, position};
 ghost use Rattle.tm_word.specs.Spelling.{spell, spelling_of, is_separator, words_of};
@@ -42,7 +43,8 @@ pub fn begins(front: &[u8], whole: &[u8]) -> bool
 
 /// The text after this front; None where it has another one.
 pub fn after<'a>(front: &[u8], text: &'a [u8]) -> Option<&'a [u8]>
-    ensures { MatchOption result (after front.now text.now ≡ None) (λ rest. after front.now text.now ≡ Some rest.now) }
+    ensures { MatchOption result (after front.now text.now ≡ None)
+        (λ rest. after front.now text.now ≡ Some rest.now) }
 {
     if begins(front, text) {
         Some(&text[front.len()..])
@@ -70,9 +72,11 @@ pub fn has_byte(byte: u8, text: &[u8]) -> bool
     false
 }
 
-/// What stands before the first such byte, and what follows it; None where there is none. So byte 10 cuts off the first line.
+/// What stands before the first such byte, and what follows it; None where there is none. So byte
+/// 10 cuts off the first line.
 pub fn cut_at(byte: u8, text: &[u8]) -> Option<(&[u8], &[u8])>
-    ensures { MatchOption result (pieces byte text.now ≡ text.now ∷ []) (λ cut. IsCut byte text.now cut.0.now cut.1.now) }
+    ensures { MatchOption result (pieces byte text.now ≡ text.now ∷ [])
+        (λ cut. IsCut byte text.now cut.0.now cut.1.now) }
 {
     match place_of(byte, text) {
         Some(place) => Some((&text[..place], &text[place + 1..])),
@@ -96,7 +100,8 @@ pub fn spells(text: &[u8], word: &[u8]) -> bool
 
 /// The text after a byte's spelling; None where it begins otherwise.
 fn after_spelling(byte: u8, text: &[u8]) -> Option<&[u8]>
-    ensures { MatchOption result (after (spelling_of byte) text.now ≡ None) (λ rest. after (spelling_of byte) text.now ≡ Some rest.now) }
+    ensures { MatchOption result (after (spelling_of byte) text.now ≡ None)
+        (λ rest. after (spelling_of byte) text.now ≡ Some rest.now) }
 {
     if byte == b'\\' {
         after(b"\\\\", text)
@@ -135,7 +140,8 @@ fn cut_piece(text: &[u8]) -> (&[u8], &[u8])
 
 /// The first word of a line, and the text after it; None where it has no word.
 pub fn cut_word(text: &[u8]) -> Option<(&[u8], &[u8])>
-    ensures { MatchOption result (words_of text.now ≡ []) (λ cut. words_of text.now ≡ cut.0.now ∷ words_of cut.1.now) }
+    ensures { MatchOption result (words_of text.now ≡ [])
+        (λ cut. words_of text.now ≡ cut.0.now ∷ words_of cut.1.now) }
 {
     let mut rest = text;
     while !rest.is_empty() {
@@ -148,7 +154,8 @@ pub fn cut_word(text: &[u8]) -> Option<(&[u8], &[u8])>
     None
 }
 
-/// The words of a line, in order, as slices of it: the longest runs of bytes 33 to 126, still spelled.
+/// The words of a line, in order, as slices of it: the longest runs of bytes 33 to 126, still
+/// spelled.
 #[derive(Drop)]
 pub struct Words<'a> {
     rest: &'a [u8],

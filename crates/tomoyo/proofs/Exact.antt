@@ -2,15 +2,15 @@
 use Rattle.std.proofs.Common.{◌≡◌, ◌∙◌, ◌⊎◌, inl, inr, Some, None, ap, sym, refl}
 use Rattle.tm_io.specs.Causes.{Rose}
 use Rattle.tm_io.specs.Files.{Files}
-use Rattle.tomoyo.specs.declared.status.Status.{Status}
-use Rattle.tomoyo.specs.declared.status.OutName.{OutName}
-use Rattle.tomoyo.specs.declared.carry.Outcome.{Outcome}
-use Rattle.tomoyo.specs.declared.words.Command.{Command}
-use Rattle.tomoyo.specs.Fetches.{Texts, AllGiven, FetchStops, TellsAll, told_texts}
-use Rattle.tomoyo.specs.Ends.{Outside, Ends, CarriedOut}
+use Rattle.tm_call.specs.declared.status.Status.{Status}
+use Rattle.tm_call.specs.declared.status.OutName.{OutName}
+use Rattle.tm_call.specs.declared.carry.Outcome.{Outcome}
+use Rattle.tm_call.specs.declared.words.Command.{Command}
+use Rattle.tm_call.specs.Fetches.{Texts, AllGiven, FetchStops, TellsAll, told_texts}
+use Rattle.tm_call.specs.Ends.{Outside, Ends, CarriedOut}
 use Rattle.tomoyo.specs.Call.{wants_of, refusal_of, Refuses, Allows, CommandCause, answer_of, Answers}
 use Rattle.tomoyo.proofs.Refusals.{refusal-kind}
-use Rattle.tomoyo.proofs.Told.{texts-told, all-read, absent-unread, too-long-unread, stop-unread}
+use Rattle.tm_call.proofs.Told.{texts-told, all-read, absent-unread, too-long-unread, stop-unread}
 
 -- a fetch that ends the call
 fetch-exact : (command : Command) (files : Files) (rose : Type 0) (status : Status) → TellsAll files → FetchStops files (wants_of command) rose status → Answers (answer_of command files) status
@@ -28,6 +28,8 @@ fetch-exact command files rose (Status.UndefinedProfile domain) tells stops = ab
 fetch-exact command files rose (Status.BadTrace line kind) tells stops = absurd stops.cause
 fetch-exact command files rose (Status.BadScript name line kind) tells stops = absurd stops.cause
 fetch-exact command files rose (Status.TooMany what) tells stops = absurd stops.cause
+fetch-exact command files rose (Status.BadRules line kind) tells stops = absurd stops.cause
+fetch-exact command files rose (Status.BadAudit line) tells stops = absurd stops.cause
 
 -- what was read decides
 refused-answer : (command : Command) (files : Files) (texts : Texts) (status : Status) → TellsAll files → AllGiven files (wants_of command) texts → refusal_of command texts ≡ Some status → answer_of command files ≡ status
@@ -54,6 +56,8 @@ refused-exact command files texts (Status.UndefinedProfile domain) tells given r
 refused-exact command files texts (Status.BadTrace line kind) tells given refused = refused-answer command files texts (Status.BadTrace line kind) tells given refused
 refused-exact command files texts (Status.BadScript name line kind) tells given refused = refused-answer command files texts (Status.BadScript name line kind) tells given refused
 refused-exact command files texts (Status.TooMany what) tells given refused = refused-answer command files texts (Status.TooMany what) tells given refused
+refused-exact command files texts (Status.BadRules line kind) tells given refused = refused-answer command files texts (Status.BadRules line kind) tells given refused
+refused-exact command files texts (Status.BadAudit line) tells given refused = refused-answer command files texts (Status.BadAudit line) tells given refused
 
 -- an outcome that is carried out
 carried-exact : (answer : Status) (old new : Outside) (outcome : Outcome) (status : Status) → answer ≡ Status.Done → CarriedOut outcome old new status → Answers answer status
@@ -69,6 +73,8 @@ carried-exact answer old new outcome (Status.UndefinedProfile domain) is h = abs
 carried-exact answer old new outcome (Status.BadTrace line kind) is h = absurd h.0
 carried-exact answer old new outcome (Status.BadScript name line kind) is h = absurd h.0
 carried-exact answer old new outcome (Status.TooMany what) is h = absurd h.0
+carried-exact answer old new outcome (Status.BadRules line kind) is h = absurd h.0
+carried-exact answer old new outcome (Status.BadAudit line) is h = absurd h.0
 
 pub exact-of : (command : Command) (old new : Outside) (status : Status) → Ends (wants_of command) (Refuses command) (Allows command) old new status → TellsAll old.files → Answers (answer_of command old.files) status
 exact-of command old new status (Ends.Not_fetched stops untouched) tells = fetch-exact command old.files _ status tells stops
@@ -91,3 +97,5 @@ complete-by command answer old new (Status.UndefinedProfile domain) cause exact 
 complete-by command answer old new (Status.BadTrace line kind) cause exact shelf sink = inl (sym exact)
 complete-by command answer old new (Status.BadScript name line kind) cause exact shelf sink = inl (sym exact)
 complete-by command answer old new (Status.TooMany what) cause exact shelf sink = inl (sym exact)
+complete-by command answer old new (Status.BadRules line kind) cause exact shelf sink = inl (sym exact)
+complete-by command answer old new (Status.BadAudit line) cause exact shelf sink = inl (sym exact)

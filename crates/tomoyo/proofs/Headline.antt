@@ -8,24 +8,42 @@ use Rattle.tm_io.specs.declared.names.FileName.{FileName}
 use Rattle.tm_io.specs.Names.{same_name}
 use Rattle.tm_io.specs.Files.{FileState, Files, changed}
 use Rattle.tm_io.specs.Bytes.{then_bytes}
-use Rattle.tomoyo.specs.declared.status.Status.{Status}
-use Rattle.tomoyo.specs.declared.status.OutName.{OutName}
-use Rattle.tomoyo.specs.declared.carry.Outcome.{Outcome}
+use Rattle.tm_call.specs.declared.status.Status.{Status}
+use Rattle.tm_call.specs.declared.status.OutName.{OutName}
+use Rattle.tm_call.specs.declared.carry.Outcome.{Outcome}
 use Rattle.tomoyo.specs.declared.play.Played.{Played}
 use Rattle.tomoyo.specs.declared.rerun.RerunTexts.{RerunTexts}
 use Rattle.tomoyo.specs.declared.rerun.Learned.{Learned}
-use Rattle.tomoyo.specs.declared.words.Command.{Command}
-use Rattle.tomoyo.specs.Fetches.{Texts, IsTold, TellsAll}
-use Rattle.tomoyo.specs.Stores.{stored, Leaves, names_of, is_named}
-use Rattle.tomoyo.specs.Ends.{Outside, Ends, CarriedOut}
+use Rattle.tomoyo.specs.declared.sort.Sorting.{Sorting}
+use Rattle.tm_call.specs.declared.words.Command.{Command}
+use Rattle.tm_call.specs.Fetches.{Texts, IsTold, TellsAll}
+use Rattle.tm_call.specs.Stores.{stored, Leaves, names_of, is_named}
+use Rattle.tm_call.specs.Ends.{Outside, Ends, CarriedOut}
 use Rattle.tomoyo.specs.Play.{Plays}
+use Rattle.tm_gen_laws.specs.Generated.{generated_files}
+use Rattle.tm_call_input.specs.Policies.{policy_of}
 use Rattle.tomoyo.specs.Rerun.{Learns}
-use Rattle.tomoyo.specs.Print.{policy_of, printed_policy}
-use Rattle.tomoyo.specs.Call.{wants_of, stored_by, step_stores, rerun_stores, learn_stores, generated_files, with_stores, policy_stores, Refuses, Allows, IsPlayed, IsLearned, IsGenerated, IsShown, HasDone}
+use Rattle.tomoyo.specs.Print.{printed_policy}
+use Rattle.tomoyo.specs.Sort.{part_store, sort_reading, sort_outcome}
+use Rattle.tomoyo.specs.Call.{wants_of, stored_by, step_stores, rerun_stores, learn_stores, with_stores, policy_stores, Refuses, Allows, IsPlayed, IsLearned, IsGenerated, IsShown, IsSorted, HasDone}
 use Rattle.tomoyo.proofs.Refusals.{refusal-kind}
 use Rattle.tomoyo.proofs.Named.{names-allowed, unnamed-by}
-use Rattle.tomoyo.proofs.Others.{changed-other, not-first, not-later, stored-other, leaves-other, cut-other, first-other, self-same}
-use Rattle.tomoyo.proofs.Told.{texts-told}
+use Rattle.tm_call.proofs.Others.{changed-other, not-first, not-later, stored-other, leaves-other, cut-other, first-other, self-same}
+use Rattle.tm_call.proofs.Told.{texts-told}
+use Rattle.tm_call.specs.Fetches.{content}
+use Rattle.tm_call.specs.declared.status.What.{What}
+use Rattle.tm_types.specs.declared.request.ScriptKind.{ScriptKind}
+use Rattle.tm_word.specs.Gives.{◌>>=◌}
+use Rattle.tm_sort.specs.declared.record.Record.{Record}
+use Rattle.tm_sort.specs.declared.rules.Rule.{Rule}
+use Rattle.tm_sort.specs.declared.parts.Part.{Part}
+use Rattle.tm_sort.specs.Records.{records_of}
+use Rattle.tm_sort.specs.Rules.{is_rule, rules_of}
+use Rattle.tm_sort.specs.Parts.{part_numbers, is_part, named_numbers, part_of, parts_of}
+use Rattle.tm_sort.proofs.RuleLaws.{rules_right}
+use Rattle.tm_sort.proofs.PartLaws.{shares}
+use Rattle.tomoyo.specs.Sort.{of_audit, of_rules, few_rules}
+use Rattle.tomoyo.proofs.Sorted.{Rising, filter-rising, all-stored, not-stored}
 
 -- files that the outcome doesn't store
 carried-others : (old new : Outside) (outcome : Outcome) (status : Status) (name : FileName) → CarriedOut outcome old new status → is_named (names_of outcome.stores) name ≡ false → new.files name ≡ old.files name
@@ -42,6 +60,8 @@ carried-others old new outcome (Status.UndefinedProfile domain) name h e = absur
 carried-others old new outcome (Status.BadTrace line kind) name h e = absurd h.0
 carried-others old new outcome (Status.BadScript named line kind) name h e = absurd h.0
 carried-others old new outcome (Status.TooMany what) name h e = absurd h.0
+carried-others old new outcome (Status.BadRules line kind) name h e = absurd h.0
+carried-others old new outcome (Status.BadAudit line) name h e = absurd h.0
 
 pub kept-of : (command : Command) (old new : Outside) (status : Status) → Ends (wants_of command) (Refuses command) (Allows command) old new status → (name : FileName) → is_named (stored_by command) name ≡ false → new.files name ≡ old.files name
 kept-of command old new status (Ends.Not_fetched stops untouched) name e = untouched.files name
@@ -137,6 +157,52 @@ gen-done seed size old new (Ends.Made texts outcome given allowed carried) tells
       summary = carried.1 ∙ ap (λ (o : Outcome). then_bytes o.line old.written) allowed.1.2;
     }
 
+-- what is read as rules is right
+rules-right : (texts : Texts) (sorting : Sorting) → sort_reading texts ≡ Ok sorting → list_all is_rule sorting.rules ≡ true
+unfolding sort_reading
+rules-right texts sorting e =
+    let (records, r, after_records) = bound (of_audit (records_of (content texts FileName.Audit))) _ sorting e in
+    let (rules, u, after_rules) = bound (of_rules (rules_of (content texts FileName.Sorter))) _ sorting after_records in
+    let same : sorting.rules ≡ rules = few-rules rules records sorting after_rules in
+    ap (list_all is_rule) same ∙ rules_right (content texts FileName.Sorter) rules (rules-read (rules_of (content texts FileName.Sorter)) rules u)
+  where
+    bound : {A B E : Type 0} (r : Result A E) (f : A → Result B E) (y : B) → (r >>= f) ≡ Ok y → (x : A) × (r ≡ Ok x) × (f x ≡ Ok y)
+    bound (Ok x) f y e = (x, refl, e)
+    bound (Err fault) f y e = absurd cc
+
+    rules-read : (r : Result (List Rule) (ℕ × ScriptKind)) (rules : List Rule) → of_rules r ≡ Ok rules → r ≡ Ok rules
+    rules-read (Ok y) x e = let same : y ≡ x = cc in ap Ok same
+    rules-read (Err fault) x e = absurd cc
+
+    few-rules : (rules : List Rule) (records : List Record) (sorting : Sorting) → few_rules rules records ≡ Ok sorting → sorting.rules ≡ rules
+    few-rules rules records sorting e = go (nat_lt 256 (length rules)) e
+      where
+        go : (many : Bool) → (if many then Err (Status.TooMany What.Rules) else Ok (record { rules = rules; records = records })) ≡ Ok sorting → sorting.rules ≡ rules
+        go true h = absurd cc
+        go false h = let made : Sorting = record { rules = rules; records = records } in let same : made ≡ sorting = cc in ap (λ (s : Sorting). s.rules) (sym same)
+
+-- a sort that is done
+sort-done : (old new : Outside) → Ends (wants_of Command.Sort) (Refuses Command.Sort) (Allows Command.Sort) old new Status.Done → TellsAll old.files → IsSorted old new
+unfolding parts_of
+sort-done old new (Ends.Not_fetched stops untouched) tells = absurd stops.cause
+sort-done old new (Ends.Refused texts given refused untouched) tells = absurd (refusal-kind Command.Sort texts Status.Done refused)
+sort-done old new (Ends.Made texts outcome given allowed carried) tells =
+    let sorting : Sorting = allowed.1.0 in
+    let part : ℕ → Part = part_of sorting.rules sorting.records in
+    let numbers : List ℕ = named_numbers sorting.rules in
+    let leaves : Leaves (map part_store (map part numbers)) old.files new.files = subst (λ (o : Outcome). Leaves o.stores old.files new.files) allowed.1.2 carried.0 in
+    record {
+      sorting = sorting;
+      reads = subst (λ (ts : Texts). sort_reading ts ≡ Ok sorting) (texts-told old.files (wants_of Command.Sort) texts tells given) allowed.1.1;
+      stored = all-stored part numbers old.files new.files (λ m. refl) tells (filter-rising (is_part sorting.rules) 0 part_numbers rising) leaves;
+      shared = shares sorting.rules sorting.records (rules-right texts sorting allowed.1.1);
+      kept = λ number none. leaves-other (map part_store (map part numbers)) old.files new.files (FileName.AuditPart number) leaves (not-stored part (is_part sorting.rules) number part_numbers (λ m. refl) none);
+      counts = carried.1 ∙ ap (λ (o : Outcome). then_bytes o.line old.written) allowed.1.2;
+    }
+  where
+    rising : Rising 0 part_numbers
+    rising = search arith
+
 -- a print that is done
 print-done : (old new : Outside) → Ends (wants_of Command.Print) (Refuses Command.Print) (Allows Command.Print) old new Status.Done → TellsAll old.files → IsShown old new
 print-done old new (Ends.Not_fetched stops untouched) tells = absurd stops.cause
@@ -163,5 +229,7 @@ headline-of Command.Learn old new status ends = λ tells is.
     learn-done old new (subst (λ (s : Status). Ends (wants_of Command.Learn) (Refuses Command.Learn) (Allows Command.Learn) old new s) is ends) tells
 headline-of (Command.Gen seed size) old new status ends = λ tells is.
     gen-done seed size old new (subst (λ (s : Status). Ends (wants_of (Command.Gen seed size)) (Refuses (Command.Gen seed size)) (Allows (Command.Gen seed size)) old new s) is ends) tells
+headline-of Command.Sort old new status ends = λ tells is.
+    sort-done old new (subst (λ (s : Status). Ends (wants_of Command.Sort) (Refuses Command.Sort) (Allows Command.Sort) old new s) is ends) tells
 headline-of Command.Print old new status ends = λ tells is.
     print-done old new (subst (λ (s : Status). Ends (wants_of Command.Print) (Refuses Command.Print) (Allows Command.Print) old new s) is ends) tells

@@ -1,14 +1,10 @@
-pub mod Steps
-pub mod Carried
-pub mod Told
-pub mod Others
 pub mod Refusals
+pub mod RefusedCalls
 pub mod Named
 pub mod Causes
-pub mod Calls
 pub mod Exact
+pub mod Sorted
 pub mod Headline
-pub mod Readings
 pub mod ReadBack
 pub mod Playing
 pub mod Rerunning

@@ -1,16 +1,22 @@
 -- The files that a command's outcomes store, by their names.
-use Rattle.std.proofs.Common.{◌≡◌, ◌⊎◌, inl, inr, Bool, true, false, List, [], ◌∷◌, ◌++◌, refl, sym, ap, ◌∙◌, subst, if◌then◌else◌}
+use Rattle.std.proofs.Common.{◌≡◌, ℕ, ◌⊎◌, inl, inr, Bool, true, false, map, List, [], ◌∷◌, ◌++◌, refl, sym, ap, ◌∙◌, subst, if◌then◌else◌}
 use Rattle.std.specs.Prelude.{Option, Some, None}
+use Rattle.std.specs.List.{filter}
+use Rattle.tm_sort.specs.declared.record.Record.{Record}
+use Rattle.tm_sort.specs.declared.rules.Rule.{Rule}
+use Rattle.tm_sort.specs.Parts.{part_numbers, is_part, part_of, named_numbers, parts_of}
 use Rattle.tm_io.specs.declared.names.FileName.{FileName}
 use Rattle.tm_io.specs.Names.{same_name}
-use Rattle.tomoyo.specs.declared.status.Status.{Status}
-use Rattle.tomoyo.specs.declared.carry.Outcome.{Outcome}
+use Rattle.tm_call.specs.declared.status.Status.{Status}
+use Rattle.tm_call.specs.declared.carry.Outcome.{Outcome}
 use Rattle.tomoyo.specs.declared.rerun.RerunTexts.{RerunTexts}
 use Rattle.tomoyo.specs.declared.rerun.Learned.{Learned}
-use Rattle.tomoyo.specs.declared.words.Command.{Command}
-use Rattle.tomoyo.specs.Fetches.{Texts}
-use Rattle.tomoyo.specs.Stores.{names_of, is_named}
-use Rattle.tomoyo.specs.Calls.{Names, StoresOf}
+use Rattle.tomoyo.specs.declared.sort.Sorting.{Sorting}
+use Rattle.tomoyo.specs.Sort.{part_store, sort_outcome}
+use Rattle.tm_call.specs.declared.words.Command.{Command}
+use Rattle.tm_call.specs.Fetches.{Texts}
+use Rattle.tm_call.specs.Stores.{names_of, is_named}
+use Rattle.tm_call.specs.Calls.{Names, StoresOf}
 use Rattle.tomoyo.specs.Call.{stored_by, step_stores, rerun_stores, learn_stores, Allows, StoresBy}
 
 -- the names of an outcome's stores; those of `learn` are those of `step` where it leaves out the rerun
@@ -18,17 +24,28 @@ abbrev pub AreStored : Command → List FileName → Type 0
 AreStored Command.Step names = names ≡ stored_by Command.Step
 AreStored Command.Print names = names ≡ stored_by Command.Print
 AreStored (Command.Gen seed size) names = names ≡ stored_by (Command.Gen seed size)
+AreStored Command.Sort names = (rules : List Rule) × (names ≡ map FileName.AuditPart (named_numbers rules))
 AreStored Command.Learn names = (names ≡ stored_by Command.Learn) ⊎ (names ≡ stored_by Command.Step)
 
 learned-names : (learned : Learned) (rerun : Option RerunTexts) → learned.rerun ≡ rerun → AreStored Command.Learn (names_of (learn_stores learned))
 learned-names learned None e = inr (ap (λ (r : Option RerunTexts). names_of (step_stores learned.played ++ rerun_stores r)) e)
 learned-names learned (Some rerun) e = inl (ap (λ (r : Option RerunTexts). names_of (step_stores learned.played ++ rerun_stores r)) e)
 
+-- the names of parts are those of their numbers
+part-names : (rules : List Rule) (records : List Record) (numbers : List ℕ) → names_of (map part_store (map (part_of rules records) numbers)) ≡ map FileName.AuditPart numbers
+part-names rules records [] = refl
+part-names rules records (n ∷ numbers) = ap (λ (names : List FileName). FileName.AuditPart n ∷ names) (part-names rules records numbers)
+
+sorted-names : (sorting : Sorting) → names_of (sort_outcome sorting).stores ≡ map FileName.AuditPart (named_numbers sorting.rules)
+unfolding parts_of
+sorted-names sorting = part-names sorting.rules sorting.records (named_numbers sorting.rules)
+
 -- an outcome stores the command's files
 pub names-allowed : (command : Command) (texts : Texts) (outcome : Outcome) → Allows command texts outcome → AreStored command (names_of outcome.stores)
 names-allowed Command.Step texts outcome allowed = ap (λ (o : Outcome). names_of o.stores) allowed.1.2
 names-allowed Command.Print texts outcome allowed = ap (λ (o : Outcome). names_of o.stores) allowed.1.2
 names-allowed (Command.Gen seed size) texts outcome allowed = ap (λ (o : Outcome). names_of o.stores) allowed.1.2
+names-allowed Command.Sort texts outcome allowed = (allowed.1.0.rules, ap (λ (o : Outcome). names_of o.stores) allowed.1.2 ∙ sorted-names allowed.1.0)
 names-allowed Command.Learn texts outcome allowed = subst (λ (o : Outcome). AreStored Command.Learn (names_of o.stores)) (sym allowed.1.2) (learned-names allowed.1.0 allowed.1.0.rerun refl)
 
 -- Names of the first files among all
@@ -49,11 +66,34 @@ front-unnamed : (names more : List FileName) (name : FileName) → is_named (nam
 front-unnamed [] more name e = refl
 front-unnamed (other ∷ names) more name e = by-none (same_name other name) (is_named names name) (is_named (names ++ more) name) (front-unnamed names more name) e
 
+-- Names of some parts among all
+
+part-named : (p : ℕ → Bool) (numbers : List ℕ) (name : FileName) → is_named (map FileName.AuditPart (filter p numbers)) name ≡ true → is_named (map FileName.AuditPart numbers) name ≡ true
+part-named p [] name e = e
+part-named p (n ∷ numbers) name e = go (p n) e
+  where
+    here : (b : Bool) → is_named (map FileName.AuditPart numbers) name ≡ true → (if b then true else is_named (map FileName.AuditPart numbers) name) ≡ true
+    here true h = refl
+    here false h = h
+
+    go : (b : Bool) → is_named (map FileName.AuditPart (if b then n ∷ filter p numbers else filter p numbers)) name ≡ true
+        → (if same_name (FileName.AuditPart n) name then true else is_named (map FileName.AuditPart numbers) name) ≡ true
+    go true h = by-test (same_name (FileName.AuditPart n) name) (is_named (map FileName.AuditPart (filter p numbers)) name) (is_named (map FileName.AuditPart numbers) name) (part-named p numbers name) h
+    go false h = here (same_name (FileName.AuditPart n) name) (part-named p numbers name h)
+
+part-unnamed : (p : ℕ → Bool) (numbers : List ℕ) (name : FileName) → is_named (map FileName.AuditPart numbers) name ≡ false → is_named (map FileName.AuditPart (filter p numbers)) name ≡ false
+part-unnamed p numbers name e = go (is_named (map FileName.AuditPart (filter p numbers)) name) refl
+  where
+    go : (b : Bool) → is_named (map FileName.AuditPart (filter p numbers)) name ≡ b → b ≡ false
+    go false h = refl
+    go true h = sym (part-named p numbers name h) ∙ e
+
 -- a name of the stores is one of the command's files
 pub named-by : (command : Command) (names : List FileName) (name : FileName) → AreStored command names → is_named names name ≡ true → is_named (stored_by command) name ≡ true
 named-by Command.Step names name is e = ap (λ (ns : List FileName). is_named ns name) (sym is) ∙ e
 named-by Command.Print names name is e = ap (λ (ns : List FileName). is_named ns name) (sym is) ∙ e
 named-by (Command.Gen seed size) names name is e = ap (λ (ns : List FileName). is_named ns name) (sym is) ∙ e
+named-by Command.Sort names name (rules, is) e = part-named (is_part rules) part_numbers name (ap (λ (ns : List FileName). is_named ns name) (sym is) ∙ e)
 named-by Command.Learn names name (inl is) e = ap (λ (ns : List FileName). is_named ns name) (sym is) ∙ e
 named-by Command.Learn names name (inr is) e = front-named (stored_by Command.Step) (FileName.Run2 ∷ FileName.Audit2 ∷ []) name (ap (λ (ns : List FileName). is_named ns name) (sym is) ∙ e)
 
@@ -62,7 +102,8 @@ pub unnamed-by : (command : Command) (names : List FileName) (name : FileName) �
 unnamed-by Command.Step names name is e = ap (λ (ns : List FileName). is_named ns name) is ∙ e
 unnamed-by Command.Print names name is e = ap (λ (ns : List FileName). is_named ns name) is ∙ e
 unnamed-by (Command.Gen seed size) names name is e = ap (λ (ns : List FileName). is_named ns name) is ∙ e
-unnamed-by Command.Learn names name (inl is) e = ap (λ (ns : List FileName). is_named ns name) is ∙ e
+unnamed-by Command.Sort names name (rules, is) e = part-named (is_part rules) part_numbers name (ap (λ (ns : List FileName). is_named ns name) (sym is) ∙ e)
+named-by Command.Learn names name (inl is) e = ap (λ (ns : List FileName). is_named ns name) is ∙ e
 unnamed-by Command.Learn names name (inr is) e = ap (λ (ns : List FileName). is_named ns name) is ∙ front-unnamed (stored_by Command.Step) (FileName.Run2 ∷ FileName.Audit2 ∷ []) name e
 
 -- Calls
@@ -72,6 +113,7 @@ pub stores-by : (command : Command) (names : List FileName) (status : Status) (a
 stores-by Command.Step names status a b is h = subst (λ (ns : List FileName). StoresOf ns status a b) is h
 stores-by Command.Print names status a b is h = subst (λ (ns : List FileName). StoresOf ns status a b) is h
 stores-by (Command.Gen seed size) names status a b is h = subst (λ (ns : List FileName). StoresOf ns status a b) is h
+stores-by Command.Sort names status a b (rules, is) h = (rules, subst (λ (ns : List FileName). StoresOf ns status a b) is h)
 stores-by Command.Learn names status a b (inl is) h = inl (subst (λ (ns : List FileName). StoresOf ns status a b) is h)
 stores-by Command.Learn names status a b (inr is) h = inr (subst (λ (ns : List FileName). StoresOf ns status a b) is h)
 
@@ -80,4 +122,5 @@ pub stores-whichever : (command : Command) (status : Status) (a b : Names) → (
 stores-whichever Command.Step status a b h = h (stored_by Command.Step)
 stores-whichever Command.Print status a b h = h (stored_by Command.Print)
 stores-whichever (Command.Gen seed size) status a b h = h (stored_by (Command.Gen seed size))
+stores-whichever Command.Sort status a b h = ([], h (map FileName.AuditPart (named_numbers [])))
 stores-whichever Command.Learn status a b h = inl (h (stored_by Command.Learn))

@@ -13,11 +13,11 @@ use Rattle.tm_legal.specs.Play as core
 use Rattle.tm_machine.specs.Machine.{Course}
 use Rattle.tm_core.specs.Scenes.{IsReached}
 use Rattle.tm_core.specs.Scenes as scenes
-use Rattle.tomoyo.specs.declared.status.Status.{Status}
+use Rattle.tm_call.specs.declared.status.Status.{Status}
 use Rattle.tomoyo.specs.declared.play.Played.{Played}
-use Rattle.tomoyo.specs.declared.reading.Loaded.{Loaded}
-use Rattle.tomoyo.specs.Fetches.{Texts}
-use Rattle.tomoyo.specs.Reading.{status_cause, refused, step_reading, step_refusal, RefusedBy, start_of, scene_of}
+use Rattle.tm_call_input.specs.declared.reading.Loaded.{Loaded}
+use Rattle.tm_call.specs.Fetches.{Texts}
+use Rattle.tm_call_input.specs.Reading.{status_cause, refused, step_reading, step_refusal, RefusedBy, start_of, scene_of}
 use Rattle.tomoyo.specs.Play.{IsPlayOf, IsPrinted, PlaysLoaded}
 
 -- a player at its start is one that no turn has led to
@@ -53,19 +53,3 @@ printed-so loaded run last opening (Ok played) h same texts =
       printed = subst (λ (l : Policy). IsPrinted run loaded.policy l played) (sym h.ends) (subst (λ (o : Policy). IsPrinted run o last played) same texts);
     }
 printed-so loaded run last opening (Err error) h same texts = tt
-
--- a reading that fails is refused
-pub refuses : (texts : Texts) (status : Status) → Fails (status_cause status) (step_reading texts) → RefusedBy (step_refusal texts) status
-unfolding step_refusal
-refuses texts Status.OutOfMemory h = tt
-refuses texts Status.Done h = ap refused h
-refuses texts (Status.BadWords place) h = ap refused h
-refuses texts (Status.ReadFault name) h = ap refused h
-refuses texts (Status.Absent name) h = ap refused h
-refuses texts (Status.TooLong name) h = ap refused h
-refuses texts (Status.BadPolicy file line reply) h = ap refused h
-refuses texts (Status.UndefinedProfile domain) h = ap refused h
-refuses texts (Status.BadTrace line kind) h = ap refused h
-refuses texts (Status.BadScript name line kind) h = ap refused h
-refuses texts (Status.TooMany what) h = ap refused h
-refuses texts (Status.WriteFault name) h = ap refused h

@@ -18,13 +18,13 @@ use Rattle.tm_run.specs.Reading.{run_of}
 use Rattle.tm_run.specs.Typed.{is_typed}
 use Rattle.tm_run_laws.specs.Scenes.{IsReadScene}
 use Rattle.tm_run_laws.proofs.Runs.{play_read}
-use Rattle.tomoyo.specs.declared.reading.Loaded.{Loaded}
+use Rattle.tm_call_input.specs.declared.reading.Loaded.{Loaded}
 use Rattle.tomoyo.specs.declared.rerun.Learned.{Learned}
 use Rattle.tomoyo.specs.declared.rerun.RerunTexts.{RerunTexts}
-use Rattle.tomoyo.specs.Fetches.{Texts, content}
-use Rattle.tomoyo.specs.Reading.{homeless, step_reading, scene_of}
+use Rattle.tm_call.specs.Fetches.{Texts, content}
+use Rattle.tm_call_input.specs.Reading.{homeless, scene_of}
 use Rattle.tomoyo.specs.Rerun.{again, CanRerun, Reruns, LearnsLoaded, IsReadBack}
-use Rattle.tomoyo.proofs.Readings.{parts-read, can-play}
+use Rattle.tm_call_input.proofs.Readings.{AreRead, can-play}
 use Rattle.tomoyo.proofs.Rerunning.{rerun-needs, can-rerun}
 
 -- what a switched policy keeps: it is opened where the policy is, and has its domains, which are found at the same numbers
@@ -38,22 +38,21 @@ abbrev pub FindsDomains : Type 0
 FindsDomains = (policy : Policy) (name : DomainName) → live_domain (switched policy) name ≡ live_domain policy name
 
 -- what was read is a scene as the readers give it
-pub read-scene : (texts : Texts) (loaded : Loaded) → step_reading texts ≡ Ok loaded → IsReadScene (scene_of loaded)
-read-scene texts loaded e =
-    let read = parts-read texts loaded e in
+pub read-scene : (texts : Texts) (loaded : Loaded) → AreRead texts loaded → IsReadScene (scene_of loaded)
+read-scene texts loaded read =
     record {
       grammar = refl;
-      can_play = can-play texts loaded e;
+      can_play = can-play texts loaded read;
       trace = trace_read (content texts FileName.Trace) loaded.trace read.trace;
       editors = editors_right (content texts FileName.Edits) loaded.editors read.editors;
     }
 
 -- a stored text is read back as the run that it is the text of
-pub read-back : (texts : Texts) (loaded : Loaded) (run : Run) (text : Text) → step_reading texts ≡ Ok loaded → core.Plays (scene_of loaded) loaded.schedule run → is_typed run ≡ true → text ≡ run_text run → run_of text ≡ Ok run
+pub read-back : (texts : Texts) (loaded : Loaded) (run : Run) (text : Text) → AreRead texts loaded → core.Plays (scene_of loaded) loaded.schedule run → is_typed run ≡ true → text ≡ run_text run → run_of text ≡ Ok run
 read-back texts loaded run text e plays typed is = ap run_of is ∙ play_read (scene_of loaded) loaded.schedule run (read-scene texts loaded e) plays typed
 
 -- what a rerun plays is a scene as the readers give it: its trace is the one that was read, and its opening the switched final policy
-rerun-scene : (texts : Texts) (loaded : Loaded) (run : Run) → StaysOpened → KeepsDomains → FindsDomains → step_reading texts ≡ Ok loaded → core.Plays (scene_of loaded) loaded.schedule run → Legal (scene_of loaded) run
+rerun-scene : (texts : Texts) (loaded : Loaded) (run : Run) → StaysOpened → KeepsDomains → FindsDomains → AreRead texts loaded → core.Plays (scene_of loaded) loaded.schedule run → Legal (scene_of loaded) run
     → homeless (final_policy (scene_of loaded) run) loaded.trace ≡ None → IsReadScene (again (final_policy (scene_of loaded) run) loaded.trace)
 rerun-scene texts loaded run opened domains live e plays legal homes =
     let first : IsReadScene (scene_of loaded) = read-scene texts loaded e in
@@ -67,7 +66,7 @@ rerun-scene texts loaded run opened domains live e plays legal homes =
     }
 
 -- the stored text of a rerun is read back as the run that the trace plays again
-pub rerun-read-back : (texts : Texts) (loaded : Loaded) (learned : Learned) → StaysOpened → KeepsDomains → FindsDomains → step_reading texts ≡ Ok loaded → (h : LearnsLoaded loaded learned)
+pub rerun-read-back : (texts : Texts) (loaded : Loaded) (learned : Learned) → StaysOpened → KeepsDomains → FindsDomains → AreRead texts loaded → (h : LearnsLoaded loaded learned)
     → IsReadBack (final_policy (scene_of loaded) h.run) loaded.trace h.run learned.rerun h.rerun
 rerun-read-back texts loaded learned opened domains live e h = go learned.rerun h.rerun
   where

@@ -1,189 +1,184 @@
--- What is refused, and what is stored.
-use Rattle.std.proofs.Common.{◌≡◌, ℕ, Option, Some, None, Result, Ok, Err, ap, refl, subst, ◌⊎◌, inl, inr, length}
-use Rattle.std.specs.Prelude.{unwrap_or}
-use Rattle.tm_word.specs.Words.{Text}
+-- What commands refuse, and why.
+use Rattle.std.proofs.Common.{◌≡◌, ℕ, Bool, true, false, Option, Some, None, Result, Ok, Err, refl, subst, ◌⊎◌, inl, inr, length, List, nat_lt, if◌then◌else◌}
 use Rattle.tm_word.specs.Gives.{◌>>=◌}
 use Rattle.tm_io.specs.declared.names.FileName.{FileName}
-use Rattle.tomoyo.specs.declared.status.Status.{Status}
-use Rattle.tomoyo.specs.declared.status.What.{What}
-use Rattle.tomoyo.specs.declared.reading.Loaded.{Loaded}
-use Rattle.tomoyo.specs.declared.words.Command.{Command}
 use Rattle.tm_io.specs.Files.{Files}
-use Rattle.tm_types.specs.declared.policy.Policy.{Policy}
 use Rattle.tm_types.specs.declared.request.ScriptKind.{ScriptKind}
 use Rattle.tm_types.specs.declared.request.TraceKind.{TraceKind}
 use Rattle.tm_types.specs.declared.step.FileKind.{FileKind}
 use Rattle.tm_types.specs.declared.step.EditReply.{EditReply}
 use Rattle.tm_types.specs.declared.step.LoadFault.{LoadFault}
-use Rattle.tm_trace.specs.Reading.{trace_of, tree_line_at}
-use Rattle.tm_script.specs.Edits.{edits_of}
-use Rattle.tm_script.specs.Answers.{answers_of}
-use Rattle.tm_script.specs.Schedule.{schedule_of}
-use Rattle.tomoyo.specs.Fetches.{Texts, AllGiven, content}
-use Rattle.tomoyo.specs.Print.{policy_of, fault_status, load_refusal}
-use Rattle.tomoyo.specs.Reading.{of_policy, of_trace, of_script, excess, homeless, within_limits, with_homes, refused, step_reading, step_refusal}
-use Rattle.tomoyo.specs.Call.{wants_of, generated_files, played_by, refusal_of, IsLoadFault, IsStepFault}
+use Rattle.tm_sort.specs.declared.record.Record.{Record}
+use Rattle.tm_sort.specs.declared.rules.Rule.{Rule}
+use Rattle.tm_sort.specs.Records.{records_of}
+use Rattle.tm_sort.specs.Rules.{rules_of}
+use Rattle.tm_call.specs.declared.status.Status.{Status}
+use Rattle.tm_call.specs.declared.status.What.{What}
+use Rattle.tm_call.specs.declared.words.Command.{Command}
+use Rattle.tm_call.specs.declared.fetches.Want.{Want}
+use Rattle.tm_call.specs.Fetches.{Texts, AllGiven, content}
+use Rattle.tm_call_input.specs.Policies.{policy_of}
+use Rattle.tm_call_input.specs.Reading.{refused}
+use Rattle.tm_call_input.proofs.Refusals.{IsLater, failed, was-refused, step-refused, load-refused, step-kind, HasFault, early, fault-line, fault-undefined, fault-early, IsRefusal}
+use Rattle.tomoyo.specs.Sort.{of_audit, of_rules, few_rules, sort_reading}
+use Rattle.tomoyo.specs.Call.{wants_of, refusal_of, IsLoadFault, IsStepFault, IsSortFault}
 
--- What `step` refuses
+-- What `sort` refuses
 
--- the statuses of faults beside the policy
-abbrev IsLater : Status → Type 0
-IsLater (Status.BadTrace line kind) = Unit {0}
-IsLater (Status.BadScript name line kind) = Unit {0}
-IsLater (Status.TooMany what) = Unit {0}
-IsLater _ = ⊥
+abbrev pub IsSortRefusal : Status → Type 0
+IsSortRefusal (Status.BadAudit line) = Unit {0}
+IsSortRefusal (Status.BadRules line kind) = Unit {0}
+IsSortRefusal (Status.TooMany What.Rules) = Unit {0}
+IsSortRefusal _ = ⊥
 
--- a reading in two steps fails as its first step or as its second
-failed : {A B : Type 0} (P : Status → Type 0) (r : Result A Status) (f : A → Result B Status) (status : Status) → ((s : Status) → r ≡ Err s → P s) → ((x : A) → f x ≡ Err status → P status) → (r >>= f) ≡ Err status → P status
-failed P (Ok x) f status first second e = second x e
-failed P (Err s) f status first second e = let same : s ≡ status = cc in subst P same (first s refl)
+audit-fails : {A : Type 0} (r : Result A ℕ) (status : Status) → of_audit r ≡ Err status → IsSortRefusal status
+audit-fails (Ok x) status e = absurd cc
+audit-fails (Err line) status e = let same : Status.BadAudit line ≡ status = cc in subst (λ (s : Status). IsSortRefusal s) same tt
 
-trace-later : {A : Type 0} (r : Result A (ℕ × TraceKind)) (status : Status) → of_trace r ≡ Err status → IsLater status
-trace-later (Ok x) status e = absurd cc
-trace-later (Err fault) status e = let same : Status.BadTrace fault.0 fault.1 ≡ status = cc in subst (λ (s : Status). IsLater s) same tt
+rules-fail : {A : Type 0} (r : Result A (ℕ × ScriptKind)) (status : Status) → of_rules r ≡ Err status → IsSortRefusal status
+rules-fail (Ok x) status e = absurd cc
+rules-fail (Err fault) status e = let same : Status.BadRules fault.0 fault.1 ≡ status = cc in subst (λ (s : Status). IsSortRefusal s) same tt
 
-script-later : {A : Type 0} (name : FileName) (r : Result A (ℕ × ScriptKind)) (status : Status) → of_script name r ≡ Err status → IsLater status
-script-later name (Ok x) status e = absurd cc
-script-later name (Err fault) status e = let same : Status.BadScript name fault.0 fault.1 ≡ status = cc in subst (λ (s : Status). IsLater s) same tt
+many-fail : (rules : List Rule) (records : List Record) (status : Status) → few_rules rules records ≡ Err status → IsSortRefusal status
+many-fail rules records status e = go (nat_lt 256 (length rules)) e
+  where
+    go : (many : Bool) → (if many then Err (Status.TooMany What.Rules) else Ok (record { rules = rules; records = records })) ≡ Err status → IsSortRefusal status
+    go true h = let same : Status.TooMany What.Rules ≡ status = cc in subst (λ (s : Status). IsSortRefusal s) same tt
+    go false h = absurd cc
 
-limits-later : (o : Option What) (loaded : Loaded) (status : Status) → within_limits o loaded ≡ Err status → IsLater status
-limits-later None loaded status e = absurd cc
-limits-later (Some what) loaded status e = let same : Status.TooMany what ≡ status = cc in subst (λ (s : Status). IsLater s) same tt
-
-homes-later : (text : Text) (o : Option ℕ) (loaded : Loaded) (status : Status) → with_homes text o loaded ≡ Err status → IsLater status
-homes-later text None loaded status e = absurd cc
-homes-later text (Some place) loaded status e = let same : Status.BadTrace (unwrap_or (tree_line_at text place) 0) TraceKind.NoDomain ≡ status = cc in subst (λ (s : Status). IsLater s) same tt
-
--- how a reading of the policy and of what comes after it fails
-abbrev FailsSo : Texts → Status → Type 0
-FailsSo texts status = ((fault : LoadFault) × (policy_of texts ≡ Err fault) × (fault_status fault ≡ status)) ⊎ IsLater status
-
-policy-fails : {A : Type 0} (r : Result Policy LoadFault) (f : Policy → Result A Status) (status : Status) → ((policy : Policy) → f policy ≡ Err status → IsLater status) → (of_policy r >>= f) ≡ Err status
-    → ((fault : LoadFault) × (r ≡ Err fault) × (fault_status fault ≡ status)) ⊎ IsLater status
-policy-fails (Ok policy) f status later e = inr (later policy e)
-policy-fails (Err fault) f status later e = let same : fault_status fault ≡ status = cc in inl (fault, refl, same)
-
-step-fails : (texts : Texts) (status : Status) → step_reading texts ≡ Err status → FailsSo texts status
-unfolding step_reading
-step-fails texts status e =
-    policy-fails (policy_of texts) _ status
-    (λ policy after_policy. failed IsLater (of_trace (trace_of (content texts FileName.Trace))) _ status (trace-later (trace_of (content texts FileName.Trace)))
-    (λ trace after_trace. failed IsLater (of_script FileName.Edits (edits_of (content texts FileName.Edits))) _ status (script-later FileName.Edits (edits_of (content texts FileName.Edits)))
-    (λ editors after_editors. failed IsLater (of_script FileName.Answers (answers_of (content texts FileName.Answers))) _ status (script-later FileName.Answers (answers_of (content texts FileName.Answers)))
-    (λ book after_book. failed IsLater (of_script FileName.Schedule (schedule_of (length trace) (length editors) (content texts FileName.Schedule))) _ status
-    (script-later FileName.Schedule (schedule_of (length trace) (length editors) (content texts FileName.Schedule)))
-    (λ schedule after_schedule.
-    let read : Loaded = record { policy = policy; trace = trace; editors = editors; book = book; schedule = schedule } in
-    failed IsLater (within_limits (excess read) read) (λ few. with_homes (content texts FileName.Trace) (homeless few.policy few.trace) few) status (limits-later (excess read) read)
-    (λ few after_limits. homes-later (content texts FileName.Trace) (homeless few.policy few.trace) few status after_limits) after_schedule) after_book) after_editors) after_trace) after_policy) e
-
-was-refused : (r : Result Loaded Status) (status : Status) → refused r ≡ Some status → r ≡ Err status
-was-refused (Ok loaded) status e = absurd cc
-was-refused (Err s) status e = let same : s ≡ status = cc in ap (λ x. Err x) same
-
-step-refused : (texts : Texts) (status : Status) → step_refusal texts ≡ Some status → FailsSo texts status
-unfolding step_refusal
-step-refused texts status e = step-fails texts status (was-refused (step_reading texts) status e)
+sort-refused : (texts : Texts) (status : Status) → refused (sort_reading texts) ≡ Some status → IsSortRefusal status
+unfolding sort_reading
+sort-refused texts status e =
+    failed IsSortRefusal (of_audit (records_of (content texts FileName.Audit))) _ status (audit-fails (records_of (content texts FileName.Audit)))
+    (λ records after_records. failed IsSortRefusal (of_rules (rules_of (content texts FileName.Sorter))) _ status (rules-fail (rules_of (content texts FileName.Sorter)))
+    (λ rules after_rules. many-fail rules records status after_rules) after_records) (was-refused (sort_reading texts) status e)
 
 -- The statuses of refusals
 
-abbrev pub IsRefusal : Status → Type 0
-IsRefusal (Status.BadPolicy file line reply) = Unit {0}
-IsRefusal (Status.UndefinedProfile domain) = Unit {0}
-IsRefusal (Status.BadTrace line kind) = Unit {0}
-IsRefusal (Status.BadScript name line kind) = Unit {0}
-IsRefusal (Status.TooMany what) = Unit {0}
-IsRefusal Status.OutOfMemory = Unit {0}
-IsRefusal _ = ⊥
+abbrev pub IsRefused : Status → Type 0
+IsRefused (Status.BadPolicy file line reply) = Unit {0}
+IsRefused (Status.UndefinedProfile domain) = Unit {0}
+IsRefused (Status.BadTrace line kind) = Unit {0}
+IsRefused (Status.BadScript name line kind) = Unit {0}
+IsRefused (Status.TooMany what) = Unit {0}
+IsRefused Status.OutOfMemory = Unit {0}
+IsRefused (Status.BadRules line kind) = Unit {0}
+IsRefused (Status.BadAudit line) = Unit {0}
+IsRefused _ = ⊥
 
-fault-kind : (fault : LoadFault) → IsRefusal (fault_status fault)
-fault-kind (LoadFault.Line file line reply) = tt
-fault-kind (LoadFault.UndefinedProfile domain) = tt
-fault-kind LoadFault.NoMemory = tt
+of-reading : (status : Status) → IsRefusal status → IsRefused status
+of-reading Status.Done h = absurd h
+of-reading (Status.BadWords place) h = absurd h
+of-reading (Status.ReadFault name) h = absurd h
+of-reading (Status.Absent name) h = absurd h
+of-reading (Status.TooLong name) h = absurd h
+of-reading (Status.BadPolicy file line reply) h = tt
+of-reading (Status.UndefinedProfile domain) h = tt
+of-reading (Status.BadTrace line kind) h = tt
+of-reading (Status.BadScript name line kind) h = tt
+of-reading (Status.TooMany what) h = tt
+of-reading (Status.WriteFault name) h = absurd h
+of-reading Status.OutOfMemory h = tt
+of-reading (Status.BadRules line kind) h = tt
+of-reading (Status.BadAudit line) h = tt
 
-later-kind : (status : Status) → IsLater status → IsRefusal status
-later-kind (Status.BadTrace line kind) h = tt
-later-kind (Status.BadScript name line kind) h = tt
-later-kind (Status.TooMany what) h = tt
-later-kind Status.Done h = h
-later-kind (Status.BadWords place) h = h
-later-kind (Status.ReadFault name) h = h
-later-kind (Status.Absent name) h = h
-later-kind (Status.TooLong name) h = h
-later-kind (Status.BadPolicy file line reply) h = tt
-later-kind (Status.UndefinedProfile domain) h = tt
-later-kind (Status.WriteFault name) h = h
-later-kind Status.OutOfMemory h = tt
+of-sorting : (status : Status) → IsSortRefusal status → IsRefused status
+of-sorting Status.Done h = absurd h
+of-sorting (Status.BadWords place) h = absurd h
+of-sorting (Status.ReadFault name) h = absurd h
+of-sorting (Status.Absent name) h = absurd h
+of-sorting (Status.TooLong name) h = absurd h
+of-sorting (Status.BadPolicy file line reply) h = tt
+of-sorting (Status.UndefinedProfile domain) h = tt
+of-sorting (Status.BadTrace line kind) h = tt
+of-sorting (Status.BadScript name line kind) h = tt
+of-sorting (Status.TooMany what) h = tt
+of-sorting (Status.WriteFault name) h = absurd h
+of-sorting Status.OutOfMemory h = tt
+of-sorting (Status.BadRules line kind) h = tt
+of-sorting (Status.BadAudit line) h = tt
 
-step-kind : (texts : Texts) (status : Status) → FailsSo texts status → IsRefusal status
-step-kind texts status (inl h) = subst (λ (s : Status). IsRefusal s) h.2 (fault-kind h.0)
-step-kind texts status (inr later) = later-kind status later
-
--- a fault of loading, by the refusal
-load-refused : (r : Result Policy LoadFault) (status : Status) → load_refusal r ≡ Some status → (fault : LoadFault) × (r ≡ Err fault) × (fault_status fault ≡ status)
-load-refused (Ok policy) status e = absurd cc
-load-refused (Err fault) status e = let same : fault_status fault ≡ status = cc in (fault, refl, same)
-
-pub refusal-kind : (command : Command) (texts : Texts) (status : Status) → refusal_of command texts ≡ Some status → IsRefusal status
-refusal-kind Command.Step texts status e = step-kind texts status (step-refused texts status e)
-refusal-kind Command.Learn texts status e = step-kind texts status (step-refused texts status e)
-refusal-kind (Command.Gen seed size) texts status e = step-kind (generated_files seed size) status (step-refused (generated_files seed size) status e)
-refusal-kind Command.Print texts status e = step-kind texts status (inl (load-refused (policy_of texts) status e))
+pub refusal-kind : (command : Command) (texts : Texts) (status : Status) → refusal_of command texts ≡ Some status → IsRefused status
+refusal-kind Command.Step texts status e = of-reading status (step-kind texts status (step-refused texts status e))
+refusal-kind Command.Learn texts status e = of-reading status (step-kind texts status (step-refused texts status e))
+refusal-kind (Command.Gen seed size) texts status e = absurd cc
+refusal-kind Command.Sort texts status e = of-sorting status (sort-refused texts status e)
+refusal-kind Command.Print texts status e = of-reading status (step-kind texts status (inl (load-refused (policy_of texts) status e)))
 
 -- The causes of the statuses of refusals
 
-abbrev HasFault : Texts → Status → Type 0
-HasFault texts status = (fault : LoadFault) × (policy_of texts ≡ Err fault) × (fault_status fault ≡ status)
-
-early : (texts : Texts) (status : Status) → ¬ IsLater status → FailsSo texts status → HasFault texts status
-early texts status not_later (inl h) = h
-early texts status not_later (inr later) = absurd (not_later later)
-
-loaded-so : (command : Command) (texts : Texts) (status : Status) → ¬ IsLater status → refusal_of command texts ≡ Some status → HasFault (played_by command texts) status
-loaded-so Command.Step texts status not_later e = early texts status not_later (step-refused texts status e)
-loaded-so Command.Learn texts status not_later e = early texts status not_later (step-refused texts status e)
-loaded-so (Command.Gen seed size) texts status not_later e = early (generated_files seed size) status not_later (step-refused (generated_files seed size) status e)
-loaded-so Command.Print texts status not_later e = load-refused (policy_of texts) status e
-
-fault-line : (fault : LoadFault) (file : FileKind) (line : ℕ) (reply : EditReply) → fault_status fault ≡ Status.BadPolicy file line reply → fault ≡ LoadFault.Line file line reply
-fault-line (LoadFault.Line f n y) file line reply e = cc
-fault-line (LoadFault.UndefinedProfile domain) file line reply e = cc
-fault-line LoadFault.NoMemory file line reply e = cc
-
-fault-undefined : (fault : LoadFault) (domain : ℕ) → fault_status fault ≡ Status.UndefinedProfile domain → fault ≡ LoadFault.UndefinedProfile domain
-fault-undefined (LoadFault.Line f n y) domain e = cc
-fault-undefined (LoadFault.UndefinedProfile d) domain e = cc
-fault-undefined LoadFault.NoMemory domain e = cc
+-- what a line of a policy file is refused with
+line-fault : (wants : List Want) (files : Files) (texts : Texts) (file : FileKind) (line : ℕ) (reply : EditReply) → AllGiven files wants texts → HasFault texts (Status.BadPolicy file line reply)
+    → (ts : Texts) × AllGiven files wants ts × (policy_of ts ≡ Err (LoadFault.Line file line reply))
+line-fault wants files texts file line reply given (fault, is, same) =
+    (texts, given, subst (λ (f : LoadFault). policy_of texts ≡ Err f) (fault-line fault file line reply same) is)
 
 pub bad-policy : (command : Command) (files : Files) (texts : Texts) (file : FileKind) (line : ℕ) (reply : EditReply) → AllGiven files (wants_of command) texts → refusal_of command texts ≡ Some (Status.BadPolicy file line reply)
     → IsLoadFault command files (LoadFault.Line file line reply)
-bad-policy command files texts file line reply given e =
-    let (fault, is, same) = loaded-so command texts (Status.BadPolicy file line reply) (λ h. h) e in
-    (texts, given, subst (λ (f : LoadFault). policy_of (played_by command texts) ≡ Err f) (fault-line fault file line reply same) is)
+bad-policy Command.Step files texts file line reply given e =
+    line-fault (wants_of Command.Step) files texts file line reply given (early texts (Status.BadPolicy file line reply) (λ h. h) (step-refused texts (Status.BadPolicy file line reply) e))
+bad-policy Command.Learn files texts file line reply given e =
+    line-fault (wants_of Command.Learn) files texts file line reply given (early texts (Status.BadPolicy file line reply) (λ h. h) (step-refused texts (Status.BadPolicy file line reply) e))
+bad-policy Command.Print files texts file line reply given e =
+    line-fault (wants_of Command.Print) files texts file line reply given (load-refused (policy_of texts) (Status.BadPolicy file line reply) e)
+bad-policy Command.Sort files texts file line reply given e = absurd (sort-refused texts (Status.BadPolicy file line reply) e)
+bad-policy (Command.Gen seed size) files texts file line reply given e = absurd cc
 
-pub undefined-profile : (command : Command) (files : Files) (texts : Texts) (domain : ℕ) → AllGiven files (wants_of command) texts → refusal_of command texts ≡ Some (Status.UndefinedProfile domain) → IsLoadFault command files (LoadFault.UndefinedProfile domain)
-undefined-profile command files texts domain given e =
-    let (fault, is, same) = loaded-so command texts (Status.UndefinedProfile domain) (λ h. h) e in
-    (texts, given, subst (λ (f : LoadFault). policy_of (played_by command texts) ≡ Err f) (fault-undefined fault domain same) is)
+-- a live domain without its profile
+domain-fault : (wants : List Want) (files : Files) (texts : Texts) (domain : ℕ) → AllGiven files wants texts → HasFault texts (Status.UndefinedProfile domain)
+    → (ts : Texts) × AllGiven files wants ts × (policy_of ts ≡ Err (LoadFault.UndefinedProfile domain))
+domain-fault wants files texts domain given (fault, is, same) =
+    (texts, given, subst (λ (f : LoadFault). policy_of texts ≡ Err f) (fault-undefined fault domain same) is)
+
+pub undefined-profile : (command : Command) (files : Files) (texts : Texts) (domain : ℕ) → AllGiven files (wants_of command) texts → refusal_of command texts ≡ Some (Status.UndefinedProfile domain)
+    → IsLoadFault command files (LoadFault.UndefinedProfile domain)
+undefined-profile Command.Step files texts domain given e =
+    domain-fault (wants_of Command.Step) files texts domain given (early texts (Status.UndefinedProfile domain) (λ h. h) (step-refused texts (Status.UndefinedProfile domain) e))
+undefined-profile Command.Learn files texts domain given e =
+    domain-fault (wants_of Command.Learn) files texts domain given (early texts (Status.UndefinedProfile domain) (λ h. h) (step-refused texts (Status.UndefinedProfile domain) e))
+undefined-profile Command.Print files texts domain given e =
+    domain-fault (wants_of Command.Print) files texts domain given (load-refused (policy_of texts) (Status.UndefinedProfile domain) e)
+undefined-profile Command.Sort files texts domain given e = absurd (sort-refused texts (Status.UndefinedProfile domain) e)
+undefined-profile (Command.Gen seed size) files texts domain given e = absurd cc
 
 -- `print` has no fault beside the policy
-fault-early : (fault : LoadFault) (status : Status) → fault_status fault ≡ status → ¬ IsLater status
-fault-early (LoadFault.Line file line reply) status e = subst (λ (s : Status). ¬ IsLater s) e (λ h. h)
-fault-early (LoadFault.UndefinedProfile domain) status e = subst (λ (s : Status). ¬ IsLater s) e (λ h. h)
-fault-early LoadFault.NoMemory status e = subst (λ (s : Status). ¬ IsLater s) e (λ h. h)
+print-early : (texts : Texts) (status : Status) → IsLater status → refusal_of Command.Print texts ≡ Some status → ⊥
+print-early texts status later e = let (fault, is, same) = load-refused (policy_of texts) status e in fault-early fault status same later
 
-step-fault : (command : Command) (files : Files) (texts : Texts) (status : Status) → IsLater status → AllGiven files (wants_of command) texts → refusal_of command texts ≡ Some status → IsStepFault command files status
-step-fault Command.Step files texts status later given e = (texts, given, e)
-step-fault Command.Learn files texts status later given e = (texts, given, e)
-step-fault (Command.Gen seed size) files texts status later given e = e
-step-fault Command.Print files texts status later given e = let (fault, is, same) = load-refused (policy_of texts) status e in absurd (fault-early fault status same later)
-
-pub bad-trace : (command : Command) (files : Files) (texts : Texts) (line : ℕ) (kind : TraceKind) → AllGiven files (wants_of command) texts → refusal_of command texts ≡ Some (Status.BadTrace line kind) → IsStepFault command files (Status.BadTrace line kind)
-bad-trace command files texts line kind given e = step-fault command files texts (Status.BadTrace line kind) tt given e
+pub bad-trace : (command : Command) (files : Files) (texts : Texts) (line : ℕ) (kind : TraceKind) → AllGiven files (wants_of command) texts → refusal_of command texts ≡ Some (Status.BadTrace line kind)
+    → IsStepFault command files (Status.BadTrace line kind)
+bad-trace Command.Step files texts line kind given e = (texts, given, e)
+bad-trace Command.Learn files texts line kind given e = (texts, given, e)
+bad-trace Command.Print files texts line kind given e = print-early texts (Status.BadTrace line kind) tt e
+bad-trace Command.Sort files texts line kind given e = sort-refused texts (Status.BadTrace line kind) e
+bad-trace (Command.Gen seed size) files texts line kind given e = absurd cc
 
 pub bad-script : (command : Command) (files : Files) (texts : Texts) (name : FileName) (line : ℕ) (kind : ScriptKind) → AllGiven files (wants_of command) texts → refusal_of command texts ≡ Some (Status.BadScript name line kind)
     → IsStepFault command files (Status.BadScript name line kind)
-bad-script command files texts name line kind given e = step-fault command files texts (Status.BadScript name line kind) tt given e
+bad-script Command.Step files texts name line kind given e = (texts, given, e)
+bad-script Command.Learn files texts name line kind given e = (texts, given, e)
+bad-script Command.Print files texts name line kind given e = print-early texts (Status.BadScript name line kind) tt e
+bad-script Command.Sort files texts name line kind given e = sort-refused texts (Status.BadScript name line kind) e
+bad-script (Command.Gen seed size) files texts name line kind given e = absurd cc
 
-pub too-many : (command : Command) (files : Files) (texts : Texts) (what : What) → AllGiven files (wants_of command) texts → refusal_of command texts ≡ Some (Status.TooMany what) → IsStepFault command files (Status.TooMany what)
-too-many command files texts what given e = step-fault command files texts (Status.TooMany what) tt given e
+pub too-many : (command : Command) (files : Files) (texts : Texts) (what : What) → AllGiven files (wants_of command) texts → refusal_of command texts ≡ Some (Status.TooMany what)
+    → IsStepFault command files (Status.TooMany what) ⊎ IsSortFault command files (Status.TooMany what)
+too-many Command.Step files texts what given e = inl (texts, given, e)
+too-many Command.Learn files texts what given e = inl (texts, given, e)
+too-many Command.Print files texts what given e = absurd (print-early texts (Status.TooMany what) tt e)
+too-many Command.Sort files texts what given e = inr (texts, given, e)
+too-many (Command.Gen seed size) files texts what given e = absurd cc
+
+pub bad-rules : (command : Command) (files : Files) (texts : Texts) (line : ℕ) (kind : ScriptKind) → AllGiven files (wants_of command) texts → refusal_of command texts ≡ Some (Status.BadRules line kind) → IsSortFault command files (Status.BadRules line kind)
+bad-rules Command.Step files texts line kind given e = step-kind texts (Status.BadRules line kind) (step-refused texts (Status.BadRules line kind) e)
+bad-rules Command.Learn files texts line kind given e = step-kind texts (Status.BadRules line kind) (step-refused texts (Status.BadRules line kind) e)
+bad-rules Command.Print files texts line kind given e = step-kind texts (Status.BadRules line kind) (inl (load-refused (policy_of texts) (Status.BadRules line kind) e))
+bad-rules Command.Sort files texts line kind given e = (texts, given, e)
+bad-rules (Command.Gen seed size) files texts line kind given e = absurd cc
+
+pub bad-audit : (command : Command) (files : Files) (texts : Texts) (line : ℕ) → AllGiven files (wants_of command) texts → refusal_of command texts ≡ Some (Status.BadAudit line) → IsSortFault command files (Status.BadAudit line)
+bad-audit Command.Step files texts line given e = step-kind texts (Status.BadAudit line) (step-refused texts (Status.BadAudit line) e)
+bad-audit Command.Learn files texts line given e = step-kind texts (Status.BadAudit line) (step-refused texts (Status.BadAudit line) e)
+bad-audit Command.Print files texts line given e = step-kind texts (Status.BadAudit line) (inl (load-refused (policy_of texts) (Status.BadAudit line) e))
+bad-audit Command.Sort files texts line given e = (texts, given, e)
+bad-audit (Command.Gen seed size) files texts line given e = absurd cc

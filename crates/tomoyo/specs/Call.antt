@@ -1,5 +1,5 @@
 -- The top call: what each command reads, stores and allows, and the cause of each status.
-use Rattle.std.specs.Prelude.{◌≡◌, ℕ, ◌⊎◌, List, [], ◌∷◌, ◌++◌, Result, Ok, Err, Bool, true, false, Option, Some, None, ⊤}
+use Rattle.std.specs.Prelude.{◌≡◌, ℕ, ◌⊎◌, List, [], ◌∷◌, ◌++◌, map, Result, Ok, Err, Bool, true, false, Option, Some, None, ⊤}
 use Rattle.std.specs.List.{AllByRecursion}
 use Rattle.tm_io.specs.declared.names.FileName.{FileName}
 use Rattle.tm_types.specs.declared.policy.Policy.{Policy}
@@ -9,32 +9,35 @@ use Rattle.tm_text.specs.ExceptionText.{exception_text}
 use Rattle.tm_text.specs.ManagerText.{manager_text}
 use Rattle.tm_text.specs.ProfileText.{profile_text}
 use Rattle.tm_rerun.specs.Rerun.{no_rerun_text}
-use Rattle.tm_gen.specs.Files.{generated}
 use Rattle.tm_io.specs.Causes.{Rose}
 use Rattle.tm_io.specs.Bytes.{then_bytes}
 use Rattle.tm_io.specs.Files.{FileState, Files, SameFiles}
-use Rattle.tomoyo.specs.declared.status.Status.{Status}
-use Rattle.tomoyo.specs.declared.status.OutName.{OutName}
-use Rattle.tomoyo.specs.declared.fetches.Want.{Want}
-use Rattle.tomoyo.specs.declared.carry.Outcome.{Outcome}
+use Rattle.tm_call.specs.declared.status.Status.{Status}
+use Rattle.tm_call.specs.declared.status.OutName.{OutName}
+use Rattle.tm_call.specs.declared.fetches.Want.{Want}
+use Rattle.tm_call.specs.declared.carry.Outcome.{Outcome}
 use Rattle.tm_word.specs.Words.{Text}
 use Rattle.tomoyo.specs.declared.play.Printed.{Printed}
 use Rattle.tomoyo.specs.declared.play.Played.{Played}
 use Rattle.tomoyo.specs.declared.rerun.RerunTexts.{RerunTexts}
 use Rattle.tomoyo.specs.declared.rerun.Learned.{Learned}
-use Rattle.tomoyo.specs.declared.words.Command.{Command}
-use Rattle.tomoyo.specs.Fetches.{Texts, AllGiven, FetchStops, TellsAll, told_texts, or_else, first_unread}
-use Rattle.tomoyo.specs.Stores.{is_named}
+use Rattle.tm_call.specs.declared.words.Command.{Command}
+use Rattle.tm_call.specs.Fetches.{want, Texts, AllGiven, FetchStops, TellsAll, told_texts, or_else, first_unread}
+use Rattle.tm_call.specs.Stores.{is_named}
 use Rattle.tm_io.specs.Notes.{Noted}
-use Rattle.tomoyo.specs.Calls.{Names, wanted, FetchesOf, StoresOf}
-use Rattle.tomoyo.specs.Ends.{Outside, Untouched, Ends}
-use Rattle.tomoyo.specs.Reading.{step_refusal, RefusedBy}
+use Rattle.tm_call.specs.Calls.{Names, wanted, FetchesOf, StoresOf}
+use Rattle.tm_call.specs.Ends.{Outside, Untouched, Ends}
+use Rattle.tm_call_input.specs.Reading.{refused, step_refusal, RefusedBy}
 use Rattle.tomoyo.specs.Play.{Plays}
 use Rattle.tomoyo.specs.Rerun.{Learns}
-use Rattle.tomoyo.specs.Print.{policy_of, print_refusal, counts_text, printed_policy}
-
-abbrev pub want : FileName → Bool → Want
-want name needed = record { name = name; needed = needed }
+use Rattle.tm_call_input.specs.Policies.{policy_of, policy_refusal}
+use Rattle.tm_gen_laws.specs.Generated.{generated_files}
+use Rattle.tm_sort.specs.declared.rules.Rule.{Rule}
+use Rattle.tm_sort.specs.declared.parts.Part.{Part}
+use Rattle.tm_sort.specs.Parts.{part_numbers, is_part, named_numbers, parts_of, PartsShare}
+use Rattle.tomoyo.specs.declared.sort.Sorting.{Sorting}
+use Rattle.tomoyo.specs.Print.{counts_text, printed_policy}
+use Rattle.tomoyo.specs.Sort.{sort_reading, sort_outcome}
 
 -- what a command reads, in order, and whether it has to be there
 abbrev pub wants_of : Command → List Want
@@ -46,31 +49,21 @@ wants_of Command.Print =
 wants_of Command.Learn =
     want FileName.Profile true ∷ want FileName.ExceptionPolicy false ∷ want FileName.DomainPolicy true ∷ want FileName.Manager false
     ∷ want FileName.Trace true ∷ want FileName.Edits false ∷ want FileName.Answers false ∷ want FileName.Schedule false ∷ []
+wants_of Command.Sort = want FileName.Audit true ∷ want FileName.Sorter true ∷ []
 wants_of (Command.Gen seed size) = []
-
--- the files that `gen` generates, in order
-abbrev pub generated_files : ℕ → ℕ → Texts
-generated_files seed size =
-    (FileName.Profile, (generated seed size).profile) ∷ (FileName.ExceptionPolicy, (generated seed size).exception) ∷ (FileName.DomainPolicy, (generated seed size).domain)
-    ∷ (FileName.Manager, (generated seed size).manager) ∷ (FileName.Trace, (generated seed size).trace) ∷ []
-
--- what is loaded and played: what was read, or what `gen` generates
-abbrev pub played_by : Command → Texts → Texts
-played_by Command.Step texts = texts
-played_by Command.Print texts = texts
-played_by Command.Learn texts = texts
-played_by (Command.Gen seed size) texts = generated_files seed size
 
 -- the files that a command reads, in order
 abbrev pub read_by : Command → List FileName
 read_by command = wanted (wants_of command)
 
--- the files that a command stores, in order; `learn` leaves the last two out where it leaves out the rerun
+-- the files that a command stores, in order; `learn` leaves the last two out where it leaves out the
+-- rerun, and `sort` all but the first that its rules don't name
 abbrev pub stored_by : Command → List FileName
 stored_by Command.Step = FileName.Run ∷ FileName.Audit ∷ FileName.ProfileNew ∷ FileName.ExceptionPolicyNew ∷ FileName.DomainPolicyNew ∷ FileName.ManagerNew ∷ []
 stored_by Command.Print = FileName.ProfileNew ∷ FileName.ExceptionPolicyNew ∷ FileName.DomainPolicyNew ∷ FileName.ManagerNew ∷ []
 stored_by Command.Learn =
     FileName.Run ∷ FileName.Audit ∷ FileName.ProfileNew ∷ FileName.ExceptionPolicyNew ∷ FileName.DomainPolicyNew ∷ FileName.ManagerNew ∷ FileName.Run2 ∷ FileName.Audit2 ∷ []
+stored_by Command.Sort = map FileName.AuditPart part_numbers
 stored_by (Command.Gen seed size) =
     FileName.Profile ∷ FileName.ExceptionPolicy ∷ FileName.DomainPolicy ∷ FileName.Manager ∷ FileName.Trace
     ∷ FileName.Run ∷ FileName.Audit ∷ FileName.ProfileNew ∷ FileName.ExceptionPolicyNew ∷ FileName.DomainPolicyNew ∷ FileName.ManagerNew ∷ []
@@ -122,10 +115,6 @@ with_stores files played = files ++ step_stores played
 abbrev pub with_files : Texts → Played → Outcome
 with_files files played = record { stores = with_stores files played; line = played.summary }
 
--- files that are played and stored first
-abbrev pub PlaysFiles : Texts → Outcome → Type 0
-PlaysFiles files outcome = (step_refusal files ≡ None) × ((played : Played) × Plays files played × (outcome ≡ with_files files played))
-
 -- what `print` stores and puts of the policy that the files load to
 abbrev pub print_outcome : Policy → Outcome
 print_outcome policy = record { stores = policy_stores (printed_policy policy); line = counts_text policy }
@@ -135,14 +124,16 @@ abbrev pub Makes : Command → Texts → Outcome → Type 0
 Makes Command.Step texts outcome = (played : Played) × Plays texts played × (outcome ≡ step_outcome played)
 Makes Command.Print texts outcome = (policy : Policy) × (policy_of texts ≡ Ok policy) × (outcome ≡ print_outcome policy)
 Makes Command.Learn texts outcome = (learned : Learned) × Learns texts learned × (outcome ≡ learn_outcome learned)
+Makes Command.Sort texts outcome = (sorting : Sorting) × (sort_reading texts ≡ Ok sorting) × (outcome ≡ sort_outcome sorting)
 Makes (Command.Gen seed size) texts outcome = (played : Played) × Plays (generated_files seed size) played × (outcome ≡ with_files (generated_files seed size) played)
 
--- the refusal of what a command reads or generates
+-- the refusal of what a command reads; what `gen` generates is never refused
 abbrev pub refusal_of : Command → Texts → Option Status
 refusal_of Command.Step texts = step_refusal texts
-refusal_of Command.Print texts = print_refusal texts
+refusal_of Command.Print texts = policy_refusal texts
 refusal_of Command.Learn texts = step_refusal texts
-refusal_of (Command.Gen seed size) texts = step_refusal (generated_files seed size)
+refusal_of Command.Sort texts = refused (sort_reading texts)
+refusal_of (Command.Gen seed size) texts = None
 
 -- a refusal of what was read; want of memory is free
 abbrev pub Refuses : Command → Texts → Status → Type 0
@@ -157,16 +148,25 @@ abbrev pub CallEnds : Result Command ℕ → Outside → Outside → Status → 
 CallEnds (Err place) old new status = (status ≡ Status.BadWords place) × Untouched old new
 CallEnds (Ok command) old new status = Ends (wants_of command) (Refuses command) (Allows command) old new status
 
--- a fault of loading what was read or generated
+-- a fault of loading what was read; `sort` loads nothing, and what `gen` generates has none
 abbrev pub IsLoadFault : Command → Files → LoadFault → Type 0
-IsLoadFault command files fault = (texts : Texts) × AllGiven files (wants_of command) texts × (policy_of (played_by command texts) ≡ Err fault)
+IsLoadFault Command.Sort files fault = ⊥
+IsLoadFault (Command.Gen seed size) files fault = ⊥
+IsLoadFault command files fault = (texts : Texts) × AllGiven files (wants_of command) texts × (policy_of texts ≡ Err fault)
 
--- a refusal of what `step` and `learn` read, or `gen` generates, beside the policy
+-- a refusal of what `step` and `learn` read beside the policy
 abbrev pub IsStepFault : Command → Files → Status → Type 0
 IsStepFault Command.Step files status = (texts : Texts) × AllGiven files (wants_of Command.Step) texts × (step_refusal texts ≡ Some status)
 IsStepFault Command.Print files status = ⊥
 IsStepFault Command.Learn files status = (texts : Texts) × AllGiven files (wants_of Command.Learn) texts × (step_refusal texts ≡ Some status)
-IsStepFault (Command.Gen seed size) files status = step_refusal (generated_files seed size) ≡ Some status
+IsStepFault Command.Sort files status = ⊥
+IsStepFault (Command.Gen seed size) files status = ⊥
+
+-- a refusal of what `sort` reads
+abbrev pub IsSortFault : Command → Files → Status → Type 0
+IsSortFault Command.Sort files status =
+    (texts : Texts) × AllGiven files (wants_of Command.Sort) texts × (refused (sort_reading texts) ≡ Some status)
+IsSortFault command files status = ⊥
 
 -- a fetch that ends the call: nothing is stored, and nothing is put
 abbrev pub IsUnfetched : Command → Outside → Outside → Status → Type 0
@@ -182,7 +182,10 @@ CommandCause command old new (Status.BadPolicy file line reply) = IsLoadFault co
 CommandCause command old new (Status.UndefinedProfile domain) = IsLoadFault command old.files (LoadFault.UndefinedProfile domain) × Untouched old new
 CommandCause command old new (Status.BadTrace line kind) = IsStepFault command old.files (Status.BadTrace line kind) × Untouched old new
 CommandCause command old new (Status.BadScript name line kind) = IsStepFault command old.files (Status.BadScript name line kind) × Untouched old new
-CommandCause command old new (Status.TooMany what) = IsStepFault command old.files (Status.TooMany what) × Untouched old new
+CommandCause command old new (Status.TooMany what) =
+    (IsStepFault command old.files (Status.TooMany what) ⊎ IsSortFault command old.files (Status.TooMany what)) × Untouched old new
+CommandCause command old new (Status.BadRules line kind) = IsSortFault command old.files (Status.BadRules line kind) × Untouched old new
+CommandCause command old new (Status.BadAudit line) = IsSortFault command old.files (Status.BadAudit line) × Untouched old new
 CommandCause command old new (Status.WriteFault (OutName.File name)) =
     Rose old.shelf_faults new.shelf_faults × (is_named (stored_by command) name ≡ true) × (new.written ≡ old.written)
 CommandCause command old new (Status.WriteFault OutName.StandardOutput) = Rose old.sink_faults new.sink_faults
@@ -230,11 +233,13 @@ abbrev pub FetchesInOrder : Result Command ℕ → Status → Names → Names �
 FetchesInOrder (Err place) status old new = Noted [] old new
 FetchesInOrder (Ok command) status old new = FetchesOf (read_by command) status old new
 
--- the stores of a command; those of `learn` are those of `step` where it leaves out the rerun
+-- the stores of a command; those of `learn` are those of `step` where it leaves out the rerun, and
+-- those of `sort` the parts that some rules name, by rising number
 abbrev pub StoresBy : Command → Status → Names → Names → Type 0
 StoresBy Command.Step status old new = StoresOf (stored_by Command.Step) status old new
 StoresBy Command.Print status old new = StoresOf (stored_by Command.Print) status old new
 StoresBy Command.Learn status old new = StoresOf (stored_by Command.Learn) status old new ⊎ StoresOf (stored_by Command.Step) status old new
+StoresBy Command.Sort status old new = (rules : List Rule) × StoresOf (map FileName.AuditPart (named_numbers rules)) status old new
 StoresBy (Command.Gen seed size) status old new = StoresOf (stored_by (Command.Gen seed size)) status old new
 
 -- the files are stored in their order, each once, and nothing after the store that fails; at faulty words nothing is stored
@@ -280,6 +285,17 @@ pub record IsShown (old new : Outside) : Type 0 where
   pub manager : new.files FileName.ManagerNew ≡ FileState.Holds (manager_text policy)
   pub counts : new.written ≡ then_bytes (counts_text policy) old.written
 
+-- what a `sort` that is done has stored and put: in the file of each part that is named the records
+-- that its rules send there, in order, with as many records in all parts as there are; the file of no
+-- other part has changed, and what was put are the counts
+pub record IsSorted (old new : Outside) : Type 0 where
+  pub sorting : Sorting
+  pub reads : sort_reading (told_texts (wants_of Command.Sort) old.files) ≡ Ok sorting
+  pub stored : AllByRecursion (λ (part : Part). new.files (FileName.AuditPart part.number) ≡ FileState.Holds part.text) (parts_of sorting.rules sorting.records)
+  pub shared : PartsShare sorting.rules sorting.records
+  pub kept : (number : ℕ) → is_part sorting.rules number ≡ false → new.files (FileName.AuditPart number) ≡ old.files (FileName.AuditPart number)
+  pub counts : new.written ≡ then_bytes (sort_outcome sorting).line old.written
+
 -- the headline: on told files, a call that is done has printed or played them, or learned from them and played them again, or has played files
 -- that it generated
 abbrev pub HasDone : Result Command ℕ → Outside → Outside → Status → Type 0
@@ -287,4 +303,18 @@ HasDone (Err place) old new status = ¬ (status ≡ Status.Done)
 HasDone (Ok Command.Step) old new status = TellsAll old.files → status ≡ Status.Done → IsPlayed old new
 HasDone (Ok Command.Print) old new status = TellsAll old.files → status ≡ Status.Done → IsShown old new
 HasDone (Ok Command.Learn) old new status = TellsAll old.files → status ≡ Status.Done → IsLearned old new
+HasDone (Ok Command.Sort) old new status = TellsAll old.files → status ≡ Status.Done → IsSorted old new
 HasDone (Ok (Command.Gen seed size)) old new status = TellsAll old.files → status ≡ Status.Done → IsGenerated seed size old new
+
+-- whatever the files hold, a `gen` is done, wants memory, or ends by a counted fault of a store or of
+-- the sink
+abbrev pub IsGenEnd : Outside → Outside → Status → Type 0
+IsGenEnd old new Status.Done = ⊤
+IsGenEnd old new Status.OutOfMemory = ⊤
+IsGenEnd old new (Status.WriteFault (OutName.File name)) = Rose old.shelf_faults new.shelf_faults
+IsGenEnd old new (Status.WriteFault OutName.StandardOutput) = Rose old.sink_faults new.sink_faults
+IsGenEnd old new _ = ⊥
+
+abbrev pub GenEnds : Result Command ℕ → Outside → Outside → Status → Type 0
+GenEnds (Ok (Command.Gen seed size)) old new status = IsGenEnd old new status
+GenEnds _ old new status = ⊤

@@ -1,11 +1,5 @@
-pub mod Status
-pub mod Words
-pub mod Fetches
-pub mod Stores
-pub mod Calls
-pub mod Ends
 pub mod Print
-pub mod Reading
+pub mod Sort
 pub mod Play
 pub mod Rerun
 pub mod Call

@@ -17,9 +17,9 @@ use Rattle.tm_text.specs.ManagerText.{manager_text}
 use Rattle.tm_text.specs.ProfileText.{profile_text}
 use Rattle.tomoyo.specs.declared.play.Printed.{Printed}
 use Rattle.tomoyo.specs.declared.play.Played.{Played}
-use Rattle.tomoyo.specs.declared.reading.Loaded.{Loaded}
-use Rattle.tomoyo.specs.Fetches.{Texts}
-use Rattle.tomoyo.specs.Reading.{step_reading, scene_of}
+use Rattle.tm_call_input.specs.declared.reading.Loaded.{Loaded}
+use Rattle.tm_call.specs.Fetches.{Texts}
+use Rattle.tm_call_input.specs.Reading.{step_reading, scene_of}
 
 -- the audit text of a take, where it has one
 abbrev pub audit_word : Take → Text

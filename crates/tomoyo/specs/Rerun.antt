@@ -19,9 +19,9 @@ use Rattle.tm_run.specs.Typed.{is_typed}
 use Rattle.tm_rerun.specs.Rerun.{rerun_text}
 use Rattle.tomoyo.specs.declared.rerun.RerunTexts.{RerunTexts}
 use Rattle.tomoyo.specs.declared.rerun.Learned.{Learned}
-use Rattle.tomoyo.specs.declared.reading.Loaded.{Loaded}
-use Rattle.tomoyo.specs.Fetches.{Texts}
-use Rattle.tomoyo.specs.Reading.{homeless, step_reading, scene_of}
+use Rattle.tm_call_input.specs.declared.reading.Loaded.{Loaded}
+use Rattle.tm_call.specs.Fetches.{Texts}
+use Rattle.tm_call_input.specs.Reading.{homeless, step_reading, scene_of}
 use Rattle.tomoyo.specs.Play.{audits_of, IsPrinted}
 
 -- the trace under a policy with its profiles enforcing: no editors, and no supervisor

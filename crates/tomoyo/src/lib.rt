@@ -1,17 +1,14 @@
-//! The top call: fetches the files that the words ask for, does the command, stores and prints.
-//! Stands on every crate below; what is loaded and played comes from them, this crate fetches, stores and says how a call ends.
-//! Promises that each status has its cause, that nothing but the command's own files changes, and what a call that is done has stored.
+//! The top call: it fetches the files that the words ask for, does the command, stores and prints.
+//! Stands on tm_call, tm_core and every crate that reads, plays or prints what a command needs.
+//! Promises of each status its cause, what a call that is done has stored, and that no more changes.
 #![tactic(auto)]
 
-mod carry;
-mod fetches;
 mod play;
 mod print;
-mod reading;
 mod rerun;
-mod status;
+mod sort;
 mod top;
-mod words;
 
-pub use status::{OutName, Status, What};
+pub use rerun::rerun;
+pub use tm_call::{OutName, Status, What};
 pub use top::run_alone;

@@ -8,15 +8,15 @@ ghost use Rattle.tm_text.specs.ExceptionText.{exception_text};
 ghost use Rattle.tm_text.specs.ManagerText.{manager_text};
 ghost use Rattle.tm_text.specs.ProfileText.{profile_text};
 ghost use Rattle.tm_legal.specs.Play.{CanPlay};
-ghost use Rattle.tomoyo.specs.Reading.{start_of, scene_of, step_refusal, RefusedBy};
+ghost use Rattle.tm_call_input.specs.Reading.{start_of, scene_of, step_refusal, RefusedBy};
 ghost use Rattle.tomoyo.specs.Play.{PlaysLoaded, Plays, audit_word, audits_of, IsPlayOf, IsPrinted, IsPolicyPrinted};
 
-use crate::reading::{Loaded, read_step};
-use crate::status::Status;
 use std::alloc::{AllocError, Global};
+use tm_call::Status;
+use tm_call_input::{Loaded, read_step};
 use tm_core::{into_run, play_out, start_play};
 use tm_desk::{Desk, book_code};
-use tm_index::Indexed;
+use tm_indexed::Indexed;
 use tm_io::FileList;
 use tm_list::NoMemory;
 use tm_machine::Machine;
@@ -147,9 +147,9 @@ fn play_loaded(alloc: Global, loaded: Loaded) -> Result<Played, NoMemory>
 }
 
 /// Plays what the files hold, or refuses it.
-pub fn play_of(alloc: Global, texts: &FileList) -> Result<Played, Status>
-    ensures played { IfOk result (λ played. (step_refusal texts.now ≡ None) × Plays texts.now played) }
-    ensures refused { IfErr result (RefusedBy (step_refusal texts.now)) }
+pub fn play_of(alloc: Global, texts: FileList) -> Result<Played, Status>
+    ensures played { IfOk result (λ played. (step_refusal texts ≡ None) × Plays texts played) }
+    ensures refused { IfErr result (RefusedBy (step_refusal texts)) }
 {
     let loaded = match read_step(alloc, texts) {
         Ok(loaded) => loaded,

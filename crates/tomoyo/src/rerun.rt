@@ -4,18 +4,20 @@ ghost use Rattle.tm_rules.specs.Few.{IsFew};
 ghost use Rattle.tm_grammar.specs.Tomoyo.{tomoyo_grammar};
 ghost use Rattle.tm_legal.specs.Play.{CanPlay};
 ghost use Rattle.tm_legal.specs.Replay.{alone};
-ghost use Rattle.tomoyo.specs.Reading.{scene_of, step_refusal, RefusedBy};
+ghost use Rattle.tm_call_input.specs.Reading.{scene_of, step_refusal, RefusedBy};
 ghost use Rattle.tomoyo.specs.Rerun.{nobody_else, CanRerun, IsPlayAlone, IsRerunPrinted, Reruns, LearnsLoaded, Learns};
 
 use crate::play::{Played, audits_of, run_of, texts_of};
-use crate::reading::{Loaded, homeless, read_step};
-use crate::status::Status;
 use std::alloc::Global;
-use tm_index::Indexed;
+use tm_call::Status;
+use tm_call_input::{Loaded, homeless, read_step};
+use tm_indexed::Indexed;
 use tm_io::FileList;
 use tm_list::{Copied, NoMemory, Seq};
-use tm_repeat::{clean_runs_grow, learned_runs_repeat, switched_domains, switched_stays_opened};
 use tm_rerun::{has_same_domains, rerun_line, switched};
+use tm_rerun_laws::{
+    clean_runs_grow, learned_runs_repeat, switched_domains, switched_stays_opened,
+};
 use tm_run::print_run;
 use tm_types::policy::Policy;
 use tm_types::request::Trace;
@@ -130,9 +132,9 @@ fn learn_loaded(alloc: Global, loaded: Loaded) -> Result<Learned, NoMemory>
 }
 
 /// Plays what the files hold, and then its trace again under the final policy with its profiles enforcing, or refuses it.
-pub fn learn_of(alloc: Global, texts: &FileList) -> Result<Learned, Status>
-    ensures learned { IfOk result (λ learned. (step_refusal texts.now ≡ None) × Learns texts.now learned) }
-    ensures refused { IfErr result (RefusedBy (step_refusal texts.now)) }
+pub fn learn_of(alloc: Global, texts: FileList) -> Result<Learned, Status>
+    ensures learned { IfOk result (λ learned. (step_refusal texts ≡ None) × Learns texts learned) }
+    ensures refused { IfErr result (RefusedBy (step_refusal texts)) }
 {
     switched_domains();
     switched_stays_opened();

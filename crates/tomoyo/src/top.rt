@@ -3,25 +3,27 @@ ghost use Rattle.tm_rules.specs.Few.{IsFew};
 ghost use Rattle.tm_io.specs.Causes.{Rose};
 ghost use Rattle.tm_io.specs.Files.{SameFiles};
 ghost use Rattle.tm_io.specs.Notes.{Noted};
-ghost use Rattle.tomoyo.specs.Fetches.{AllGiven, FetchStops};
-ghost use Rattle.tomoyo.specs.Calls.{FetchesOf};
-ghost use Rattle.tomoyo.specs.Ends.{outside, Ends};
-ghost use Rattle.tomoyo.specs.Reading.{step_refusal, RefusedBy};
-ghost use Rattle.tomoyo.specs.Words.{read_words};
-ghost use Rattle.tomoyo.specs.Call.{wants_of, read_by, stores_of, policy_stores, step_stores, step_outcome, rerun_stores, rerun_line, learn_outcome, generated_files, with_files, PlaysFiles, print_outcome};
-ghost use Rattle.tomoyo.specs.Call.{Refuses, Allows, CallEnds, HasCause, IsExact, IsComplete, KeepsOthers, HasDone};
+ghost use Rattle.tm_call.specs.Fetches.{AllGiven, FetchStops};
+ghost use Rattle.tm_call.specs.Calls.{FetchesOf};
+ghost use Rattle.tm_call.specs.Ends.{outside, Ends};
+ghost use Rattle.tm_call_input.specs.Reading.{step_refusal};
+ghost use Rattle.tm_gen_laws.specs.Generated.{generated_files};
+ghost use Rattle.tm_call.specs.Words.{read_words, IsSized};
+ghost use Rattle.tomoyo.specs.Call.{wants_of, read_by, stores_of, policy_stores, step_stores, step_outcome, rerun_stores, rerun_line, learn_outcome, with_files, print_outcome};
+ghost use Rattle.tomoyo.specs.Play.{Plays};
+ghost use Rattle.tomoyo.specs.Call.{Refuses, Allows, CallEnds, HasCause, IsExact, IsComplete, KeepsOthers, HasDone, GenEnds};
 ghost use Rattle.tomoyo.specs.Call.{FetchesInOrder, StoresBy, StoresInOrder, StoresLast};
-ghost use Rattle.tomoyo.specs.declared.words.Command.{Command};
+ghost use Rattle.tm_call.specs.declared.words.Command.{Command};
 
-use crate::carry::{Outcome, carry_out};
-use crate::fetches::{Want, fetch_all};
 use crate::play::{Played, Printed, play_of, print_policy};
-use crate::print::{counts_line, load_files};
+use crate::print::counts_line;
 use crate::rerun::{Learned, RerunTexts, learn_of};
-use crate::status::Status;
-use crate::words::{Command, read_command};
-use std::alloc::Global;
+use crate::sort::make_sort;
+use std::alloc::{AllocError, Global};
+use tm_call::{Command, Outcome, Status, Want, carry_out, fetch_all, read_command};
+use tm_call_input::load_files;
 use tm_gen::{Generated, generate};
+use tm_gen_laws::generated_files_are_never_refused;
 use tm_io::{FileList, FileName, Shelf, Sink};
 use tm_list::NoMemory;
 use tm_rerun::no_rerun_line;
@@ -59,6 +61,13 @@ fn fetch_for<S: Shelf>(alloc: Global, command: Command, shelf: &mut S) -> Result
                 Want::optional(FileName::ExceptionPolicy),
                 Want::needed(FileName::DomainPolicy),
                 Want::optional(FileName::Manager),
+            ];
+            fetch_all(alloc, shelf, &wants)
+        }
+        Command::Sort => {
+            let wants = [
+                Want::needed(FileName::Audit),
+                Want::needed(FileName::Sorter),
             ];
             fetch_all(alloc, shelf, &wants)
         }
@@ -222,9 +231,9 @@ fn print_outcome(alloc: Global, policy: &Policy) -> Result<Outcome, NoMemory>
 }
 
 // Plays what was read, or refuses it.
-fn make_step(alloc: Global, texts: &FileList) -> Result<Outcome, Status>
-    ensures made { IfOk result (Allows Command.Step texts.now) }
-    ensures refused { IfErr result (Refuses Command.Step texts.now) }
+fn make_step(alloc: Global, texts: FileList) -> Result<Outcome, Status>
+    ensures made { IfOk result (Allows Command.Step texts) }
+    ensures refused { IfErr result (Refuses Command.Step texts) }
 {
     match play_of(alloc, texts) {
         Err(status) => Err(status),
@@ -236,9 +245,9 @@ fn make_step(alloc: Global, texts: &FileList) -> Result<Outcome, Status>
 }
 
 // Plays what was read and then its trace again, or refuses it.
-fn make_learn(alloc: Global, texts: &FileList) -> Result<Outcome, Status>
-    ensures made { IfOk result (Allows Command.Learn texts.now) }
-    ensures refused { IfErr result (Refuses Command.Learn texts.now) }
+fn make_learn(alloc: Global, texts: FileList) -> Result<Outcome, Status>
+    ensures made { IfOk result (Allows Command.Learn texts) }
+    ensures refused { IfErr result (Refuses Command.Learn texts) }
 {
     match learn_of(alloc, texts) {
         Err(status) => Err(status),
@@ -249,35 +258,46 @@ fn make_learn(alloc: Global, texts: &FileList) -> Result<Outcome, Status>
     }
 }
 
-// Plays files that are stored first, or refuses them.
-fn play_files(alloc: Global, files: FileList) -> Result<Outcome, Status>
-    ensures made { IfOk result (PlaysFiles files) }
-    ensures refused { IfErr result (RefusedBy (step_refusal files)) }
+// Plays what is generated from a seed and a size, which is never refused.
+fn play_generated(alloc: Global, seed: u64, size: u32) -> Result<Played, NoMemory>
+    requires { size ≤ 4096 }
+    ensures { IfOk result (Plays (generated_files seed size)) }
 {
-    match play_of(alloc, &files) {
-        Err(status) => Err(status),
-        Ok(played) => match with_files(files, played) {
-            Ok(outcome) => Ok(outcome),
-            Err(_) => Err(Status::OutOfMemory),
-        },
+    generated_files_are_never_refused();
+    let files = generated_files(alloc, seed, size)?;
+    match play_of(alloc, files) {
+        Ok(played) => Ok(played),
+        Err(_) => Err(AllocError),
     }
 }
 
-// Plays what is generated from a seed and a size, or refuses it.
+// What is stored and put of what is generated from a seed and a size. The files are generated once
+// more to be stored, so that they don't lie beside their play.
+fn gen_outcome(alloc: Global, seed: u64, size: u32) -> Result<Outcome, NoMemory>
+    requires { size ≤ 4096 }
+    ensures { IfOk result (Allows (Command.Gen seed size) []) }
+{
+    let played = play_generated(alloc, seed, size)?;
+    let files = generated_files(alloc, seed, size)?;
+    with_files(files, played)
+}
+
+// Plays what is generated from a seed and a size.
 fn make_gen(alloc: Global, seed: u64, size: u32) -> Result<Outcome, Status>
+    requires { size ≤ 4096 }
     ensures made { IfOk result (Allows (Command.Gen seed size) []) }
     ensures refused { IfErr result (Refuses (Command.Gen seed size) []) }
 {
-    match generated_files(alloc, seed, size) {
-        Ok(files) => play_files(alloc, files),
+    match gen_outcome(alloc, seed, size) {
+        Ok(outcome) => Ok(outcome),
         Err(_) => Err(Status::OutOfMemory),
     }
 }
 
 // Prints the policy that was read, or refuses it.
-fn make_print(alloc: Global, texts: &FileList) -> Result<Outcome, Status>
-    ensures made { IfOk result (Allows Command.Print texts.now) }
-    ensures refused { IfErr result (Refuses Command.Print texts.now) }
+fn make_print(alloc: Global, texts: FileList) -> Result<Outcome, Status>
+    ensures made { IfOk result (Allows Command.Print texts) }
+    ensures refused { IfErr result (Refuses Command.Print texts) }
 {
     match load_files(alloc, texts) {
         Err(status) => Err(status),
@@ -289,20 +309,23 @@ fn make_print(alloc: Global, texts: &FileList) -> Result<Outcome, Status>
 }
 
 // What a command makes of what was read, or its refusal.
-fn make(alloc: Global, command: Command, texts: &FileList) -> Result<Outcome, Status>
-    ensures made { IfOk result (Allows command texts.now) }
-    ensures refused { IfErr result (Refuses command texts.now) }
+fn make(alloc: Global, command: Command, texts: FileList) -> Result<Outcome, Status>
+    requires { IsSized command }
+    ensures made { IfOk result (Allows command texts) }
+    ensures refused { IfErr result (Refuses command texts) }
 {
     match command {
         Command::Print => make_print(alloc, texts),
         Command::Step => make_step(alloc, texts),
         Command::Learn => make_learn(alloc, texts),
+        Command::Sort => make_sort(alloc, texts),
         Command::Gen(seed, size) => make_gen(alloc, seed, size),
     }
 }
 
 // Does a command.
 fn perform<S: Shelf, K: Sink>(alloc: Global, command: Command, shelf: &mut S, out: &mut K) -> Status
+    requires { IsSized command }
     ensures ends { Ends (wants_of command) (Refuses command) (Allows command)
         (outside (S.file shelf.old) (S.faults shelf.old) (K.written out.old) (K.faults out.old))
         (outside (S.file shelf.new) (S.faults shelf.new) (K.written out.new) (K.faults out.new)) result }
@@ -313,7 +336,7 @@ fn perform<S: Shelf, K: Sink>(alloc: Global, command: Command, shelf: &mut S, ou
 {
     match fetch_for(alloc, command, shelf) {
         Err(status) => status,
-        Ok(texts) => match make(alloc, command, &texts) {
+        Ok(texts) => match make(alloc, command, texts) {
             Err(status) => status,
             Ok(outcome) => carry_out(&outcome, shelf, out),
         },
@@ -326,14 +349,16 @@ fn perform<S: Shelf, K: Sink>(alloc: Global, command: Command, shelf: &mut S, ou
 /// again under the final policy with its profiles enforcing, without edits and without a supervisor, and stores `run2` and `audit2`; where
 /// some tree's domain isn't live in the final policy it leaves this rerun out, and leaves these two files as they were. `gen` with a seed and
 /// a size reads nothing: it generates `profile`, `exception_policy`, `domain_policy`, `manager` and `trace`, stores them, and does `step` on
-/// them without edits, answers and schedule. Nothing is stored before all is read and loaded or played.
+/// them without edits, answers and schedule. `sort` reads `audit` and `sorter` and stores the records of each part that the rules name as
+/// `audit.N`. Nothing is stored before all is read and loaded, played or sorted.
 ///
 /// The first fetch that gives neither a text nor a file that may be missing decides, and no later one is made: `Absent` where
 /// `profile`, `domain_policy` or, but for `print`, `trace` isn't there, `TooLong` where a file has more than 16,777,216 bytes, `ReadFault`
 /// where reading failed. Of the policy files, the first line that isn't done is `BadPolicy`, and without one the first live domain
 /// whose profile isn't defined is `UndefinedProfile`. Of what `step` and `learn` read beside them, the first faulty line of `trace`, or
 /// else of `edits`, `answers` and `schedule`, is `BadTrace` or `BadScript`; then a limit that is passed is `TooMany`; and then the first
-/// tree whose domain isn't live is `BadTrace` at the tree's line.
+/// tree whose domain isn't live is `BadTrace` at the tree's line. Of what `sort` reads, the first faulty line of `audit` is `BadAudit`, or
+/// else of `sorter` `BadRules`; then more than 256 rules are `TooMany`.
 pub fn run_alone<S: Shelf, K: Sink>(
     alloc: Global,
     words: &[String],
@@ -349,6 +374,9 @@ pub fn run_alone<S: Shelf, K: Sink>(
         (outside (S.file shelf.new) (S.faults shelf.new) (K.written out.new) (K.faults out.new)) result }
     ensures exact { IsExact (read_words (map string_bytes words.now)) (S.file shelf.old) result }
     ensures complete { IsComplete (read_words (map string_bytes words.now))
+        (outside (S.file shelf.old) (S.faults shelf.old) (K.written out.old) (K.faults out.old))
+        (outside (S.file shelf.new) (S.faults shelf.new) (K.written out.new) (K.faults out.new)) result }
+    ensures generated { GenEnds (read_words (map string_bytes words.now))
         (outside (S.file shelf.old) (S.faults shelf.old) (K.written out.old) (K.faults out.old))
         (outside (S.file shelf.new) (S.faults shelf.new) (K.written out.new) (K.faults out.new)) result }
     ensures fetches { FetchesInOrder (read_words (map string_bytes words.now)) result

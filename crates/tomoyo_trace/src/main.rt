@@ -1,5 +1,5 @@
 //! The program `tomoyo_trace`: writes the trace of an audit log to standard output, and what is told of it to standard error.
-//! Stands on `tm_log`, which reads the log, and on `tm_making`, which makes and prints its trace.
+//! Stands on `tm_log`, which reads the log, and on `tm_log_trace`, which makes and prints its trace.
 //! Promises what these promise of what they are given; nothing is claimed of files and streams.
 #![tactic(auto)]
 
@@ -11,7 +11,7 @@ use std::rt::Runtime;
 use std::{env, io};
 use tm_io::{OutSink, Sink, Stored};
 use tm_log::LogReader;
-use tm_making::{TextFault, texts_of};
+use tm_log_trace::{TextFault, texts_of};
 
 const VERSION: &str = "tomoyo_trace 0.1.0\n";
 

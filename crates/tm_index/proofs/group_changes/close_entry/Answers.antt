@@ -2,10 +2,10 @@ use Rattle.std.proofs.Common.{◌≡◌, refl, sym, ap, subst, ◌∙◌}
 use Rattle.std.specs.Prelude.{Some, None, IsSome}
 use Rattle.tm_rules.specs.Policy.{at_key}
 use Rattle.tm_rules.specs.Edit.{put_key}
-use Rattle.tm_namespaces.proofs.MapLaws.{put_again}
+use Rattle.tm_change_namespaces.proofs.MapLaws.{put_again}
 use Rattle.tm_index.specs.Listing.{closed}
 use Rattle.tm_index.specs.Index.{groups_listed}
-use Rattle.tm_index.proofs.GroupLaws.{list_there, list_put, list_none, none_closed}
+use Rattle.tm_index.proofs.GroupLists.{list_there, list_put, list_none, none_closed}
 use Rattle.tm_index.proofs.group_changes.close_entry.Goals as goal
 
 pub returns-in-Some : goal.returns-in-Some

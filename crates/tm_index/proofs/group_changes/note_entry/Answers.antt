@@ -2,11 +2,11 @@ use Rattle.std.proofs.Common.{◌≡◌, refl, sym, ap, subst, ◌∙◌}
 use Rattle.std.specs.Prelude.{Some, None, IsSome}
 use Rattle.tm_rules.specs.Policy.{at_key}
 use Rattle.tm_rules.specs.Edit.{put_key}
-use Rattle.tm_namespaces.proofs.MapLaws.{put_again}
-use Rattle.tm_namespaces.proofs.Outcomes.{done_so, kept_so}
+use Rattle.tm_change_namespaces.proofs.MapLaws.{put_again}
+use Rattle.tm_change_namespaces.proofs.Outcomes.{done_so, kept_so}
 use Rattle.tm_index.specs.Listing.{listed, noting}
 use Rattle.tm_index.specs.Index.{groups_listed}
-use Rattle.tm_index.proofs.GroupLaws.{list_there, list_nowhere, list_put, list_kept}
+use Rattle.tm_index.proofs.GroupLists.{list_there, list_nowhere, list_put, list_kept}
 use Rattle.tm_index.proofs.group_changes.note_entry.Goals as goal
 
 pub returns-in-Some-clause-done : goal.returns-in-Some-clause-done

@@ -2,9 +2,9 @@ use Rattle.std.proofs.Common.{◌≡◌, refl, sym, subst, ◌∙◌}
 use Rattle.std.specs.Prelude.{Some, None, IsSome}
 use Rattle.tm_rules.specs.Policy.{at_key}
 use Rattle.tm_rules.specs.Edit.{put_key}
-use Rattle.tm_namespaces.proofs.MapLaws.{put_again}
+use Rattle.tm_change_namespaces.proofs.MapLaws.{put_again}
 use Rattle.tm_index.specs.Listing.{noting}
-use Rattle.tm_index.proofs.GroupLaws.{list_back, noted_there}
+use Rattle.tm_index.proofs.GroupLists.{list_back, noted_there}
 use Rattle.tm_index.proofs.group_changes.take_last_entry.Goals as goal
 
 pub returns-in-Some : goal.returns-in-Some

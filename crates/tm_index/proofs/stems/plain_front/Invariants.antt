@@ -1,4 +1,4 @@
-use Rattle.tm_index.proofs.WalkLaws.{Fronted}
+use Rattle.tm_index.proofs.FrontWalk.{Fronted}
 use Rattle.tm_index.proofs.stems.plain_front.Given as goal
 
 abbrev pub invariant-loop-count : goal.invariant-loop-count

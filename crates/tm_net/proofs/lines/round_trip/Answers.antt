@@ -5,10 +5,10 @@ use Rattle.tm_net.proofs.lines.round_trip.Goals as goal
 
 pub returns : goal.returns
 returns c = record {
-  written = net_again;
+  written = λ a bits h more k. net_again a bits more h k;
   read = λ words rest a p e. net_right words (a, p, rest) e;
   left = net_rest;
   words = net_are;
   text = net_text;
-  normal = λ words more rest a p e h. net_normal words more a p rest e h;
+  normal = λ words rest a p e more h. net_normal words more a p rest e h;
 }

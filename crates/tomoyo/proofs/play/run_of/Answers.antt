@@ -7,7 +7,7 @@ use Rattle.tm_legal.specs.Play as core
 use Rattle.tm_core.specs.Scenes.{IsReached}
 use Rattle.tm_core.specs.Scenes as scenes
 use Rattle.tm_core.specs.Players.{course_of, player_of}
-use Rattle.tomoyo.specs.Reading.{start_of}
+use Rattle.tm_call_input.specs.Reading.{start_of}
 use Rattle.tomoyo.proofs.Playing.{reached, play-of}
 use Rattle.tomoyo.proofs.play.run_of.Goals as goal
 

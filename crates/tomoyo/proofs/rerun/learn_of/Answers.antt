@@ -1,15 +1,16 @@
 use Rattle.std.proofs.Common.{ap}
-use Rattle.tomoyo.specs.Reading.{refused, step_refusal}
-use Rattle.tomoyo.proofs.Readings.{can-play}
+use Rattle.tm_call_input.specs.Reading.{refused, step_reading, step_refusal}
+use Rattle.tm_call_input.proofs.Readings.{can-play, step-read}
+use Rattle.tm_call_input.proofs.Refusals.{refuses}
 use Rattle.tomoyo.proofs.ReadBack.{read-back, rerun-read-back}
-use Rattle.tomoyo.proofs.Playing.{refuses}
 use Rattle.tomoyo.proofs.rerun.learn_of.Goals as goal
 
 pub returns-in-Err-clause-refused : goal.returns-in-Err-clause-refused
-returns-in-Err-clause-refused c = refuses c.args.texts.now c.in-Err.status c.in-Err.ensures.exact
+unfolding step_refusal
+returns-in-Err-clause-refused c = refuses (step_reading c.args.texts) c.in-Err.status c.in-Err.ensures.exact
 
 pub learn_loaded-requires-clause-can : goal.learn_loaded-requires-clause-can
-learn_loaded-requires-clause-can c = can-play c.args.texts.now c.in-Ok.loaded c.in-Ok.ensures.exact
+learn_loaded-requires-clause-can c = can-play c.args.texts c.in-Ok.loaded (step-read c.args.texts c.in-Ok.loaded c.in-Ok.ensures.exact)
 
 pub returns-in-Ok-learn_loaded-clause-learned : goal.returns-in-Ok-learn_loaded-clause-learned
 unfolding step_refusal
@@ -20,7 +21,7 @@ returns-in-Ok-learn_loaded-clause-learned c =
         loaded = c.in-Ok.loaded;
         read = c.in-Ok.ensures.exact;
         learns = h;
-        read_back = read-back c.args.texts.now c.in-Ok.loaded h.run c.in-Ok-learn_loaded.learned.played.run c.in-Ok.ensures.exact h.plays h.printed.is_in_range h.printed.run_is;
-        rerun_read_back = rerun-read-back c.args.texts.now c.in-Ok.loaded c.in-Ok-learn_loaded.learned c.switched_stays_opened.ensures c.switched_domains.ensures.domains c.switched_domains.ensures.live c.in-Ok.ensures.exact h;
+        read_back = read-back c.args.texts c.in-Ok.loaded h.run c.in-Ok-learn_loaded.learned.played.run (step-read c.args.texts c.in-Ok.loaded c.in-Ok.ensures.exact) h.plays h.printed.is_in_range h.printed.run_is;
+        rerun_read_back = rerun-read-back c.args.texts c.in-Ok.loaded c.in-Ok-learn_loaded.learned c.switched_stays_opened.ensures c.switched_domains.ensures.domains c.switched_domains.ensures.live (step-read c.args.texts c.in-Ok.loaded c.in-Ok.ensures.exact) h;
       },
     )

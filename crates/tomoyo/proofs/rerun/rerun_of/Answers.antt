@@ -6,7 +6,7 @@ use Rattle.tm_grammar.specs.Tomoyo.{tomoyo_grammar}
 use Rattle.tm_legal.specs.Clean.{switched}
 use Rattle.tm_legal.specs.Play.{CanPlay}
 use Rattle.tm_legal.specs.Replay.{alone}
-use Rattle.tomoyo.specs.Reading.{homeless}
+use Rattle.tm_call_input.specs.Reading.{homeless}
 use Rattle.tomoyo.specs.Rerun.{again, IsPlayAlone}
 use Rattle.tomoyo.proofs.Rerunning.{few-switched, can-rerun, homes-kept, rerun-so}
 use Rattle.tomoyo.proofs.rerun.rerun_of.Goals as goal

@@ -1,10 +1,11 @@
 use Rattle.std.proofs.Common.{refl, arith, ◌≤◌, inr}
-use Rattle.tomoyo.specs.Stores.{names_of}
-use Rattle.tomoyo.specs.Ends.{outside, Ends}
+use Rattle.tm_call.specs.Stores.{names_of}
+use Rattle.tm_call.specs.Ends.{outside, Ends}
 use Rattle.tomoyo.specs.Call.{read_by}
-use Rattle.tomoyo.proofs.Carried.{carried-after}
+use Rattle.tm_call.proofs.Carried.{carried-after}
 use Rattle.tomoyo.proofs.Named.{names-allowed, stores-by, stores-whichever}
-use Rattle.tomoyo.proofs.Calls.{none-after, stores-unfetched, fetches-refused, stores-refused, fetches-carried, stores-after}
+use Rattle.tm_call.proofs.Calls.{none-after, stores-unfetched, fetches-carried, stores-after}
+use Rattle.tomoyo.proofs.RefusedCalls.{fetches-refused, stores-refused}
 use Rattle.tomoyo.proofs.top.perform.Goals as goal
 
 pub returns-in-Err-clause-stores : goal.returns-in-Err-clause-stores

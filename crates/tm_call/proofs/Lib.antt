@@ -1,0 +1,6 @@
+pub mod Steps
+pub mod Carried
+pub mod Told
+pub mod Others
+pub mod Calls
+pub mod Taken

@@ -1,0 +1,62 @@
+-- The words of the commands.
+use Rattle.std.specs.Prelude.{ℕ, ◌≤◌, ⊤, ◌^◌, List, [], ◌∷◌, Option, Some, None, Result, Ok, Err, codes, if◌then◌else◌, ◌==◌}
+use Rattle.std.specs.Str.{bytes_eq}
+use Rattle.tm_number.specs.Numbers.{plain_of}
+use Rattle.tm_call.specs.declared.words.Command.{Command}
+
+-- the command that is this word alone
+abbrev pub command_of : List ℕ → Result Command ℕ
+command_of word =
+    if bytes_eq word (codes "print") then Ok Command.Print
+    else if bytes_eq word (codes "step") then Ok Command.Step
+    else if bytes_eq word (codes "learn") then Ok Command.Learn
+    else if bytes_eq word (codes "sort") then Ok Command.Sort
+    else Err 0
+
+-- no word may follow it
+abbrev pub alone : Result Command ℕ → List (List ℕ) → Result Command ℕ
+alone (Err place) words = Err place
+alone (Ok command) [] = Ok command
+alone (Ok command) (word ∷ words) = Err 1
+
+-- a seed: a plain number below 2^64
+abbrev pub seed_of : List ℕ → Option ℕ
+seed_of word = plain_of (2 ^ 64) word
+
+-- 0 is no size
+abbrev pub not_none : Option ℕ → Option ℕ
+not_none None = None
+not_none (Some size) = if size == 0 then None else Some size
+
+-- a size: a plain number from 1 to 4,096
+abbrev pub size_of : List ℕ → Option ℕ
+size_of word = not_none (plain_of 4097 word)
+
+-- the words after a seed: a size, and no other
+abbrev pub with_size : ℕ → Option ℕ → List (List ℕ) → Result Command ℕ
+with_size seed None words = Err 2
+with_size seed (Some size) [] = Ok (Command.Gen seed size)
+with_size seed (Some size) (word ∷ words) = Err 3
+
+abbrev pub sized : ℕ → List (List ℕ) → Result Command ℕ
+sized seed [] = Err 2
+sized seed (word ∷ words) = with_size seed (size_of word) words
+
+-- the words after `gen`: a seed and a size
+abbrev pub with_seed : Option ℕ → List (List ℕ) → Result Command ℕ
+with_seed None words = Err 1
+with_seed (Some seed) words = sized seed words
+
+abbrev pub gen_of : List (List ℕ) → Result Command ℕ
+gen_of [] = Err 1
+gen_of (word ∷ words) = with_seed (seed_of word) words
+
+-- the command that the words name, or the first place at which no form of a command goes on
+abbrev pub read_words : List (List ℕ) → Result Command ℕ
+read_words [] = Err 0
+read_words (word ∷ words) = if bytes_eq word (codes "gen") then gen_of words else alone (command_of word) words
+
+-- a command that words can name: `gen` has no more trees than 4,096
+abbrev pub IsSized : Command → Type 0
+IsSized (Command.Gen seed size) = size ≤ 4096
+IsSized _ = ⊤

@@ -1,0 +1,118 @@
+//! The words of a call: which command they name, or the first place at which no form goes on.
+ghost use Rattle.std.specs.Prelude.{◌≡◌, ◌≤◌, map, string_bytes, IfOk, IfSome};
+ghost use Rattle.tm_call.specs.Words.{read_words, command_of, alone, seed_of, size_of, sized, gen_of, IsSized};
+
+use tm_number::plain_number;
+
+/// What the words can ask for; of `gen` with its seed and its size.
+#[derive(Clone, Copy)]
+pub enum Command {
+    Print,
+    Step,
+    Learn,
+    Sort,
+    Gen(u64, u32),
+}
+
+// The command of a first word that has no others after it.
+fn named_by(word: &str) -> Result<Command, u64>
+    ensures exact { result ≡ command_of word.now }
+    ensures sized { IfOk result IsSized }
+{
+    if word == "print" {
+        return Ok(Command::Print);
+    }
+    if word == "step" {
+        return Ok(Command::Step);
+    }
+    if word == "learn" {
+        return Ok(Command::Learn);
+    }
+    if word == "sort" {
+        return Ok(Command::Sort);
+    }
+    Err(0)
+}
+
+// A command after which no word may come.
+fn alone(named: Result<Command, u64>, others: &[String]) -> Result<Command, u64>
+    requires { IfOk named IsSized }
+    ensures exact { result ≡ alone named (map string_bytes others.now) }
+    ensures sized { IfOk result IsSized }
+{
+    match named {
+        Err(place) => Err(place),
+        Ok(command) => match others {
+            [] => Ok(command),
+            [_, ..] => Err(1),
+        },
+    }
+}
+
+// The seed that a word writes.
+fn seed_of(word: &str) -> Option<u64>
+    ensures { result ≡ seed_of word.now }
+{
+    plain_number(18_446_744_073_709_551_616, word.as_bytes())
+}
+
+// The size that a word writes.
+#[tactic(auto, using(tm_number::proofs::NumberLaws::plain_small))]
+fn size_of(word: &str) -> Option<u32>
+    ensures exact { result ≡ size_of word.now }
+    ensures few { IfSome result (λ size. size ≤ 4096) }
+{
+    match plain_number(4_097, word.as_bytes()) {
+        None => None,
+        Some(size) => { if size == 0 { None } else { Some(size as u32) } }
+    }
+}
+
+// The words after `gen` and its seed.
+fn sized(seed: u64, others: &[String]) -> Result<Command, u64>
+    ensures exact { result ≡ sized seed (map string_bytes others.now) }
+    ensures sized { IfOk result IsSized }
+{
+    match others {
+        [] => Err(2),
+        [size] => match size_of(size) {
+            Some(size) => Ok(Command::Gen(seed, size)),
+            None => Err(2),
+        },
+        [size, _, ..] => match size_of(size) {
+            Some(_) => Err(3),
+            None => Err(2),
+        },
+    }
+}
+
+// The words after `gen`.
+fn gen_of(others: &[String]) -> Result<Command, u64>
+    ensures exact { result ≡ gen_of (map string_bytes others.now) }
+    ensures sized { IfOk result IsSized }
+{
+    match others {
+        [] => Err(1),
+        [seed, others @ ..] => match seed_of(seed) {
+            Some(seed) => sized(seed, others),
+            None => Err(1),
+        },
+    }
+}
+
+/// The command, or the first place at which no form of a command goes on.
+pub fn read_command(words: &[String]) -> Result<Command, u64>
+    ensures exact { result ≡ read_words (map string_bytes words.now) }
+    ensures sized { IfOk result IsSized }
+{
+    match words {
+        [] => Err(0),
+        [word, others @ ..] => {
+            if word.as_str() == "gen" {
+                gen_of(others)
+            } else {
+                alone(named_by(word), others)
+            }
+        }
+    }
+}

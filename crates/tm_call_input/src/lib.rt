@@ -1,0 +1,10 @@
+//! What the files of a call hold: the policy, the trace, the edits, the answers and the schedule.
+//! Stands on tm_call, and on the crates that load policies and read traces and scripts.
+//! Promises that all is read as defined, or that the first that is refused is named.
+#![tactic(auto)]
+
+mod policies;
+mod reading;
+
+pub use policies::{load_files, load_indexed_files};
+pub use reading::{Loaded, homeless, read_scene, read_step};

@@ -1,0 +1,8 @@
+use Rattle.std.proofs.Common.{◌≡◌, drop}
+use Rattle.std.specs.List.{position_from}
+use Rattle.tm_types.specs.declared.policy.Namespace.{Namespace}
+use Rattle.tm_word.specs.Texts.{texts_equal}
+use Rattle.tm_change_namespaces.proofs.namespaces.namespace_place.Given as goal
+
+abbrev pub invariant-loop-place : goal.invariant-loop-place
+invariant-loop-place l = position_from (λ (ns : Namespace). texts_equal ns.name l.name) l.place (drop l.place l.namespaces) ≡ position_from (λ (ns : Namespace). texts_equal ns.name l.name) 0 l.namespaces

@@ -1,5 +1,0 @@
-use Rattle.tm_domains.proofs.Kept.{kept_same}
-use Rattle.tm_domains.proofs.lines.apply_domain.Goals as goal
-
-pub returns-in-Select-clause-refused : goal.returns-in-Select-clause-refused
-returns-in-Select-clause-refused c = kept_same c.select_known.result c.args.policy.now

@@ -1,0 +1,15 @@
+pub mod NameLaws
+pub mod LiteralLaws
+pub mod FrontLaws
+pub mod StemLaws
+pub mod SearchLaws
+pub mod FoundLaws
+pub mod WalkLaws
+pub mod KnownLaws
+pub mod ChangeLaws
+pub mod MakeLaws
+pub mod LineLaws
+pub mod SettingLaws
+pub mod DeleteLaws
+pub mod RemoveLaws
+pub mod GroupLaws

@@ -1,0 +1,20 @@
+//! A policy with an index, by which a request and a line are found without walking the lists.
+//! Stands on tm_index, on tm_policy, whose search it shares, and on tm_change_domains for changes.
+//! Promises what the trait of tm_rep says, the index always that of the policy, in bounded memory.
+#![tactic(auto)]
+
+mod adding;
+mod choosing;
+mod group_lines;
+mod indexed;
+mod learning;
+mod lines;
+mod lists;
+mod loading;
+mod making;
+mod removing;
+mod search;
+mod settings;
+
+pub use indexed::Indexed;
+pub use loading::load_indexed;

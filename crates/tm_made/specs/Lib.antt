@@ -1,0 +1,4 @@
+pub mod Made
+pub mod Domains
+pub mod Lasting
+pub mod Refusals

@@ -1,0 +1,12 @@
+//! Offices: what threads publish and look at, with the replies and the answers of its steps.
+//! Stands on tm_types; traits alone, which whoever publishes and whoever is published stand on.
+//! Promises nothing by itself: what each call says of the list of steps is its trait's clause.
+#![tactic(auto)]
+
+mod desk_hall;
+mod hall;
+mod office;
+
+pub use desk_hall::DeskHall;
+pub use hall::Hall;
+pub use office::Office;

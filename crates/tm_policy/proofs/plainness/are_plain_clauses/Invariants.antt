@@ -1,7 +1,0 @@
-use Rattle.std.proofs.Common.{◌≡◌, drop}
-use Rattle.std.specs.List.{list_all}
-use Rattle.tm_rules.specs.Clean.{is_plain_clause}
-use Rattle.tm_policy.proofs.plainness.are_plain_clauses.Given as goal
-
-abbrev pub invariant-loop-clause : goal.invariant-loop-clause
-invariant-loop-clause l = list_all is_plain_clause (drop l.clause-index l.clauses) ≡ list_all is_plain_clause l.clauses

@@ -1,0 +1,116 @@
+//! Beginnings of the history that were reached.
+ghost use Rattle.std.specs.Prelude.{◌≡◌, ◌+◌, ◌<◌, ◌^◌, ◌++◌, ◌∷◌, [], length, IfSome, IsTrue, true};
+ghost use Rattle.tm_publish.specs.History.{is_opened, steps_of};
+ghost use Rattle.tm_publish.specs.Rules.{head_of};
+
+use crate::event::{Event, Law, Open, Step, enter};
+use logbook::{Seen, Word};
+use std::marker::{Brand, PhantomData};
+use std::sync::ledger::Ledger;
+use tm_office::Office;
+
+/// Names one board: its ledger, and its history.
+pub trait Named: Ledger {
+    ghost use Rattle.logbook.specs.Pages.{Book};
+
+    ghost history: { Book };
+}
+
+impl Named for Brand {
+    ghost use Rattle.tm_publish.specs.Rules.{no_book};
+
+    ghost history = { no_book };
+}
+
+/// All that was published at some time: the opening, and a list of steps.
+#[derive(Drop)]
+pub struct Front<L: Named, O: Office> {
+    pub(crate) seen: Seen<Event<O::Opening, O::Step>, u64, Law>,
+    pub(crate) version: u64,
+    of: PhantomData<L>,
+    pub ghost named: { seen.book ≡ L.history },
+    pub ghost counted: { version ≡ length (steps_of seen.log) },
+    pub ghost whole: { length seen.log ≡ version + 1 },
+    pub ghost opened: { is_opened seen.log ≡ true },
+}
+
+impl<L: Named, O: Office> Front<L, O> {
+    ghost use Rattle.tm_publish.specs.Words.{front_home, front_list};
+
+    /// The first front, of an office with no step; None where something was entered before, which
+    /// doesn't happen.
+    pub(crate) fn open(
+        seen: &Seen<Event<O::Opening, O::Step>, u64, Law>,
+        head: &Word<Event<O::Opening, O::Step>, u64, Law>,
+        office: &O,
+    ) -> Option<Front<L, O>>
+        requires named { seen.now.book ≡ L.history }
+        requires head { head.now ≡ head_of L.history }
+        requires empty { seen.now.log ≡ [] }
+        ensures { IfSome result (λ f. f.seen.log ≡ Event.Opened (O.opening office.now) ∷ []) }
+    {
+        let next = enter::<Event<O::Opening, O::Step>, O, Open<O>>(seen, head, 0, office)?;
+        Some(Front {
+            seen: next,
+            version: 0,
+            of: PhantomData,
+        })
+    }
+
+    /// How long its list is.
+    pub fn version(&self) -> u64
+        ensures { result ≡ length (front_list self.now) }
+    {
+        self.version
+    }
+
+    /// A copy.
+    pub fn again(&self) -> Front<L, O>
+        ensures { (front_home result ≡ front_home self.now)
+            × (front_list result ≡ front_list self.now) }
+    {
+        self.twin()
+    }
+
+    /// `again`, with all that is known of it.
+    pub(crate) fn twin(&self) -> Front<L, O>
+        ensures { (result.seen ≡ self.now.seen) × (result.version ≡ self.now.version) }
+    {
+        Front {
+            seen: self.seen.again(),
+            version: self.version,
+            of: PhantomData,
+        }
+    }
+
+    /// The front with one step more; None where another step was entered before, which doesn't
+    /// happen.
+    pub(crate) fn after(
+        &self,
+        head: &Word<Event<O::Opening, O::Step>, u64, Law>,
+        step: &O::Step,
+    ) -> Option<Front<L, O>>
+        requires head { head.now ≡ head_of L.history }
+        requires room { self.now.version < 2 ^ 62 }
+        ensures { IfSome result (λ f. f.seen.log ≡ self.now.seen.log ++ Event.Made step.now ∷ []) }
+    {
+        let place = self.version + 1;
+        let next = enter::<Event<O::Opening, O::Step>, O::Step, Step<O::Step>>(
+            &self.seen, head, place, step,
+        )?;
+        Some(Front {
+            seen: next,
+            version: place,
+            of: PhantomData,
+        })
+    }
+
+    /// True where the two have one list.
+    pub(crate) fn is_same(&self, other: &Front<L, O>) -> bool
+        ensures { IsTrue result → self.now.seen.log ≡ other.now.seen.log }
+    {
+        let mut both = self.seen.again();
+        both.learn(&other.seen);
+        self.version == other.version
+    }
+}

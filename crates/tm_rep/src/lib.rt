@@ -1,0 +1,10 @@
+//! What a representation of a policy offers: searches, whole lines, Learns, Makes and Fails.
+//! Stands on tm_rules and tm_grammar, whose definitions it cites, and on where a look stands.
+//! Promises nothing by itself: each representation keeps what the trait says.
+#![tactic(auto)]
+
+mod executed;
+mod rep;
+
+pub use executed::executed_name;
+pub use rep::Rep;

@@ -1,5 +1,0 @@
-use Rattle.tm_repeat.proofs.DomainsLive as law
-use Rattle.tm_repeat.proofs.growth_law.domains_stay.Goals as goal
-
-pub returns : goal.returns
-returns c = law.domains_stay

@@ -1,5 +1,0 @@
-use Rattle.tm_repeat.proofs.PlainRuns as law
-use Rattle.tm_repeat.proofs.growth_law.policies_stay_plain.Goals as goal
-
-pub returns : goal.returns
-returns c = law.plain_stays

@@ -1,6 +1,0 @@
-use Rattle.tm_repeat.proofs.CleanRuns.{clean_run_grows}
-use Rattle.tm_repeat.proofs.LearnedLines.{learned_lines_grant}
-use Rattle.tm_repeat.proofs.learned_law.learned_lines_grant.Goals as goal
-
-pub returns : goal.returns
-returns c = learned_lines_grant clean_run_grows

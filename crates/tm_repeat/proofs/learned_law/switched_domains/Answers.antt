@@ -1,5 +1,0 @@
-use Rattle.tm_repeat.proofs.Switched as law
-use Rattle.tm_repeat.proofs.learned_law.switched_domains.Goals as goal
-
-pub returns : goal.returns
-returns c = record { policies = law.policies; domains = law.domains; live = law.live_domains }

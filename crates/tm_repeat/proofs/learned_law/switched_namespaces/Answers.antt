@@ -1,5 +1,0 @@
-use Rattle.tm_repeat.proofs.Switched as law
-use Rattle.tm_repeat.proofs.learned_law.switched_namespaces.Goals as goal
-
-pub returns : goal.returns
-returns c = record { namespaces = law.namespaces; entries = law.entries; firsts = law.firsts }

@@ -1,5 +1,0 @@
-use Rattle.tm_repeat.proofs.Switched as law
-use Rattle.tm_repeat.proofs.learned_law.switched_stays_plain.Goals as goal
-
-pub returns : goal.returns
-returns c = law.plain

@@ -1,5 +1,0 @@
-use Rattle.tm_repeat.proofs.Switched as law
-use Rattle.tm_repeat.proofs.learned_law.switched_ways.Goals as goal
-
-pub returns : goal.returns
-returns c = record { lines = law.lines; candidates = law.candidates; decisions = law.decisions; enters = law.enters; executes = law.executes }

@@ -1,5 +1,0 @@
-use Rattle.tm_repeat.proofs.Learned as law
-use Rattle.tm_repeat.proofs.repeat_law.learned_runs_repeat.Goals as goal
-
-pub returns : goal.returns
-returns c = law.learned_runs_repeat

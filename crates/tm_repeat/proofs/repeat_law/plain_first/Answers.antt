@@ -1,5 +1,0 @@
-use Rattle.tm_repeat.proofs.PlainFirst as law
-use Rattle.tm_repeat.proofs.repeat_law.plain_first.Goals as goal
-
-pub returns : goal.returns
-returns c = law.plain_first

@@ -1,5 +1,0 @@
-use Rattle.tm_repeat.proofs.Switched as law
-use Rattle.tm_repeat.proofs.repeat_law.switched_keeps.Goals as goal
-
-pub returns : goal.returns
-returns c = law.switched_keeps

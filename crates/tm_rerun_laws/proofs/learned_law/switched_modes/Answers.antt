@@ -1,0 +1,5 @@
+use Rattle.tm_rerun_laws.proofs.Switched as law
+use Rattle.tm_rerun_laws.proofs.learned_law.switched_modes.Goals as goal
+
+pub returns : goal.returns
+returns c = law.modes

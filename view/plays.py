@@ -1,0 +1,44 @@
+"""The play that is stored in the folder, with all that it was played of."""
+from engine import policy_files
+from history import History, Numbered, domains_of, edited_lines, other_files
+from policies import read_domains, read_groups, stored
+from runs import read_run
+from texts import MIXED, Stop, read
+from traces import read_trace
+
+
+class StoredPlay:
+    """A stored run, the trace and the policy that it is of, and that policy's history."""
+
+    def __init__(self, engine):
+        self.run = read_run(read("run"))
+        self.trace_text = read("trace")
+        self.trace = read_trace(self.trace_text)
+        self.files = policy_files()
+        self.check_trace()
+        self.names = Numbered(domains_of(self.files["domain_policy"]), self.run.steps)
+        self.names.finish()
+        self.opening = engine.opening(self.files)
+        self.history = History(domains_of(self.files["domain_policy"]), self.opening,
+                               self.run.steps, engine.normal_lines(edited_lines(self.run.steps)))
+
+    def check_trace(self):
+        """The run has a take of each request."""
+        asked = [request.pid for request in self.trace.asked]
+        if asked != [take.pid for take in self.run.takes]:
+            raise other_files("trace")
+
+    def asked(self, take):
+        """What a take is of."""
+        return self.trace.asked[take.number - 1]
+
+    def name(self, number):
+        """The name of the domain of a number, at whatever version it was made."""
+        return self.names.domains.name(number)
+
+    def finish(self):
+        """Makes all steps. The policy that comes out is the one that is stored."""
+        self.history.finish()
+        domains = stored("domain_policy.new", read_domains)
+        if not self.history.is_end(domains, stored("exception_policy.new", read_groups)):
+            raise Stop("run and the .new files aren't of this policy: play again", MIXED)
