@@ -13,7 +13,7 @@ use tm_io::{OutSink, Sink, Stored};
 use tm_log::LogReader;
 use tm_log_trace::{TextFault, texts_of};
 
-const VERSION: &str = "tomoyo_trace 0.1.0\n";
+const VERSION: &str = "tomoyo_trace 0.2.0\n";
 
 const HELP: &str = "\
 usage: tomoyo_trace [FILE]
