@@ -1,6 +1,7 @@
 //! The top call: it fetches the files that the words ask for, does the command, stores and prints.
 //! Stands on tm_call, tm_core and every crate that reads, plays or prints what a command needs.
-//! Promises of each status its cause, what a call that is done has stored, and that no more changes.
+//! Promises of each status its cause, what a call that is done has stored, and that no more
+//! changes.
 #![tactic(auto)]
 
 mod play;

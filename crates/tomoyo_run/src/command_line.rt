@@ -181,7 +181,8 @@ pub fn help_text(topic: Topic) -> &'static str {
 /// What the words of a command line ask for.
 #[derive(Clone, Copy)]
 pub enum Asked {
-    /// A help text: by `help`, `-h` or `--help` all of it, by `help COMMAND`, `COMMAND -h` or `COMMAND --help` one command's.
+    /// A help text: by `help`, `-h` or `--help` all of it, by `help COMMAND`, `COMMAND -h` or
+    /// `COMMAND --help` one command's.
     Help(Topic),
     /// The version, by `-V` or `--version`.
     Version,
@@ -198,7 +199,8 @@ pub struct CommandLine {
     pub words: Vec<String>,
 }
 
-// A word of the command line, None past the last. One that isn't UTF-8 or too long stands as a word of no form.
+// A word of the command line, None past the last. One that isn't UTF-8 or too long stands as a word
+// of no form.
 fn word_at<E: Env>(env: &E, alloc: Global, place: usize) -> Result<Option<String>, AllocError> {
     let mut buffer = [0u8; LONGEST];
     match env.arg(place, &mut buffer) {
@@ -220,7 +222,8 @@ fn words_from<E: Env>(env: &E, alloc: Global, first: usize) -> Result<Vec<String
     Ok(words)
 }
 
-// The folder that the word at this place names. One whose name is too long or isn't UTF-8 has the name of no folder.
+// The folder that the word at this place names. One whose name is too long or isn't UTF-8 has the
+// name of no folder.
 fn folder_at<E: Env>(env: &E, alloc: Global, place: usize) -> Result<Option<String>, AllocError> {
     let mut buffer = [0u8; LONGEST_FOLDER];
     match env.arg(place, &mut buffer) {
@@ -238,7 +241,8 @@ fn is_folder_option<E: Env>(env: &E, alloc: Global, place: usize) -> Result<bool
     }
 }
 
-/// Reads the command line after the program's name: `-C DIR` in front names the folder, which is the current one without it.
+/// Reads the command line after the program's name: `-C DIR` in front names the folder, which is
+/// the current one without it.
 /// Errors: want of memory.
 pub fn read_line<E: Env>(env: &E, alloc: Global) -> Result<CommandLine, AllocError> {
     if is_folder_option(env, alloc, 1)? {
