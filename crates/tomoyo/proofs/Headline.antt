@@ -12,8 +12,8 @@ use Rattle.tm_call.specs.declared.status.Status.{Status}
 use Rattle.tm_call.specs.declared.status.OutName.{OutName}
 use Rattle.tm_call.specs.declared.carry.Outcome.{Outcome}
 use Rattle.tomoyo.specs.declared.play.Played.{Played}
-use Rattle.tomoyo.specs.declared.rerun.RerunTexts.{RerunTexts}
-use Rattle.tomoyo.specs.declared.rerun.Learned.{Learned}
+use Rattle.tomoyo.specs.declared.learn.RerunTexts.{RerunTexts}
+use Rattle.tomoyo.specs.declared.learn.Learned.{Learned}
 use Rattle.tomoyo.specs.declared.sort.Sorting.{Sorting}
 use Rattle.tm_call.specs.declared.words.Command.{Command}
 use Rattle.tm_call.specs.Fetches.{Texts, IsTold, TellsAll}
@@ -43,7 +43,7 @@ use Rattle.tm_sort.specs.Parts.{part_numbers, is_part, named_numbers, part_of, p
 use Rattle.tm_sort.proofs.RuleLaws.{rules_right}
 use Rattle.tm_sort.proofs.PartLaws.{shares}
 use Rattle.tomoyo.specs.Sort.{of_audit, of_rules, few_rules}
-use Rattle.tomoyo.proofs.Sorted.{Rising, filter-rising, all-stored, not-stored}
+use Rattle.tomoyo.proofs.Sorted.{Rising, filter-rising, changed-self, all-stored, not-stored}
 
 -- files that the outcome doesn't store
 carried-others : (old new : Outside) (outcome : Outcome) (status : Status) (name : FileName) → CarriedOut outcome old new status → is_named (names_of outcome.stores) name ≡ false → new.files name ≡ old.files name
@@ -68,12 +68,6 @@ kept-of command old new status (Ends.Not_fetched stops untouched) name e = untou
 kept-of command old new status (Ends.Refused texts given refused untouched) name e = untouched.files name
 kept-of command old new status (Ends.Made texts outcome given allowed carried) name e =
     carried-others old new outcome status name carried (unnamed-by command (names_of outcome.stores) name (names-allowed command texts outcome allowed) e)
-
--- a told file that is stored
-changed-self : (stored : FileName) (bytes : List ℕ) (state : FileState) → IsTold state → same_name stored stored ≡ true → changed stored bytes stored state ≡ FileState.Holds bytes
-changed-self stored bytes FileState.Untold is e = absurd is
-changed-self stored bytes FileState.Missing is e = rw e refl
-changed-self stored bytes (FileState.Holds held) is e = rw e refl
 
 not-true : (b : Bool) → not b ≡ true → b ≡ false
 not-true true e = absurd cc
@@ -175,11 +169,11 @@ rules-right texts sorting e =
     rules-read (Err fault) x e = absurd cc
 
     few-rules : (rules : List Rule) (records : List Record) (sorting : Sorting) → few_rules rules records ≡ Ok sorting → sorting.rules ≡ rules
-    few-rules rules records sorting e = go (nat_lt 256 (length rules)) e
+    few-rules rules records sorting e = go (nat_lt 256 (length rules)) (record { rules = rules; records = records }) refl e
       where
-        go : (many : Bool) → (if many then Err (Status.TooMany What.Rules) else Ok (record { rules = rules; records = records })) ≡ Ok sorting → sorting.rules ≡ rules
-        go true h = absurd cc
-        go false h = let made : Sorting = record { rules = rules; records = records } in let same : made ≡ sorting = cc in ap (λ (s : Sorting). s.rules) (sym same)
+        go : (many : Bool) (made : Sorting) → made.rules ≡ rules → (if many then Err (Status.TooMany What.Rules) else Ok made) ≡ Ok sorting → sorting.rules ≡ rules
+        go true made is h = absurd cc
+        go false made is h = let same : made ≡ sorting = cc in ap (λ (s : Sorting). s.rules) (sym same) ∙ is
 
 -- a sort that is done
 sort-done : (old new : Outside) → Ends (wants_of Command.Sort) (Refuses Command.Sort) (Allows Command.Sort) old new Status.Done → TellsAll old.files → IsSorted old new

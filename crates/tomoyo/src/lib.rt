@@ -4,12 +4,12 @@
 //! changes.
 #![tactic(auto)]
 
+mod learn;
 mod play;
 mod print;
-mod rerun;
 mod sort;
 mod top;
 
-pub use rerun::rerun;
+pub use learn::rerun;
 pub use tm_call::{OutName, Status, What};
 pub use top::run_alone;

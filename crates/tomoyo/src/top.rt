@@ -17,7 +17,7 @@ ghost use Rattle.tm_call.specs.declared.words.Command.{Command};
 
 use crate::play::{Played, Printed, play_of, print_policy};
 use crate::print::counts_line;
-use crate::rerun::{Learned, RerunTexts, learn_of};
+use crate::learn::{Learned, RerunTexts, learn_of};
 use crate::sort::make_sort;
 use std::alloc::{AllocError, Global};
 use tm_call::{Command, Outcome, Status, Want, carry_out, fetch_all, read_command};
