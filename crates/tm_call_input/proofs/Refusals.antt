@@ -19,7 +19,7 @@ use Rattle.tm_script.specs.Answers.{answers_of}
 use Rattle.tm_script.specs.Schedule.{schedule_of}
 use Rattle.tm_call.specs.Fetches.{Texts, content}
 use Rattle.tm_call_input.specs.Policies.{policy_of, fault_status, load_refusal}
-use Rattle.tm_call_input.specs.Reading.{of_policy, of_trace, of_script, excess, homeless, within_limits, with_homes, refused, parts_reading, scene_reading, step_reading, step_refusal, status_cause, RefusedBy}
+use Rattle.tm_call_input.specs.Reading.{of_policy, of_trace, of_script, excess, homeless, within_limits, with_homes, admitted, refused, parts_reading, scene_reading, step_reading, step_refusal, status_cause, RefusedBy}
 
 -- What isn't read
 

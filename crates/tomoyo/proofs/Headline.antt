@@ -1,7 +1,7 @@
 -- What a call that is done has stored, and what every call leaves.
-use Rattle.std.proofs.Common.{◌≡◌, ◌∙◌, ℕ, ◌∷◌, [], ◌++◌, List, Bool, ◌&&◌, not, take, drop, true, false, Ok, ap, refl, sym, subst, append_assoc}
+use Rattle.std.proofs.Common.{◌≡◌, ◌∙◌, ℕ, ◌∷◌, [], ◌++◌, List, Bool, ◌&&◌, not, take, drop, true, false, Ok, ap, refl, sym, subst, append_assoc, arith, Result, Err, map, nat_lt, length, if◌then◌else◌}
 use Rattle.std.specs.Prelude.{Option, Some, None}
-use Rattle.std.specs.List.{AllByRecursion}
+use Rattle.std.specs.List.{AllByRecursion, list_all}
 use Rattle.std.proofs.lemmas.Bool.{and_parts}
 use Rattle.tm_types.specs.declared.policy.Policy.{Policy}
 use Rattle.tm_io.specs.declared.names.FileName.{FileName}
@@ -41,7 +41,7 @@ use Rattle.tm_sort.specs.Records.{records_of}
 use Rattle.tm_sort.specs.Rules.{is_rule, rules_of}
 use Rattle.tm_sort.specs.Parts.{part_numbers, is_part, named_numbers, part_of, parts_of}
 use Rattle.tm_sort.proofs.RuleLaws.{rules_right}
-use Rattle.tm_sort.proofs.PartLaws.{shares}
+use Rattle.tm_sort.proofs.PartLaws.{parts_share}
 use Rattle.tomoyo.specs.Sort.{of_audit, of_rules, few_rules}
 use Rattle.tomoyo.proofs.Sorted.{Rising, filter-rising, changed-self, all-stored, not-stored}
 
@@ -189,7 +189,7 @@ sort-done old new (Ends.Made texts outcome given allowed carried) tells =
       sorting = sorting;
       reads = subst (λ (ts : Texts). sort_reading ts ≡ Ok sorting) (texts-told old.files (wants_of Command.Sort) texts tells given) allowed.1.1;
       stored = all-stored part numbers old.files new.files (λ m. refl) tells (filter-rising (is_part sorting.rules) 0 part_numbers rising) leaves;
-      shared = shares sorting.rules sorting.records (rules-right texts sorting allowed.1.1);
+      shared = parts_share sorting.rules sorting.records (rules-right texts sorting allowed.1.1);
       kept = λ number none. leaves-other (map part_store (map part numbers)) old.files new.files (FileName.AuditPart number) leaves (not-stored part (is_part sorting.rules) number part_numbers (λ m. refl) none);
       counts = carried.1 ∙ ap (λ (o : Outcome). then_bytes o.line old.written) allowed.1.2;
     }
