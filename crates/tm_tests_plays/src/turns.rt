@@ -11,15 +11,19 @@ ghost use Rattle.tm_call_input.specs.Reading.{scene_of};
 use std::alloc::{AllocError, Global};
 use std::test::Fail;
 use tm_call_input::{Loaded, read_step};
-use tm_core::{Machine, Player, end_play, judge, start_play, step_alone, verdict};
+use tm_core::{Judged, Machine, Player, end_play, judge, start_play, step_alone, verdict};
 use tm_indexed::Indexed;
 use tm_io::{FileList, FileName};
-use tm_list::{NoMemory, Same};
+use tm_list::NoMemory;
 use tm_rep::Rep;
 use tm_run::print_run;
 use tm_script::has_supervisor;
 use tm_types::request::{Ids, Item, Proc, Request};
+use tm_text::print_domain;
+
 use tm_types::step::Turn;
+use tm_types::policy::{Mode, Policy};
+use tm_types::verdict::{Reason, Verdict};
 use tm_word::Text;
 
 /// What these files hold: profiles, domains, a trace and a supervisor's book.
@@ -120,7 +124,7 @@ audit -
 take 2 1 0 0 granted
 look 1 learning entry:0 stay - -
 audit -
-");
+".as_slice());
     Ok(())
 }
 
@@ -146,7 +150,7 @@ fn a_supervisor_by_hand_may_do_what_no_book_would(rt: HostRuntime) -> Result<(),
     play_tree(alloc, &mut player)?;
     let (text, _) = run_text(alloc, player)?;
     assert_eq!(rt; text.as_slice(), b"run 1
-");
+".as_slice());
     Ok(())
 }
 
@@ -179,4 +183,60 @@ fn process() -> Proc {
             fsgid: 0,
         },
     }
+}
+
+/// What is judged of the first request of process 1 in the first domain of this policy, and the
+/// verdict on it.
+fn judged_twice(
+    alloc: Global,
+    loaded: &Loaded,
+    policy: Indexed,
+) -> Result<Option<(Judged, Verdict)>, NoMemory>
+    requires few { IsFew policy }
+    requires can { CanPlay (scene_of loaded.now) }
+    requires same { policy ≡ loaded.now.policy }
+{
+    let Some(request) = first_request(loaded) else {
+        return Ok(None);
+    };
+    let process = process();
+    let machine = Machine::start(alloc, policy, Vec::new(alloc), 0, false)?;
+    let Some(judged) = judge(alloc, &machine, 0, &process, request)? else {
+        return Ok(None);
+    };
+    let alone = verdict(alloc, &machine, 0, &process, request)?;
+    Ok(Some((judged, alone)))
+}
+
+/// The printed domains of a policy.
+fn domain_text(alloc: Global, policy: &Policy) -> Result<Vec<u8>, NoMemory> {
+    let mut text = Vec::new(alloc);
+    print_domain(alloc, policy, &mut text)?;
+    Ok(text)
+}
+
+#[test]
+fn a_verdict_is_asked_of_a_copied_policy(rt: HostRuntime) -> Result<(), Fail> {
+    let alloc = rt.alloc();
+    let loaded = loaded_of(
+        alloc,
+        "0-CONFIG={ mode=enforcing grant_log=no reject_log=yes }\n",
+        "<kernel>\nfile read /b\n",
+        "tree 1 <kernel>\ndo 1 file read /a\n",
+        "",
+    )?;
+    let copied = loaded.policy.copy(alloc)?;
+    let own = domain_text(alloc, loaded.policy.policy())?;
+    let text = domain_text(alloc, copied.policy())?;
+    assert!(rt; own.len() > 20);
+    assert_eq!(rt; text.as_slice(), own.as_slice());
+    let Some((judged, alone)) = judged_twice(alloc, &loaded, copied)? else {
+        assert!(rt; false, "nothing is judged");
+        return Ok(());
+    };
+    assert!(rt; judged.audit.is_some());
+    assert!(rt; matches!(judged.verdict.reason, Reason::NoEntry));
+    assert!(rt; matches!(alone.reason, Reason::NoEntry));
+    assert!(rt; matches!(alone.mode, Some(Mode::Enforcing)));
+    Ok(())
 }
