@@ -18,11 +18,10 @@ use tm_list::NoMemory;
 use tm_rep::Rep;
 use tm_run::print_run;
 use tm_script::has_supervisor;
-use tm_types::request::{Ids, Item, Proc, Request};
 use tm_text::print_domain;
-
-use tm_types::step::Turn;
 use tm_types::policy::{Mode, Policy};
+use tm_types::request::{Ids, Item, Proc, Request};
+use tm_types::step::Turn;
 use tm_types::verdict::{Reason, Verdict};
 use tm_word::Text;
 
@@ -38,10 +37,19 @@ fn loaded_of(
     ensures can { IfOk result (λ loaded. CanPlay (scene_of loaded)) }
 {
     let mut texts = FileList::new(alloc);
-    texts.push((FileName::Profile, Text::from_bytes(alloc, profile.as_bytes())?))?;
-    texts.push((FileName::DomainPolicy, Text::from_bytes(alloc, domain.as_bytes())?))?;
+    texts.push((
+        FileName::Profile,
+        Text::from_bytes(alloc, profile.as_bytes())?,
+    ))?;
+    texts.push((
+        FileName::DomainPolicy,
+        Text::from_bytes(alloc, domain.as_bytes())?,
+    ))?;
     texts.push((FileName::Trace, Text::from_bytes(alloc, trace.as_bytes())?))?;
-    texts.push((FileName::Answers, Text::from_bytes(alloc, answers.as_bytes())?))?;
+    texts.push((
+        FileName::Answers,
+        Text::from_bytes(alloc, answers.as_bytes())?,
+    ))?;
     match read_step(alloc, texts) {
         Ok(loaded) => Ok(loaded),
         Err(_) => Err(AllocError),
@@ -109,14 +117,15 @@ fn a_play_goes_turn_by_turn(rt: HostRuntime) -> Result<(), Fail> {
     let mut player = begun(alloc, loaded)?;
     assert!(rt; !play(alloc, &mut player, Turn::Editor(1))?);
     assert!(rt; play_tree(alloc, &mut player)?);
-    assert!(rt; play_tree(alloc, &mut player)?);
     assert!(rt; !play_tree(alloc, &mut player)?);
     assert!(rt; player.machine().step_at(0).is_none());
     assert!(rt; player.machine().step_at(1).is_some());
     assert!(rt; player.machine().step_at(2).is_none());
     let (text, version) = run_text(alloc, player)?;
     assert_eq!(rt; version, 1);
-    assert_eq!(rt; text.as_slice(), b"run 1
+    assert_eq!(rt;
+        text.as_slice(),
+        b"run 1
 step 1 added learn 0 file read /a
 take 1 1 0 0 granted
 look 0 learning learn stay 1 -
@@ -124,7 +133,9 @@ audit -
 take 2 1 0 0 granted
 look 1 learning entry:0 stay - -
 audit -
-".as_slice());
+"
+            .as_slice()
+    );
     Ok(())
 }
 
@@ -140,17 +151,32 @@ fn a_supervisor_by_hand_may_do_what_no_book_would(rt: HostRuntime) -> Result<(),
     )?;
     let mut player = begun(alloc, loaded)?;
     assert!(rt; !play(alloc, &mut player, Turn::Desk)?);
-    assert!(rt; play(alloc, &mut player, Turn::Detach)?);
+    assert!(rt; !play(alloc, &mut player, Turn::Detach)?);
     assert!(rt; play(alloc, &mut player, Turn::Attach)?);
-    play_tree(alloc, &mut player)?;
-    assert!(rt; play(alloc, &mut player, Turn::Answer(7, 1))?);
+    assert!(rt; !play(alloc, &mut player, Turn::Attach)?);
+    assert!(rt; play_tree(alloc, &mut player)?);
+    assert!(rt; !play(alloc, &mut player, Turn::Answer(7, 1))?);
     assert!(rt; play(alloc, &mut player, Turn::Answer(1, 0))?);
     assert!(rt; play(alloc, &mut player, Turn::Answer(1, 1))?);
-    assert!(rt; play(alloc, &mut player, Turn::Answer(1, 2))?);
-    play_tree(alloc, &mut player)?;
+    assert!(rt; !play(alloc, &mut player, Turn::Answer(1, 2))?);
+    assert!(rt; play_tree(alloc, &mut player)?);
+    assert!(rt; play(alloc, &mut player, Turn::Detach)?);
     let (text, _) = run_text(alloc, player)?;
-    assert_eq!(rt; text.as_slice(), b"run 1
-".as_slice());
+    assert_eq!(rt;
+        text.as_slice(),
+        b"run 1
+step 1 done attach
+step 2 held:1 ask 0 0 file read /b
+step 3 bad answer 1 0
+step 4 done answer 1 1
+step 5 done end 1
+step 6 done detach
+take 1 1 0 0 granted
+look 1 enforcing ask stay 2 yes@4
+audit -
+"
+            .as_slice()
+    );
     Ok(())
 }
 
