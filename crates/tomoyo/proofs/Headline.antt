@@ -6,7 +6,7 @@ use Rattle.std.proofs.lemmas.Bool.{and_parts}
 use Rattle.tm_types.specs.declared.policy.Policy.{Policy}
 use Rattle.tm_io.specs.declared.names.FileName.{FileName}
 use Rattle.tm_io.specs.Names.{same_name}
-use Rattle.tm_io.specs.Files.{FileState, Files, changed}
+use Rattle.tm_io.specs.Files.{FileState, Files}
 use Rattle.tm_io.specs.Bytes.{then_bytes}
 use Rattle.tm_call.specs.declared.status.Status.{Status}
 use Rattle.tm_call.specs.declared.status.OutName.{OutName}
@@ -24,7 +24,7 @@ use Rattle.tm_gen_laws.specs.Generated.{generated_files}
 use Rattle.tm_call_input.specs.Policies.{policy_of}
 use Rattle.tomoyo.specs.Rerun.{Learns}
 use Rattle.tomoyo.specs.Print.{printed_policy}
-use Rattle.tomoyo.specs.Sort.{part_store, sort_reading, sort_outcome}
+use Rattle.tomoyo.specs.Sort.{part_store, sort_reading}
 use Rattle.tomoyo.specs.Call.{wants_of, stored_by, step_stores, rerun_stores, learn_stores, with_stores, policy_stores, Refuses, Allows, IsPlayed, IsLearned, IsGenerated, IsShown, IsSorted, HasDone}
 use Rattle.tomoyo.proofs.Refusals.{refusal-kind}
 use Rattle.tomoyo.proofs.Named.{names-allowed, unnamed-by}

@@ -1,7 +1,6 @@
 -- What was read is played, and what was played is what the files ask for.
-use Rattle.std.proofs.Common.{◌≡◌, List, [], refl, sym, ap, subst}
+use Rattle.std.proofs.Common.{◌≡◌, List, [], refl, sym, subst}
 use Rattle.std.specs.Prelude.{Result, Ok, Err, IfOk}
-use Rattle.tm_word.specs.Gives.{Fails}
 use Rattle.tm_types.specs.declared.policy.Policy.{Policy}
 use Rattle.tm_types.specs.declared.step.Book.{Book}
 use Rattle.tm_types.specs.declared.step.Run.{Run}
@@ -13,11 +12,9 @@ use Rattle.tm_legal.specs.Play as core
 use Rattle.tm_machine.specs.Machine.{Course}
 use Rattle.tm_core.specs.Scenes.{IsReached}
 use Rattle.tm_core.specs.Scenes as scenes
-use Rattle.tm_call.specs.declared.status.Status.{Status}
 use Rattle.tomoyo.specs.declared.play.Played.{Played}
 use Rattle.tm_call_input.specs.declared.reading.Loaded.{Loaded}
-use Rattle.tm_call.specs.Fetches.{Texts}
-use Rattle.tm_call_input.specs.Reading.{status_cause, refused, step_reading, step_refusal, RefusedBy, start_of, scene_of}
+use Rattle.tm_call_input.specs.Reading.{start_of, scene_of}
 use Rattle.tomoyo.specs.Play.{IsPlayOf, IsPrinted, PlaysLoaded}
 
 -- a player at its start is one that no turn has led to

@@ -1,6 +1,5 @@
 -- What commands refuse, and why.
-use Rattle.std.proofs.Common.{◌≡◌, ℕ, Bool, true, false, Option, Some, None, Result, Ok, Err, refl, subst, ◌⊎◌, inl, inr, length, List, nat_lt, if◌then◌else◌}
-use Rattle.tm_word.specs.Gives.{◌>>=◌}
+use Rattle.std.proofs.Common.{◌≡◌, ℕ, Bool, true, false, Some, Result, Ok, Err, subst, ◌⊎◌, inl, inr, length, List, nat_lt, if◌then◌else◌}
 use Rattle.tm_io.specs.declared.names.FileName.{FileName}
 use Rattle.tm_io.specs.Files.{Files}
 use Rattle.tm_types.specs.declared.request.ScriptKind.{ScriptKind}

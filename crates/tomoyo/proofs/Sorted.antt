@@ -1,5 +1,5 @@
 -- What a sort that is done has stored: the parts that are there, each once, and no other.
-use Rattle.std.proofs.Common.{◌≡◌, ◌∙◌, ℕ, ◌+◌, ◌<◌, ◌≤◌, ◌==◌, Bool, true, false, List, [], ◌∷◌, map, refl, sym, ap, subst, arith, if◌then◌else◌}
+use Rattle.std.proofs.Common.{◌≡◌, ◌∙◌, ℕ, ◌+◌, ◌<◌, ◌≤◌, ◌==◌, Bool, true, false, List, [], ◌∷◌, map, refl, sym, ap, arith, if◌then◌else◌}
 use Rattle.std.specs.List.{AllByRecursion, filter}
 use Rattle.std.proofs.lemmas.Bool.Decides.{nat_tests}
 use Rattle.std.proofs.lemmas.Bool.{eqb-true}
@@ -8,7 +8,7 @@ use Rattle.tm_io.specs.declared.names.FileName.{FileName}
 use Rattle.tm_io.specs.Names.{same_name}
 use Rattle.tm_io.specs.Files.{FileState, Files, changed}
 use Rattle.tm_sort.specs.declared.parts.Part.{Part}
-use Rattle.tm_call.specs.Fetches.{Texts, IsTold, TellsAll}
+use Rattle.tm_call.specs.Fetches.{IsTold, TellsAll}
 use Rattle.tm_call.specs.Stores.{stored, Leaves, names_of, is_named}
 use Rattle.tm_call.proofs.Others.{changed-other, stored-other, self-same}
 use Rattle.tomoyo.specs.Sort.{part_store}

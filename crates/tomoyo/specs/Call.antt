@@ -1,5 +1,5 @@
 -- The top call: what each command reads, stores and allows, and the cause of each status.
-use Rattle.std.specs.Prelude.{◌≡◌, ℕ, ◌⊎◌, List, [], ◌∷◌, ◌++◌, map, Result, Ok, Err, Bool, true, false, Option, Some, None, ⊤}
+use Rattle.std.specs.Prelude.{◌≡◌, ℕ, ◌⊎◌, List, [], ◌∷◌, ◌++◌, map, Result, Ok, Err, true, false, Option, Some, None, ⊤}
 use Rattle.std.specs.List.{AllByRecursion}
 use Rattle.tm_io.specs.declared.names.FileName.{FileName}
 use Rattle.tm_types.specs.declared.policy.Policy.{Policy}

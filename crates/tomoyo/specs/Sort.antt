@@ -1,5 +1,5 @@
 -- What `sort` reads of the files, what is refused of them, and what it stores and puts.
-use Rattle.std.specs.Prelude.{ℕ, nat_lt, List, length, map, Option, Result, Ok, Err, if◌then◌else◌}
+use Rattle.std.specs.Prelude.{ℕ, nat_lt, List, length, map, Result, Ok, Err, if◌then◌else◌}
 use Rattle.tm_word.specs.Words.{Text}
 use Rattle.tm_word.specs.Gives.{◌>>=◌}
 use Rattle.tm_types.specs.declared.request.ScriptKind.{ScriptKind}

@@ -15,9 +15,9 @@ ghost use Rattle.tomoyo.specs.Call.{Refuses, Allows, CallEnds, HasCause, IsExact
 ghost use Rattle.tomoyo.specs.Call.{FetchesInOrder, StoresBy, StoresInOrder, StoresLast};
 ghost use Rattle.tm_call.specs.declared.words.Command.{Command};
 
+use crate::learn::{Learned, RerunTexts, learn_of};
 use crate::play::{Played, Printed, play_of, print_policy};
 use crate::print::counts_line;
-use crate::learn::{Learned, RerunTexts, learn_of};
 use crate::sort::make_sort;
 use std::alloc::{AllocError, Global};
 use tm_call::{Command, Outcome, Status, Want, carry_out, fetch_all, read_command};

@@ -21,8 +21,8 @@ returns-in-Err-make-clause-fetches g c = fetches-refused c.args.command (read_by
 pub returns-in-Err-make-clause-stores : goal.returns-in-Err-make-clause-stores
 returns-in-Err-make-clause-stores g c = stores-whichever c.args.command c.in-Err-make.status (g.S.Shelf.stored c.args.shelf.now) (g.S.Shelf.stored c.fetch_for.new.shelf) (λ files. stores-refused c.args.command files c.in-Ok.texts _ _ _ c.in-Err-make.ensures.refused c.in-Ok.ensures.no_store)
 
-pub returns-clause-ends : goal.returns-clause-ends
-returns-clause-ends g c =
+pub returns-in-Ok-make-clause-ends : goal.returns-in-Ok-make-clause-ends
+returns-in-Ok-make-clause-ends g c =
     let same : g.K.Sink.faults c.args.out.now ≤ g.K.Sink.faults c.args.out.now = omega arith in
     let outcome = c.in-Ok-make.outcome in
     Ends.Made c.in-Ok.texts outcome c.in-Ok.ensures.texts c.in-Ok-make.ensures.made
@@ -32,16 +32,16 @@ returns-clause-ends g c =
     (outside (g.S.Shelf.file c.carry_out.new.shelf) (g.S.Shelf.faults c.carry_out.new.shelf) (g.K.Sink.written c.carry_out.new.out) (g.K.Sink.faults c.carry_out.new.out))
     c.carry_out.result (record { files = c.in-Ok.ensures.kept; written = refl; shelf = c.in-Ok.ensures.counts; sink = same }) c.carry_out.ensures.ends)
 
-pub returns-clause-fetches : goal.returns-clause-fetches
-returns-clause-fetches g c =
+pub returns-in-Ok-make-clause-fetches : goal.returns-in-Ok-make-clause-fetches
+returns-in-Ok-make-clause-fetches g c =
     fetches-carried (read_by c.args.command) c.in-Ok-make.outcome _ _ c.carry_out.result _ _ c.carry_out.ensures.ends
     (none-after _ _ _ (read_by c.args.command) c.in-Ok.ensures.all c.carry_out.ensures.no_fetch)
 
-pub returns-clause-stores : goal.returns-clause-stores
-returns-clause-stores g c =
+pub returns-in-Ok-make-clause-stores : goal.returns-in-Ok-make-clause-stores
+returns-in-Ok-make-clause-stores g c =
     let names = names_of c.in-Ok-make.outcome.stores in
     stores-by c.args.command names c.carry_out.result (g.S.Shelf.stored c.args.shelf.now) (g.S.Shelf.stored c.carry_out.new.shelf) (names-allowed c.args.command c.in-Ok.texts c.in-Ok-make.outcome c.in-Ok-make.ensures.made)
     (stores-after names c.carry_out.result _ _ _ c.in-Ok.ensures.no_store c.carry_out.ensures.stores)
 
-pub returns-clause-stores_last : goal.returns-clause-stores_last
-returns-clause-stores_last g c = inr (none-after _ _ _ (read_by c.args.command) c.in-Ok.ensures.all c.carry_out.ensures.no_fetch)
+pub returns-in-Ok-make-clause-stores_last : goal.returns-in-Ok-make-clause-stores_last
+returns-in-Ok-make-clause-stores_last g c = inr (none-after _ _ _ (read_by c.args.command) c.in-Ok.ensures.all c.carry_out.ensures.no_fetch)
