@@ -1,0 +1,73 @@
+-- The trees of a worker, one after another.
+use Rattle.std.proofs.Common.{◌≡◌, ◌≤◌, ℕ, List, [], ◌∷◌, ◌++◌, length, Bool, refl, sym, ap, ◌∙◌, subst, arith, append_assoc, append-nil}
+use Rattle.std.specs.Prelude.{flat_map}
+use Rattle.std.specs.List.{AllByRecursion}
+use Rattle.std.proofs.lemmas.List.{length-append}
+use Rattle.std.proofs.lemmas.Grind.{flat_map-append}
+use Rattle.tm_types.specs.declared.step.Made.{Made}
+use Rattle.tm_types.specs.declared.step.Maker.{Maker}
+use Rattle.tm_types.specs.declared.step.Start.{Start}
+use Rattle.tm_types.specs.declared.step.Take.{Take}
+use Rattle.tm_legal.proofs.Histories.{All-push}
+use Rattle.tm_legal.proofs.Walks.{All-map}
+use Rattle.tm_joint.specs.Played.{Row, row_own}
+use Rattle.tm_joint.proofs.Later.{row-later}
+use Rattle.tm_seat.specs.declared.tree.TreeToPlay.{TreeToPlay}
+use Rattle.tm_seat.specs.declared.tree.PlayedTree.{PlayedTree}
+use Rattle.tm_seat.specs.Seats.{scene_of, FitsFrom, Begins, MadeBy}
+use Rattle.tm_seat.specs.Playing.{LooksSince}
+use Rattle.tm_seat.specs.Rows.{RowIsPlayed, EachIsPlayed, RowSince, rows_own, row_of, tree_makers, makers_all}
+use Rattle.tm_seat.proofs.Opening.{begins-further}
+use Rattle.tm_seat.proofs.Claiming.{by-both, by-nobody, since-later}
+
+-- a worker that has played these trees, by what its seat knows and has made
+pub record IsWorking (start : Start) (supervised : Bool) (known : List Made) (before : List ℕ) (list : List Made) (own : List ℕ) (done : List TreeToPlay) (rows : List PlayedTree) : Type 0 where
+  pub fitted : FitsFrom start list
+  pub begins : Begins known list
+  pub each : EachIsPlayed start supervised list done rows
+  pub made : own ≡ before ++ rows_own rows
+  pub makers : MadeBy (makers_all done) known before list own
+  pub fresh : AllByRecursion (RowSince (length known)) rows
+
+-- a row that was played stays so
+pub row-stays : (start : Start) (tree : TreeToPlay) (supervised : Bool) (xs ys : List Made) (row : Row) → Begins xs ys → RowIsPlayed start tree supervised xs row → RowIsPlayed start tree supervised ys row
+row-stays start tree supervised xs ys row begins h trace book its trees stands records home =
+    rw begins.1 (row-later (scene_of start trace book) xs begins.0 tree.number its row (h trace book its trees stands records home))
+
+pub rows-stay : (start : Start) (supervised : Bool) (xs ys : List Made) (trees : List TreeToPlay) (rows : List PlayedTree) → Begins xs ys → EachIsPlayed start supervised xs trees rows → EachIsPlayed start supervised ys trees rows
+rows-stay start supervised xs ys [] [] begins h = tt
+rows-stay start supervised xs ys [] (row ∷ rows) begins h = h
+rows-stay start supervised xs ys (tree ∷ trees) [] begins h = h
+rows-stay start supervised xs ys (tree ∷ trees) (row ∷ rows) begins h = (h.0, row-stays start tree supervised xs ys (row_of row) begins h.1, rows-stay start supervised xs ys trees rows begins h.2)
+
+rows-push : (start : Start) (supervised : Bool) (list : List Made) (trees : List TreeToPlay) (rows : List PlayedTree) (tree : TreeToPlay) (row : PlayedTree) → EachIsPlayed start supervised list trees rows → row.number ≡ tree.number → RowIsPlayed start tree supervised list (row_of row) → EachIsPlayed start supervised list (trees ++ tree ∷ []) (rows ++ row ∷ [])
+rows-push start supervised list [] [] tree row each number is = (number, is, tt)
+rows-push start supervised list [] (r ∷ rows) tree row each number is = absurd each
+rows-push start supervised list (t ∷ trees) [] tree row each number is = absurd each
+rows-push start supervised list (t ∷ trees) (r ∷ rows) tree row each number is = (each.0, each.1, rows-push start supervised list trees rows tree row each.2 number is)
+
+-- at its beginning
+pub worker-starts : (start : Start) (supervised : Bool) (list : List Made) (own : List ℕ) → FitsFrom start list → IsWorking start supervised list own list own [] []
+worker-starts start supervised list own fitted =
+    record {
+      fitted = fitted;
+      begins = ([], sym (append-nil list));
+      each = tt;
+      made = sym (append-nil own);
+      makers = by-nobody [] list list own own ([], sym (append-nil list)) refl;
+      fresh = tt;
+    }
+
+-- a tree more
+pub worker-plays : (start : Start) (supervised : Bool) (known : List Made) (before : List ℕ) (xs ys : List Made) (own own' : List ℕ) (done : List TreeToPlay) (rows : List PlayedTree) (tree : TreeToPlay) (row : PlayedTree) → FitsFrom start ys → Begins xs ys → row.number ≡ tree.number → RowIsPlayed start tree supervised ys (row_of row) → own' ≡ own ++ row_own (row_of row) → MadeBy (tree_makers tree) xs own ys own' → RowSince (length xs) row → IsWorking start supervised known before xs own done rows → IsWorking start supervised known before ys own' (done ++ tree ∷ []) (rows ++ row ∷ [])
+worker-plays start supervised known before xs ys own own' done rows tree row fitted begins number is noted by since h =
+    record {
+      fitted = fitted;
+      begins = begins-further known xs ys h.begins begins;
+      each = rows-push start supervised ys done rows tree row (rows-stay start supervised xs ys done rows begins h.each) number is;
+      made = noted ∙ ap (λ (ns : List ℕ). ns ++ row_own (row_of row)) h.made ∙ append_assoc before (rows_own rows) (row_own (row_of row)) ∙ ap (λ (ns : List ℕ). before ++ ns) (sym (flat_map-append (λ (r : PlayedTree). row_own (row_of r)) rows (row ∷ []) ∙ ap (λ (ns : List ℕ). rows_own rows ++ ns) (append-nil (row_own (row_of row)))));
+      makers = subst (λ (makers : List Maker). MadeBy makers known before ys own') (sym (flat_map-append tree_makers done (tree ∷ []) ∙ ap (λ (ms : List Maker). makers_all done ++ ms) (append-nil (tree_makers tree))))
+          (by-both (makers_all done) (tree_makers tree) known xs ys before own own' h.makers by);
+      fresh = All-push (RowSince (length known)) rows row h.fresh
+          (All-map (LooksSince (length xs)) (LooksSince (length known)) row.takes (λ k older. since-later known xs k h.begins older) since);
+    }
