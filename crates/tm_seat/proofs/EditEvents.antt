@@ -68,3 +68,8 @@ edits-on start start' editor old new before own file text made number reply same
       lines = rw (is, last) (lines-push old others made editor done (file, text) h.numbers (ap (λ (m : Made). m.step) is_made) h.lines);
       makers = by-step (Maker.Editor editor ∷ []) start script.known old new script.before before own made number reply (λ P all. subst (λ (m : Made). P m.maker) (sym is_made) all.0) (others, is, replied) numbered noted h.makers;
     }
+
+-- the same after a call that changes nothing
+pub edits-from : (start first start' : Start) (editor : ℕ) (old at new : List Made) (before so_far own : List ℕ) (file : FileKind) (text : Text) (made : Made) (number : ℕ) (reply : Reply) → first ≡ start → at ≡ old → so_far ≡ before → start' ≡ first → made ≡ (record { maker = Maker.Editor editor; step = Step.Edit editor file text }) → IsMade first at made new reply → FitsFrom start' new → number ≡ length new → own ≡ so_far ++ number ∷ [] → EditsOn start editor old before new own (file, text)
+edits-from start first start' editor old at new before so_far own file text made number reply a b c same is_made settled fitted numbered noted =
+    edits-on start start' editor old new before own file text made number reply (same ∙ a) is_made (subst (λ (s : Start). IsMade s old made new reply) a (subst (λ (l : List Made). IsMade first l made new reply) b settled)) fitted numbered (noted ∙ ap (λ (ns : List ℕ). ns ++ number ∷ []) c)

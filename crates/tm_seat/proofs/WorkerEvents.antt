@@ -16,18 +16,9 @@ use Rattle.tm_seat.specs.declared.tree.TreeToPlay.{TreeToPlay}
 use Rattle.tm_seat.specs.declared.tree.PlayedTree.{PlayedTree}
 use Rattle.tm_seat.specs.Seats.{scene_of, FitsFrom, Begins, MadeBy}
 use Rattle.tm_seat.specs.Playing.{LooksSince}
-use Rattle.tm_seat.specs.Rows.{RowIsPlayed, EachIsPlayed, RowSince, rows_own, row_of, tree_makers, makers_all}
+use Rattle.tm_seat.specs.Rows.{RowIsPlayed, EachIsPlayed, RowSince, Shift, IsWorking, WorksOn, rows_own, row_of, tree_makers, makers_all}
 use Rattle.tm_seat.proofs.Opening.{begins-further}
 use Rattle.tm_seat.proofs.Claiming.{by-both, by-nobody, since-later}
-
--- a worker that has played these trees, by what its seat knows and has made
-pub record IsWorking (start : Start) (supervised : Bool) (known : List Made) (before : List ℕ) (list : List Made) (own : List ℕ) (done : List TreeToPlay) (rows : List PlayedTree) : Type 0 where
-  pub fitted : FitsFrom start list
-  pub begins : Begins known list
-  pub each : EachIsPlayed start supervised list done rows
-  pub made : own ≡ before ++ rows_own rows
-  pub makers : MadeBy (makers_all done) known before list own
-  pub fresh : AllByRecursion (RowSince (length known)) rows
 
 -- a row that was played stays so
 pub row-stays : (start : Start) (tree : TreeToPlay) (supervised : Bool) (xs ys : List Made) (row : Row) → Begins xs ys → RowIsPlayed start tree supervised xs row → RowIsPlayed start tree supervised ys row
@@ -47,7 +38,7 @@ rows-push start supervised list (t ∷ trees) [] tree row each number is = absur
 rows-push start supervised list (t ∷ trees) (r ∷ rows) tree row each number is = (each.0, each.1, rows-push start supervised list trees rows tree row each.2 number is)
 
 -- at its beginning
-pub worker-starts : (start : Start) (supervised : Bool) (list : List Made) (own : List ℕ) → FitsFrom start list → IsWorking start supervised list own list own [] []
+pub worker-starts : (start : Start) (supervised : Bool) (list : List Made) (own : List ℕ) → FitsFrom start list → IsWorking start supervised (record { known = list; before = own }) list own [] []
 worker-starts start supervised list own fitted =
     record {
       fitted = fitted;
@@ -59,15 +50,25 @@ worker-starts start supervised list own fitted =
     }
 
 -- a tree more
-pub worker-plays : (start : Start) (supervised : Bool) (known : List Made) (before : List ℕ) (xs ys : List Made) (own own' : List ℕ) (done : List TreeToPlay) (rows : List PlayedTree) (tree : TreeToPlay) (row : PlayedTree) → FitsFrom start ys → Begins xs ys → row.number ≡ tree.number → RowIsPlayed start tree supervised ys (row_of row) → own' ≡ own ++ row_own (row_of row) → MadeBy (tree_makers tree) xs own ys own' → RowSince (length xs) row → IsWorking start supervised known before xs own done rows → IsWorking start supervised known before ys own' (done ++ tree ∷ []) (rows ++ row ∷ [])
-worker-plays start supervised known before xs ys own own' done rows tree row fitted begins number is noted by since h =
-    record {
+pub worker-plays : (start : Start) (supervised : Bool) (xs ys : List Made) (own own' : List ℕ) (rows : List PlayedTree) (tree : TreeToPlay) (row : PlayedTree) (more : List PlayedTree) → more ≡ rows ++ row ∷ [] → FitsFrom start ys → Begins xs ys → row.number ≡ tree.number → RowIsPlayed start tree supervised ys (row_of row) → own' ≡ own ++ row_own (row_of row) → MadeBy (tree_makers tree) xs own ys own' → RowSince (length xs) row → WorksOn start supervised xs own rows tree ys own' more
+worker-plays start supervised xs ys own own' rows tree row more pushed fitted begins number is noted by since shift done h =
+    rw pushed (record {
       fitted = fitted;
-      begins = begins-further known xs ys h.begins begins;
+      begins = begins-further shift.known xs ys h.begins begins;
       each = rows-push start supervised ys done rows tree row (rows-stay start supervised xs ys done rows begins h.each) number is;
-      made = noted ∙ ap (λ (ns : List ℕ). ns ++ row_own (row_of row)) h.made ∙ append_assoc before (rows_own rows) (row_own (row_of row)) ∙ ap (λ (ns : List ℕ). before ++ ns) (sym (flat_map-append (λ (r : PlayedTree). row_own (row_of r)) rows (row ∷ []) ∙ ap (λ (ns : List ℕ). rows_own rows ++ ns) (append-nil (row_own (row_of row)))));
-      makers = subst (λ (makers : List Maker). MadeBy makers known before ys own') (sym (flat_map-append tree_makers done (tree ∷ []) ∙ ap (λ (ms : List Maker). makers_all done ++ ms) (append-nil (tree_makers tree))))
-          (by-both (makers_all done) (tree_makers tree) known xs ys before own own' h.makers by);
-      fresh = All-push (RowSince (length known)) rows row h.fresh
-          (All-map (LooksSince (length xs)) (LooksSince (length known)) row.takes (λ k older. since-later known xs k h.begins older) since);
-    }
+      made = noted ∙ ap (λ (ns : List ℕ). ns ++ row_own (row_of row)) h.made ∙ append_assoc shift.before (rows_own rows) (row_own (row_of row)) ∙ ap (λ (ns : List ℕ). shift.before ++ ns) (sym (flat_map-append (λ (r : PlayedTree). row_own (row_of r)) rows (row ∷ []) ∙ ap (λ (ns : List ℕ). rows_own rows ++ ns) (append-nil (row_own (row_of row)))));
+      makers = subst (λ (makers : List Maker). MadeBy makers shift.known shift.before ys own') (sym (flat_map-append tree_makers done (tree ∷ []) ∙ ap (λ (ms : List Maker). makers_all done ++ ms) (append-nil (tree_makers tree))))
+          (by-both (makers_all done) (tree_makers tree) shift.known xs ys shift.before own own' h.makers by);
+      fresh = All-push (RowSince (length shift.known)) rows row h.fresh
+          (All-map (LooksSince (length xs)) (LooksSince (length shift.known)) row.takes (λ k older. since-later shift.known xs k h.begins older) since);
+    })
+
+-- a call that keeps it keeps it for an equal opening
+pub worker-carries : (start start' : Start) (supervised : Bool) (shift : Shift) (xs ys : List Made) (own own' : List ℕ) (done : List TreeToPlay) (rows more : List PlayedTree) (tree : TreeToPlay) → start' ≡ start → WorksOn start' supervised xs own rows tree ys own' more → IsWorking start supervised shift xs own done rows → IsWorking start supervised shift ys own' (done ++ tree ∷ []) more
+worker-carries start start' supervised shift xs ys own own' done rows more tree same keeps = subst (λ (s : Start). WorksOn s supervised xs own rows tree ys own' more) same keeps shift done
+
+-- all trees of a worker, those that are left behind those that were played
+pub record Worked (start : Start) (supervised : Bool) (shift : Shift) (list : List Made) (own : List ℕ) (trees left : List TreeToPlay) (rows : List PlayedTree) : Type 0 where
+  pub done : List TreeToPlay
+  pub all : done ++ left ≡ trees
+  pub works : IsWorking start supervised shift list own done rows

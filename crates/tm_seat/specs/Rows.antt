@@ -16,7 +16,7 @@ use Rattle.tm_legal.specs.Run.{do_pids}
 use Rattle.tm_joint.specs.Played.{Row, row_own, RowHolds}
 use Rattle.tm_seat.specs.declared.tree.PlayedTree.{PlayedTree}
 use Rattle.tm_seat.specs.declared.tree.TreeToPlay.{TreeToPlay}
-use Rattle.tm_seat.specs.Seats.{scene_of, IsMade}
+use Rattle.tm_seat.specs.Seats.{scene_of, FitsFrom, Begins, IsMade, MadeBy}
 use Rattle.tm_seat.specs.Playing.{OfTrees, LooksSince}
 
 -- a tree that can be played: its number is one of the opening's trees, it starts in a live domain
@@ -76,3 +76,25 @@ rows_own rows = flat_map (λ (played : PlayedTree). row_own (row_of played)) row
 -- who makes the steps of these trees
 abbrev pub makers_all : List TreeToPlay → List Maker
 makers_all trees = flat_map tree_makers trees
+
+-- what was known and made when a worker began
+pub record Shift : Type 0 where
+  pub known : List Made
+  pub before : List ℕ
+
+-- a worker that has played these trees, by what its seat knows and has made
+pub record IsWorking (start : Start) (supervised : Bool) (shift : Shift) (list : List Made) (own : List ℕ)
+    (done : List TreeToPlay) (rows : List PlayedTree) : Type 0 where
+  pub fitted : FitsFrom start list
+  pub begins : Begins shift.known list
+  pub each : EachIsPlayed start supervised list done rows
+  pub made : own ≡ shift.before ++ rows_own rows
+  pub makers : MadeBy (makers_all done) shift.known shift.before list own
+  pub fresh : AllByRecursion (RowSince (length shift.known)) rows
+
+-- one tree more
+abbrev pub WorksOn : Start → Bool → List Made → List ℕ → List PlayedTree → TreeToPlay → List Made → List ℕ
+    → List PlayedTree → Type 0
+WorksOn start supervised old before rows tree new own more =
+    (shift : Shift) (done : List TreeToPlay) → IsWorking start supervised shift old before done rows
+    → IsWorking start supervised shift new own (done ++ tree ∷ []) more
