@@ -1,5 +1,5 @@
 -- The policy that the four policy files hold, and what is refused of them.
-use Rattle.std.specs.Prelude.{◌≡◌, ℕ, Bool, false, nat_lt, Option, Some, None, Result, Ok, Err}
+use Rattle.std.specs.Prelude.{◌≡◌, Bool, false, nat_lt, Option, Some, None, Result, Ok, Err}
 use Rattle.tm_types.specs.declared.policy.Policy.{Policy}
 use Rattle.tm_types.specs.declared.step.PolicyFiles.{PolicyFiles}
 use Rattle.tm_types.specs.declared.step.LoadFault.{LoadFault}
