@@ -201,10 +201,18 @@ tree-ended start start' tree supervised xs ys zs before own own' takes (Some end
     pids : map (λ (k : Take). k.pid) takes ≡ do_pids tree.records
     pids = let some = some-trace start.trees in let its : Tree = record { pid = 0; start = name; records = tree.records } in (played some.0 None 1 its some.1 refl live).pids
 
--- what a call gives, moved on
-pub on-ok : {A E P Q : Type 0} (r : Result A E) → OnOk r P → (P → Q) → OnOk r Q
-on-ok (Ok x) p f = f p
-on-ok (Err e) p f = tt
+-- what the calls of a record give
+
+pub ids-ok : {A E : Type 0} (r : Result A E) (start : Start) (list : List Made) (own : List ℕ) (at at' : Situations) (item : Item) (pid : ℕ) (ids : Ids) (takes : List Take) → item ≡ Item.Ids pid ids → OnOk r (at' ≡ with_situation at pid (with_ids (at pid) ids)) → OnOk r ((left : List Item) → TreePlaysOn start list own at (item ∷ left) takes list own at' left takes)
+ids-ok (Ok x) start list own at at' item pid ids takes is moved = λ left. rw is (tree-ids start list own at at' pid ids takes moved left)
+ids-ok (Err e) start list own at at' item pid ids takes is moved = tt
+
+pub forks-ok : {A E : Type 0} (r : Result A E) (start : Start) (list : List Made) (own : List ℕ) (at at' : Situations) (item : Item) (pid child : ℕ) (takes : List Take) → item ≡ Item.Fork pid child → OnOk r (at' ≡ with_situation at child (forked (at pid) child)) → OnOk r ((left : List Item) → TreePlaysOn start list own at (item ∷ left) takes list own at' left takes)
+forks-ok (Ok x) start list own at at' item pid child takes is moved = λ left. rw is (tree-forks start list own at at' pid child takes moved left)
+forks-ok (Err e) start list own at at' item pid child takes is moved = tt
+
+pub does-ok : (start start' : Start) (xs xs' zs : List Made) (own own' later : List ℕ) (at at' : Situations) (item : Item) (pid : ℕ) (request : Request) (takes more : List Take) (k : Take) → item ≡ Item.Do pid request → start' ≡ start → xs' ≡ xs → own' ≡ own → more ≡ takes ++ k ∷ [] → ((left : List Item) (ks : List Take) → TreePlaysOn start' xs' own' at (Item.Do pid request ∷ left) ks zs later at' left (ks ++ k ∷ [])) → (left : List Item) → TreePlaysOn start xs own at (item ∷ left) takes zs later at' left more
+does-ok start start' xs xs' zs own own' later at at' item pid request takes more k is a b c pushed keeps left = rw (is, pushed, ← a, ← b, ← c) (keeps left takes)
 
 -- for an equal opening, an equal list and equal numbers
 pub tree-moved : (start start' : Start) (walk : Walk) (list list' : List Made) (own own' : List ℕ) (at : Situations) (left : List Item) (takes : List Take) → start' ≡ start → list' ≡ list → own' ≡ own → IsPlayingTree start walk list own at left takes → IsPlayingTree start' walk list' own' at left takes
