@@ -1,6 +1,6 @@
 -- Whose the steps are that a seat has made.
-use Rattle.std.proofs.Common.{◌≡◌, ◌≤◌, ℕ, suc, List, [], ◌∷◌, ◌++◌, length, subst, sym, ap, ◌∙◌, arith}
-use Rattle.std.specs.Prelude.{Option, Some}
+use Rattle.std.proofs.Common.{◌≡◌, ◌≤◌, ℕ, suc, List, [], ◌∷◌, ◌++◌, length, ap, ◌∙◌, arith}
+use Rattle.std.specs.Prelude.{Some}
 use Rattle.std.specs.List.{AllByRecursion}
 use Rattle.std.proofs.lemmas.List.{length-append}
 use Rattle.tm_types.specs.declared.step.Look.{Look}
@@ -10,7 +10,6 @@ use Rattle.tm_types.specs.declared.step.Reply.{Reply}
 use Rattle.tm_types.specs.declared.step.Start.{Start}
 use Rattle.tm_types.specs.declared.step.Take.{Take}
 use Rattle.tm_legal.proofs.Walks.{All-map}
-use Rattle.tm_joint.specs.Makers.{Claims}
 use Rattle.tm_joint.proofs.Later.{claims-later, claims-push}
 use Rattle.tm_joint.proofs.Rows.{All-left, All-right}
 use Rattle.tm_seat.specs.Seats.{Begins, IsMade, MadeBy}

@@ -1,6 +1,7 @@
 -- The lines of an editor from a seat.
 use Rattle.std.proofs.Common.{◌≡◌, ◌≤◌, ◌<◌, ℕ, zero, suc, List, [], ◌∷◌, ◌++◌, length, Bool, true, false, refl, sym, ap, ◌∙◌, subst, arith, append_assoc, append-nil}
-use Rattle.std.specs.Prelude.{Option, Some, None, IsSome, is_some, slice_get, option_map_or, not, if◌then◌else◌, unwrap_or, Result, Ok, Err, IfOk, OnOk}
+use Rattle.std.specs.Prelude.{Option, Some, None, IsSome, is_some, slice_get, not, if◌then◌else◌, unwrap_or}
+use Rattle.std.specs.Option.{option_map_or}
 use Rattle.tm_word.specs.Words.{Text}
 use Rattle.tm_types.specs.declared.step.Editor.{Editor}
 use Rattle.tm_types.specs.declared.step.EditReply.{EditReply}
@@ -15,10 +16,9 @@ use Rattle.tm_grammar.specs.Tomoyo.{tomoyo_grammar}
 use Rattle.tm_legal.specs.Steps.{State, Applied, apply, opening, edit_step, unfit}
 use Rattle.tm_made.specs.Made.{steps_made}
 use Rattle.tm_made.proofs.Fits.{steps-last}
-use Rattle.tm_joint.specs.Played.{LinesMade}
 use Rattle.tm_joint.proofs.Later.{lines-push}
-use Rattle.tm_seat.specs.Seats.{state_of, FitsFrom, Begins, IsMade, MadeBy}
-use Rattle.tm_seat.specs.Editing.{Script, IsEditing, EditsOn}
+use Rattle.tm_seat.specs.Seats.{state_of, FitsFrom, IsMade}
+use Rattle.tm_seat.specs.Editing.{IsEditing, EditsOn}
 use Rattle.tm_seat.proofs.Opening.{begins-further}
 use Rattle.tm_seat.proofs.Claiming.{by-nobody, by-step, last-number}
 

@@ -17,8 +17,8 @@ use Rattle.tm_types.specs.declared.step.Step.{Step}
 use Rattle.tm_grammar.specs.Tomoyo.{tomoyo_grammar}
 use Rattle.tm_grammar.proofs.IsOne.{is_one}
 use Rattle.tm_legal.specs.Steps.{State, apply, after, opening}
-use Rattle.tm_legal.specs.Run.{Situation, Case}
-use Rattle.tm_legal.specs.Legal.{Scene, Replies, opening_of}
+use Rattle.tm_legal.specs.Run.{Situation}
+use Rattle.tm_legal.specs.Legal.{Replies, opening_of}
 use Rattle.tm_legal.specs.Play.{InProgress, Stage, IsOpened, after_step, after_answer, taken}
 use Rattle.tm_legal.specs.Stages.{DomainIn}
 use Rattle.tm_made.specs.Made.{steps_made, told_from, IsFitted}

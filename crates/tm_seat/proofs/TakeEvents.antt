@@ -1,6 +1,6 @@
 -- The events of a take from a seat, from an opening.
-use Rattle.std.proofs.Common.{◌≡◌, ◌≤◌, le_refl, ℕ, suc, List, [], ◌∷◌, ◌++◌, length, true, refl, sym, ap, ◌∙◌, subst, arith, append_assoc, append-nil}
-use Rattle.std.specs.Prelude.{Option, Some, None, IsSome, Result, Ok, Err, IfOk}
+use Rattle.std.proofs.Common.{◌≡◌, le_refl, ℕ, suc, List, [], ◌∷◌, ◌++◌, length, true, refl, sym, ap, ◌∙◌, subst, arith, append_assoc, append-nil}
+use Rattle.std.specs.Prelude.{Some, None, IsSome, Result, Ok, Err, IfOk}
 use Rattle.tm_types.specs.declared.step.Held.{Held}
 use Rattle.tm_types.specs.declared.step.Look.{Look}
 use Rattle.tm_types.specs.declared.step.Take.{Take}
@@ -8,13 +8,11 @@ use Rattle.tm_take.specs.declared.requests.PendingLook.{PendingLook}
 use Rattle.tm_take.specs.declared.situations.ProcessSituation.{ProcessSituation}
 use Rattle.tm_take.specs.Situations.{situation_of}
 use Rattle.tm_take.specs.Taking.{rest_of, TakesOut, LooksAgain}
-use Rattle.tm_rules.specs.Words.{Trace}
 use Rattle.tm_rules.specs.Queries.{answer_of}
 use Rattle.tm_rules.specs.Requests.{is_request}
 use Rattle.tm_types.specs.declared.request.Request.{Request}
 use Rattle.tm_types.specs.declared.verdict.Verdict.{Verdict}
 use Rattle.tm_types.specs.declared.step.Answered.{Answered}
-use Rattle.tm_types.specs.declared.step.Book.{Book}
 use Rattle.tm_types.specs.declared.step.Made.{Made}
 use Rattle.tm_types.specs.declared.step.Maker.{Maker}
 use Rattle.tm_types.specs.declared.step.Reply.{Reply}
@@ -30,7 +28,7 @@ use Rattle.tm_made.specs.Made.{history_made}
 use Rattle.tm_joint.specs.UnderWay.{JudgedBy, begun_at, own_so_far}
 use Rattle.tm_joint.proofs.TakeLaws.{own-makes, own-hears, own-looks-again, own-ends}
 use Rattle.tm_joint.proofs.Later.{looks-above}
-use Rattle.tm_seat.specs.Seats.{scene_of, state_of, FitsFrom, Begins, IsMade, MadeBy}
+use Rattle.tm_seat.specs.Seats.{scene_of, state_of, FitsFrom, Begins, IsMade}
 use Rattle.tm_seat.specs.Playing.{Errand, IsPlaying, PlaysOn, TakeIsLegal, LooksSince}
 use Rattle.tm_seat.proofs.Opening.{some-trace, begins-further, state-scene, first-law, fit-law, step-law, hear-law, again-law, again-there, end-law}
 use Rattle.tm_seat.proofs.Claiming.{by-later, by-nobody, by-step}

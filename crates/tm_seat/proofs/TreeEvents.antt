@@ -1,9 +1,9 @@
 -- The records of a tree from a seat, from an opening, and its End.
-use Rattle.std.proofs.Common.{◌≡◌, ◌≤◌, ◌<◌, le_refl, ℕ, suc, List, [], ◌∷◌, ◌++◌, length, map, Bool, true, false, refl, sym, ap, ◌∙◌, subst, arith, append_assoc, append-nil}
-use Rattle.std.specs.Prelude.{Option, Some, None, IsSome, is_some, flat_map, Result, Ok, Err, IfOk, OnOk}
+use Rattle.std.proofs.Common.{◌≡◌, ◌≤◌, ◌<◌, ℕ, suc, List, [], ◌∷◌, ◌++◌, length, map, Bool, true, refl, sym, ap, ◌∙◌, subst, append_assoc, append-nil}
+use Rattle.std.specs.Prelude.{Option, Some, None, IsSome, flat_map, Result, Ok, Err, OnOk}
 use Rattle.std.specs.List.{list_all, AllByRecursion}
 use Rattle.std.proofs.lemmas.Bool.{and_parts, lt-ltb, le-leb}
-use Rattle.std.proofs.lemmas.List.{map-append, length-append}
+use Rattle.std.proofs.lemmas.List.{map-append}
 use Rattle.std.proofs.lemmas.Grind.{flat_map-append}
 use Rattle.tm_rules.specs.Words.{DomainName, Trace}
 use Rattle.tm_rules.specs.Policy.{live_domain}
@@ -21,28 +21,25 @@ use Rattle.tm_types.specs.declared.step.Step.{Step}
 use Rattle.tm_types.specs.declared.step.Take.{Take}
 use Rattle.tm_grammar.specs.Tomoyo.{tomoyo_grammar}
 use Rattle.tm_grammar.proofs.IsOne.{is_one}
-use Rattle.tm_legal.specs.Steps.{State, apply, after, opening}
+use Rattle.tm_legal.specs.Steps.{apply, opening}
 use Rattle.tm_legal.specs.Run.{Situation, Situations, with_situation, with_ids, forked, at_start, do_pids}
 use Rattle.tm_legal.specs.Legal.{Scene, own_numbers}
 use Rattle.tm_legal.specs.Cases.{TreePlayed}
 use Rattle.tm_legal.specs.Play.{IsOpened}
 use Rattle.tm_legal.specs.Stages.{DomainIn}
 use Rattle.tm_legal.proofs.Histories.{All-push}
-use Rattle.tm_legal.proofs.Walks.{All-map}
 use Rattle.tm_take.specs.declared.situations.ProcessSituation.{ProcessSituation}
 use Rattle.tm_take.specs.Situations.{situation_of, first_situation}
 use Rattle.tm_made.specs.Made.{steps_made, history_made}
 use Rattle.tm_made.proofs.Fits.{steps-last}
-use Rattle.tm_joint.specs.Makers.{Claims}
-use Rattle.tm_joint.specs.Played.{Row, row_own, RowHolds}
+use Rattle.tm_joint.specs.Played.{Row, row_own}
 use Rattle.tm_joint.specs.AtLists.{state_after, WalkedAt}
 use Rattle.tm_joint.proofs.TreeLists.{trees-begin, lines-are-passed, processes-stand, takes-follow, walked-trees-are-played}
 use Rattle.tm_joint.proofs.Later.{row-lone, row-ends}
 use Rattle.tm_seat.specs.declared.tree.TreeToPlay.{TreeToPlay}
-use Rattle.tm_seat.specs.declared.tree.PlayedTree.{PlayedTree}
 use Rattle.tm_seat.specs.Seats.{scene_of, state_of, FitsFrom, Begins, MadeBy}
 use Rattle.tm_seat.specs.Playing.{Walk, OfTrees, IsPlayingTree, TreePlaysOn, TakeIsLegal, LooksSince, makers_of}
-use Rattle.tm_seat.specs.Rows.{EndsTree, RowIsPlayed, tree_makers, row_of}
+use Rattle.tm_seat.specs.Rows.{EndsTree, RowIsPlayed, tree_makers}
 use Rattle.tm_seat.proofs.Opening.{some-trace, begins-further, fits-scene, state-scene}
 use Rattle.tm_seat.proofs.Claiming.{by-both, by-step, by-nobody, since-later, last-number}
 
@@ -100,7 +97,7 @@ tree-takes start xs zs own own' at at' pid d now request k opened is domain begi
       walked = λ trace book t tree trees same live.
           rw moved (follows trace book t tree trees (h.walked trace book t tree trees same live) process stands);
       made = noted ∙ ap (λ (ns : List ℕ). ns ++ own_numbers (k ∷ [])) h.made ∙ append_assoc walk.before (own_numbers takes) (own_numbers (k ∷ [])) ∙ ap (λ (ns : List ℕ). walk.before ++ ns) (sym (flat_map-append (λ (m : Take). own_of m) takes (k ∷ [])));
-      makers = subst (λ (makers : List Maker). MadeBy makers walk.known walk.before zs own') (sym (map-append (λ (m : Take). Maker.Process m.pid) takes (k ∷ []) ))
+      makers = subst (λ (makers : List Maker). MadeBy makers walk.known walk.before zs own') (sym (map-append (λ (m : Take). Maker.Process m.pid) takes (k ∷ [])))
           (by-both (makers_of takes) (Maker.Process k.pid ∷ []) walk.known xs zs walk.before own own' h.makers (subst (λ p. MadeBy (Maker.Process p ∷ []) xs own zs own') (sym whose) by));
       fresh = All-push (LooksSince (length walk.known)) takes k h.fresh (since-later walk.known xs k h.begins since);
       asked = (and_parts (is_request tomoyo_grammar.is_path request) (list_all (item_is_request tomoyo_grammar.is_path) left) h.asked).1;

@@ -1,5 +1,5 @@
 -- Takes, trees and editors on their way from a seat, in every scene with its opening.
-use Rattle.std.specs.Prelude.{◌≡◌, ◌≤◌, ℕ, List, ◌∷◌, [], ◌++◌, length, map, flat_map, Bool, true, Option, Some, is_some}
+use Rattle.std.specs.Prelude.{◌≡◌, ◌≤◌, ℕ, List, ◌∷◌, [], ◌++◌, length, map, true, Option, Some}
 use Rattle.std.specs.List.{list_all, AllByRecursion}
 use Rattle.tm_types.specs.declared.request.Item.{Item}
 use Rattle.tm_types.specs.declared.request.Request.{Request}
@@ -16,7 +16,7 @@ use Rattle.tm_rules.specs.Requests.{item_is_request}
 use Rattle.tm_grammar.specs.Tomoyo.{tomoyo_grammar}
 use Rattle.tm_legal.specs.Run.{Situation, Situations}
 use Rattle.tm_legal.specs.Legal.{own_numbers}
-use Rattle.tm_legal.specs.Cases.{IsLegalTake, TreePlayed}
+use Rattle.tm_legal.specs.Cases.{IsLegalTake}
 use Rattle.tm_legal.specs.Play.{InProgress}
 use Rattle.tm_made.specs.Made.{history_made}
 use Rattle.tm_joint.specs.UnderWay.{own_so_far}

@@ -17,7 +17,7 @@ use Rattle.tm_joint.specs.Played.{Row, row_own, RowHolds}
 use Rattle.tm_seat.specs.declared.tree.PlayedTree.{PlayedTree}
 use Rattle.tm_seat.specs.declared.tree.TreeToPlay.{TreeToPlay}
 use Rattle.tm_seat.specs.Seats.{scene_of, FitsFrom, Begins, IsMade, MadeBy}
-use Rattle.tm_seat.specs.Playing.{OfTrees, LooksSince}
+use Rattle.tm_seat.specs.Playing.{LooksSince}
 
 -- a tree that can be played: its number is one of the opening's trees, it starts in a live domain
 -- of the opening, and its requests can be asked

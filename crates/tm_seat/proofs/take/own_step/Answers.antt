@@ -9,5 +9,5 @@ settle-requires g c =
 
 pub returns-in-Ok-clause-playing : goal.returns-in-Ok-clause-playing
 returns-in-Ok-clause-playing g c =
-    steps-ok (g.S.Seat.opening c.args.seat.now) c.requires.opened (g.S.Seat.opening c.settle.new.self) (g.S.Seat.at c.args.seat.now) (g.S.Seat.at c.settle.new.self) (g.S.Seat.own c.args.seat.now) (g.S.Seat.own c.settle.new.self) c.args.attempt c.in-Some.left c.after_step.result c.in-Some.step _ c.in-Ok.number c.in-Ok.reply
+    steps-ok (g.S.Seat.opening c.args.seat.now) c.requires.opened (g.S.Seat.opening c.settle.new.self) (g.S.Seat.at c.args.seat.now) (g.S.Seat.at c.settle.new.self) (g.S.Seat.own c.args.seat.now) (g.S.Seat.own c.settle.new.self) c.args.attempt c.in-Some.left c.after_step.result c.in-Some.step _ c.in-Ok.field-0.number c.in-Ok.field-0.reply
     c.settle.ensures.opening c.in-Some.ensures refl (search rules) c.in-Ok.ensures.settled c.in-Ok.ensures.fitted c.in-Ok.ensures.number c.in-Ok.ensures.noted c.after_step.ensures

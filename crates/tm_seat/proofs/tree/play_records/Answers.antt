@@ -1,4 +1,4 @@
-use Rattle.std.proofs.Common.{rules, ◌≡◌, ◌∷◌, [], refl, ◌∙◌, subst, sym, List}
+use Rattle.std.proofs.Common.{rules, ◌≡◌, ◌∷◌, [], refl, ◌∙◌, subst, List}
 use Rattle.tm_types.specs.declared.request.Item.{Item}
 use Rattle.tm_take.specs.Situations.{situations}
 use Rattle.tm_seat.specs.Playing.{Walk, IsPlayingTree}
@@ -16,7 +16,8 @@ pub play_record-requires-clause-tree : goal.play_record-requires-clause-tree
 play_record-requires-clause-tree g c =
     let is : c.loop-item.lines ≡ c.in-Some.item ∷ c.next.new.self = search rules in
     let walk : Walk = record { records = c.args.records; home = c.args.home; known = g.S.Seat.at c.args.seat.now; before = g.S.Seat.own c.args.seat.now } in (
-      walk, c.next.new.self,
+      walk,
+      c.next.new.self,
       tree-same (g.S.Seat.opening c.args.seat.now) (g.S.Seat.opening c.loop-item.seat) walk (g.S.Seat.at c.loop-item.seat) (g.S.Seat.own c.loop-item.seat) (situations c.loop-item.known) (c.in-Some.item ∷ c.next.new.self) c.loop-item.takes.items c.loop-item.invariant.0
           (subst (λ (lines : List Item). IsPlayingTree (g.S.Seat.opening c.args.seat.now) walk (g.S.Seat.at c.loop-item.seat) (g.S.Seat.own c.loop-item.seat) (situations c.loop-item.known) lines c.loop-item.takes.items) is c.loop-item.invariant.1),
     )
