@@ -1,0 +1,6 @@
+pub mod Opening
+mod Claiming
+mod TakeEvents
+mod TreeEvents
+mod EditEvents
+pub mod WorkerEvents

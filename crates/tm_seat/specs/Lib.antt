@@ -1,0 +1,4 @@
+pub mod Seats
+pub mod Playing
+pub mod Rows
+pub mod Editing

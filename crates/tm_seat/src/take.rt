@@ -1,0 +1,199 @@
+//! A take from its first look to its end.
+ghost use Rattle.std.specs.Prelude.{◌≡◌, ◌++◌, ◌∷◌, [], ℕ, true, List, length, Some, IfOk};
+ghost use Rattle.tm_rules.specs.Requests.{is_request};
+ghost use Rattle.tm_types.specs.declared.step.Step.{Step};
+ghost use Rattle.tm_types.specs.declared.step.Maker.{Maker};
+ghost use Rattle.tm_types.specs.declared.verdict.Verdict.{Verdict};
+ghost use Rattle.tm_grammar.specs.Tomoyo.{tomoyo_grammar};
+ghost use Rattle.tm_legal.specs.Legal.{own_numbers};
+ghost use Rattle.tm_legal.specs.Play.{Stage, IsOpened, IsNamed};
+ghost use Rattle.tm_legal.specs.Stages.{DomainIn};
+ghost use Rattle.tm_take.specs.Situations.{situation_of};
+ghost use Rattle.tm_joint.specs.UnderWay.{JudgedBy, begun_at};
+ghost use Rattle.tm_seat.specs.Seats.{state_of, FitsFrom, Begins, MadeBy};
+ghost use Rattle.tm_seat.specs.Playing.{Errand, IsPlaying, PlaysOn, TakeIsLegal, LooksSince};
+
+use crate::seat::{Seat, Shown};
+use std::alloc::{AllocError, Global};
+use tm_list::NoMemory;
+use tm_take::{NextEvent, PendingLook, ProcessSituation, RequestInProgress, begin};
+use tm_types::request::Request;
+use tm_types::step::{Made, Maker, Settled, Take};
+
+// A look at the newest version: the take that it begins, or goes on with.
+fn look<S: Seat>(
+    seat: &mut S,
+    alloc: Global,
+    domain: u32,
+    pending: PendingLook,
+) -> Result<RequestInProgress, NoMemory>
+    requires opened { IsOpened (S.opening seat.old).policy }
+    requires named { IsNamed tomoyo_grammar.is_path (S.opening seat.old).policy }
+    requires asked { is_request tomoyo_grammar.is_path pending.request ≡ true }
+    requires there { DomainIn (state_of (S.opening seat.old) (S.at seat.old)).policy domain }
+    ensures fitted { IfOk result (λ b. FitsFrom (S.opening seat.new) (S.at seat.new)) }
+    ensures looked { IfOk result (λ b. (v : Verdict)
+        × JudgedBy tomoyo_grammar (state_of (S.opening seat.new) (S.at seat.new))
+        domain (situation_of pending.now) pending.request v
+        × (b ≡ begun_at tomoyo_grammar (length (S.at seat.new))
+        (state_of (S.opening seat.new) (S.at seat.new)) (situation_of pending.now) domain
+        pending.request pending.retry pending.looked v)) }
+    ensures opening { S.opening seat.new ≡ S.opening seat.old }
+    ensures grows { Begins (S.at seat.old) (S.at seat.new) }
+    ensures own { S.own seat.new ≡ S.own seat.old }
+{
+    match seat.judge(alloc, domain, &pending.now.process, &pending.request) {
+        Ok((shown, version)) => {
+            let Shown { verdict, audit } = shown;
+            begin(alloc, version, domain, pending, verdict, audit)
+        }
+        Err(fault) => {
+            drop(pending);
+            Err(fault)
+        }
+    }
+}
+
+// The next own step of a take, which is made by its process.
+fn own_step<S: Seat>(
+    seat: &mut S,
+    alloc: Global,
+    attempt: RequestInProgress,
+) -> Result<RequestInProgress, NoMemory>
+    requires opened { IsOpened (S.opening seat.old).policy }
+    requires owes { (step : Step) × (rest : List Step)
+        × (attempt.stage ≡ Stage.Owing (step ∷ rest)) }
+    requires playing { (errand : Errand)
+        × IsPlaying (S.opening seat.old) errand (S.at seat.old) (S.own seat.old) attempt }
+    ensures playing { IfOk result (λ b. PlaysOn (S.opening seat.old)
+        (S.at seat.old) (S.own seat.old) attempt (S.at seat.new) (S.own seat.new) b) }
+    ensures opening { S.opening seat.new ≡ S.opening seat.old }
+    ensures grows { Begins (S.at seat.old) (S.at seat.new) }
+{
+    match attempt.next_owed() {
+        Some((step, left)) => {
+            let made = Made {
+                maker: Maker::Process(left.process().pid),
+                step,
+            };
+            match seat.settle(alloc, made) {
+                Ok(Settled { number, reply }) => left.after_step(number, reply),
+                Err(fault) => {
+                    drop(left);
+                    Err(fault)
+                }
+            }
+        }
+        None => unreachable!(),
+    }
+}
+
+// The taking of the answer to a take's query.
+fn hear<S: Seat>(
+    seat: &mut S,
+    alloc: Global,
+    attempt: RequestInProgress,
+    serial: u64,
+) -> Result<RequestInProgress, NoMemory>
+    requires opened { IsOpened (S.opening seat.old).policy }
+    requires waits { attempt.stage ≡ Stage.Waiting serial }
+    ensures playing { IfOk result (λ b. PlaysOn (S.opening seat.old)
+        (S.at seat.old) (S.own seat.old) attempt (S.at seat.new) (S.own seat.new) b) }
+    ensures opening { S.opening seat.new ≡ S.opening seat.old }
+    ensures grows { Begins (S.at seat.old) (S.at seat.new) }
+{
+    match seat.hear(serial) {
+        Ok((answer, version)) => attempt.after_answer(alloc, version, answer),
+        Err(fault) => {
+            drop(attempt);
+            Err(fault)
+        }
+    }
+}
+
+// Another look, after a retry.
+fn look_again<S: Seat>(
+    seat: &mut S,
+    alloc: Global,
+    attempt: RequestInProgress,
+) -> Result<RequestInProgress, NoMemory>
+    requires opened { IsOpened (S.opening seat.old).policy }
+    requires named { IsNamed tomoyo_grammar.is_path (S.opening seat.old).policy }
+    requires looking { attempt.stage ≡ Stage.Looking }
+    requires playing { (errand : Errand)
+        × IsPlaying (S.opening seat.old) errand (S.at seat.old) (S.own seat.old) attempt }
+    ensures playing { IfOk result (λ b. PlaysOn (S.opening seat.old)
+        (S.at seat.old) (S.own seat.old) attempt (S.at seat.new) (S.own seat.new) b) }
+    ensures opening { S.opening seat.new ≡ S.opening seat.old }
+    ensures grows { Begins (S.at seat.old) (S.at seat.new) }
+{
+    let domain = attempt.before();
+    let pending = attempt.again()?;
+    look(seat, alloc, domain, pending)
+}
+
+// The first look of a take.
+fn first_look<S: Seat>(
+    seat: &mut S,
+    alloc: Global,
+    now: ProcessSituation,
+    domain: u32,
+    request: Request,
+) -> Result<RequestInProgress, NoMemory>
+    requires opened { IsOpened (S.opening seat.old).policy }
+    requires named { IsNamed tomoyo_grammar.is_path (S.opening seat.old).policy }
+    requires asked { is_request tomoyo_grammar.is_path request ≡ true }
+    requires stands { now.domain ≡ Some domain }
+    requires there { DomainIn (state_of (S.opening seat.old) (S.at seat.old)).policy domain }
+    ensures playing { IfOk result (λ b. IsPlaying (S.opening seat.old)
+        (record { now = situation_of now; domain = domain; request = request; known = S.at seat.old; before = S.own seat.old })
+        (S.at seat.new) (S.own seat.new) b) }
+    ensures opening { S.opening seat.new ≡ S.opening seat.old }
+    ensures grows { Begins (S.at seat.old) (S.at seat.new) }
+{
+    let pending = PendingLook::first(alloc, now, request);
+    look(seat, alloc, domain, pending)
+}
+
+/// Plays a request of a process in the domain of this number: a look, then each step that the
+/// verdict asks for, the wait for an answer, and another look after a retry, until nothing is owed.
+///
+/// Errors: want of memory, or that no answer can come any more.
+pub fn play_take<S: Seat>(
+    seat: &mut S,
+    alloc: Global,
+    now: ProcessSituation,
+    domain: u32,
+    request: Request,
+) -> Result<Take, NoMemory>
+    requires opened { IsOpened (S.opening seat.old).policy }
+    requires named { IsNamed tomoyo_grammar.is_path (S.opening seat.old).policy }
+    requires asked { is_request tomoyo_grammar.is_path request ≡ true }
+    requires stands { now.domain ≡ Some domain }
+    requires there { DomainIn (state_of (S.opening seat.old) (S.at seat.old)).policy domain }
+    ensures fitted { IfOk result (λ take. FitsFrom (S.opening seat.old) (S.at seat.new)) }
+    ensures legal { IfOk result (λ take. TakeIsLegal (S.opening seat.old)
+        (S.at seat.old) (S.at seat.new) (situation_of now) request take) }
+    ensures there { IfOk result
+        (λ take. DomainIn (state_of (S.opening seat.old) (S.at seat.new)).policy take.after) }
+    ensures own { IfOk result
+        (λ take. S.own seat.new ≡ S.own seat.old ++ own_numbers (take ∷ [])) }
+    ensures makers { IfOk result (λ take. MadeBy (Maker.Process now.process.pid ∷ [])
+        (S.at seat.old) (S.own seat.old) (S.at seat.new) (S.own seat.new)) }
+    ensures fresh { IfOk result (λ take. LooksSince (length (S.at seat.old)) take) }
+    ensures pid { IfOk result (λ take. take.pid ≡ now.process.pid) }
+    ensures opening { S.opening seat.new ≡ S.opening seat.old }
+    ensures grows { Begins (S.at seat.old) (S.at seat.new) }
+{
+    let mut attempt = first_look(seat, alloc, now, domain, request)?;
+    for _ in 0..u64::MAX {
+        match attempt.next_event() {
+            NextEvent::End => return attempt.into_take(),
+            NextEvent::OwnStep => attempt = own_step(seat, alloc, attempt)?,
+            NextEvent::Answer(serial) => attempt = hear(seat, alloc, attempt, serial)?,
+            NextEvent::Look => attempt = look_again(seat, alloc, attempt)?,
+        }
+    }
+    drop(attempt);
+    Err(AllocError)
+}
