@@ -1,2 +1,4 @@
 pub mod Lists
 pub mod Walks
+pub mod Listing
+pub mod Told

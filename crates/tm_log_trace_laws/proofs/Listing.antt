@@ -68,26 +68,26 @@ pub fitting-in : (list : Listed) (p : ℕ) (domain : DomainName) → length list
 fitting-in list p domain lengths e = by (slice_get list.domains p) refl e
   where
     by : (o : Option DomainName) → slice_get list.domains p ≡ o → is_named o domain ≡ true → Fitting list p domain
-    by None at e = absurd cc
-    by (Some own) at e =
-        let found : (process : Process) × (slice_get list.processes p ≡ Some process) = get-in list.domains list.processes p own (sym lengths) at in
-        record { process = found.0; own = own; there = record { place = found.1; inside = at }; goes = inl (texts_sound own domain e) }
+    by None there e = absurd cc
+    by (Some own) there e =
+        let found : (process : Process) × (slice_get list.processes p ≡ Some process) = get-in list.domains list.processes p own (sym lengths) there in
+        record { process = found.0; own = own; there = record { place = found.1; inside = there }; goes = inl (texts_sound own domain e) }
 
 pub fitting-moved : (list : Listed) (p : ℕ) (domain : DomainName) → length list.processes ≡ length list.domains → moved list p domain ≡ true → Fitting list p domain
 unfolding moved
 fitting-moved list p domain lengths e = by (slice_get list.domains p) refl e
   where
     by : (o : Option DomainName) → slice_get list.domains p ≡ o → moved_from (at list p).is_open o domain ≡ true → Fitting list p domain
-    by None at e = absurd cc
+    by None there e = absurd cc
     by (Some own) there e =
         let found : (process : Process) × (slice_get list.processes p ≡ Some process) = get-in list.domains list.processes p own (sym lengths) there in
-        let parts = both (at list p).is_open (not (texts_equal own domain) && leads own domain) e in
-        let led = both (not (texts_equal own domain)) (leads own domain) parts.1 in
+        let parts = both ((at list p).is_open && not (texts_equal own domain)) (leads own domain) e in
+        let opened = both (at list p).is_open (not (texts_equal own domain)) parts.0 in
         record {
           process = found.0;
           own = own;
           there = record { place = found.1; inside = there };
-          goes = inr (ap (λ (process : Process). process.is_open) (sym (at-is list p found.0 found.1)) ∙ parts.0, led.1);
+          goes = inr (ap (λ (process : Process). process.is_open) (sym (at-is list p found.0 found.1)) ∙ opened.0, parts.1);
         }
 
 pub fitting : (list : Listed) (p : ℕ) (domain : DomainName) → length list.processes ≡ length list.domains → fits list p domain ≡ true → Fitting list p domain
@@ -101,11 +101,11 @@ fitting list p domain lengths e = by (either (is_in list p domain) (moved list p
 -- the first that passes a test passes it
 first-passes : (test : ℕ → Bool) (k n p : ℕ) → first_from test k n ≡ Some p → test p ≡ true
 first-passes test k zero p e = absurd cc
-first-passes test k (suc n) p e = by (test k) refl e
+first-passes test k (suc n) p e = by (test k) refl (first-passes test (suc k) n p) e
   where
-    by : (b : Bool) → test k ≡ b → (if b then Some k else first_from test (suc k) n) ≡ Some p → test p ≡ true
-    by true passes e = (let same : k ≡ p = cc in rw same at passes)
-    by false fails e = first-passes test (suc k) n p e
+    by : (b : Bool) → test k ≡ b → (first_from test (suc k) n ≡ Some p → test p ≡ true) → (if b then Some k else first_from test (suc k) n) ≡ Some p → test p ≡ true
+    by true passes later e = (let same : k ≡ p = cc in rw same at passes)
+    by false fails later e = later e
 
 pub fitting-settled : (list : Listed) (p : ℕ) (domain : DomainName) → length list.processes ≡ length list.domains → is_settled list domain p ≡ true → Fitting list p domain
 fitting-settled list p domain lengths e = fitting-in list p domain lengths (both (not (at list p).is_open) (is_in list p domain) e).1
@@ -126,10 +126,10 @@ pub writer-there : (list : Listed) (p : ℕ) → length list.processes ≡ lengt
 writer-there list p lengths e = by (slice_get list.processes p) refl e
   where
     by : (o : Option Process) → slice_get list.processes p ≡ o → (unwrap_or o nobody).is_writer ≡ true → (process : Process) × (own : DomainName) × There list p process own
-    by None at e = absurd cc
-    by (Some process) at e =
-        let found : (own : DomainName) × (slice_get list.domains p ≡ Some own) = get-in list.processes list.domains p process lengths at in
-        (process, found.0, record { place = at; inside = found.1 })
+    by None there e = absurd cc
+    by (Some process) there e =
+        let found : (own : DomainName) × (slice_get list.domains p ≡ Some own) = get-in list.processes list.domains p process lengths there in
+        (process, found.0, record { place = there; inside = found.1 })
 
 -- Changes
 

@@ -138,20 +138,23 @@ settled_at tree domain = record { tree = tree; domain = domain; is_open = false 
 pub fork-last : (c n tree : ℕ) (domain : DomainName) (s : Stands) → stand_of s c ≡ None → (n ≡ c → ⊥) → SameBut c ((n, settled_at tree domain) ∷ s) (after_line s (fork_line tree n c domain))
 fork-last c n tree domain s none ne = same-one c (settled_at tree domain) ((n, settled_at tree domain) ∷ s) ((n, settled_at tree domain) ∷ s) (same-refl c ((n, settled_at tree domain) ∷ s))
 
--- just before a line of a request
-pub fork-before : (c n tree : ℕ) (domain : DomainName) (request : Request) (used : Option Used) (s : Stands) (xs ys : List Happening) → (let line : Happening = record { tree = tree; item = Item.Do n request; domain = domain; used = used } in Replays s (xs ++ line ∷ ys) → stand_of (after_lines s (xs ++ line ∷ ys)) c ≡ None → Joined c s s (xs ++ line ∷ ys) (xs ++ fork_line tree n c domain ∷ line ∷ ys) (settled_at tree domain))
-fork-before c n tree domain request used s xs ys all none =
+-- just before a line that makes no process itself
+pub fork-before : (c tree : ℕ) (item : Item) (domain : DomainName) (used : Option Used) (s : Stands) (xs ys : List Happening) → ((st : Stand) (t : Stands) → with_child item st t ≡ t) → (let line : Happening = record { tree = tree; item = item; domain = domain; used = used } in Replays s (xs ++ line ∷ ys) → stand_of (after_lines s (xs ++ line ∷ ys)) c ≡ None → Joined c s s (xs ++ line ∷ ys) (xs ++ fork_line tree (pid_of item) c domain ∷ line ∷ ys) (settled_at tree domain))
+fork-before c tree item domain used s xs ys quiet all none =
     record {
       replays = replays-both s xs (fork ∷ line ∷ ys) (replays-front s xs (line ∷ ys) all) (back.0, (fits, frame c (after_line mid line) (after_line made line) ys same none-back back.1));
       others = rw (after-append s xs (line ∷ ys), after-append s xs (fork ∷ line ∷ ys)) (same-after c ys (after_line mid line) (after_line made line) same);
-      own = rw (after-append s xs (fork ∷ line ∷ ys)) (frame-own c (after_line mid line) (after_line made line) ys none-back ∙ stand-other made n c (stand_after line) here.other ∙ stand-same ((n, st) ∷ mid) c st);
+      own = rw (after-append s xs (fork ∷ line ∷ ys)) (frame-own c (after_line mid line) (after_line made line) ys none-back ∙ here.kept made ∙ stand-same ((n, st) ∷ mid) c st);
     }
   where
+    n : ℕ
+    n = pid_of item
+
     st : Stand
     st = settled_at tree domain
 
     line : Happening
-    line = record { tree = tree; item = Item.Do n request; domain = domain; used = used }
+    line = record { tree = tree; item = item; domain = domain; used = used }
 
     fork : Happening
     fork = fork_line tree n c domain
@@ -174,12 +177,14 @@ fork-before c n tree domain request used s xs ys all none =
     fits : StandsIn (stand_of made n) tree domain
     fits = rw (stand-other ((n, st) ∷ mid) c n st (λ e. here.other (sym e)), stand-same mid n st) (refl, inl refl)
 
+    core : (m : ℕ) → (m ≡ c → ⊥) → (b : Bool) → (n == m) ≡ b → stand_of ((n, stand_after line) ∷ mid) m ≡ stand_of ((n, stand_after line) ∷ made) m
+    core m ne true e = rw e refl
+    core m ne false e = rw (e, ne_eqb c m (λ x. ne (sym x))) refl
+
     same : SameBut c (after_line mid line) (after_line made line)
-    same m ne = by (n == m) refl
-      where
-        by : (b : Bool) → (n == m) ≡ b → stand_of ((n, stand_after line) ∷ mid) m ≡ stand_of ((n, stand_after line) ∷ made) m
-        by true e = rw e refl
-        by false e = rw (e, ne_eqb c m (λ x. ne (sym x))) refl
+    same m ne =
+        ap (λ t. stand_of t m) (quiet (stand_after line) ((n, stand_after line) ∷ mid)) ∙ core m ne (n == m) refl
+        ∙ ap (λ t. stand_of t m) (sym (quiet (stand_after line) ((n, stand_after line) ∷ made)))
 
 -- a new tree
 firsts-last : (k : ℕ) (trees : Trace) (tree : Tree) → stand_of (firsts_from k trees) tree.pid ≡ None → stand_of (firsts_from k (trees ++ tree ∷ [])) tree.pid ≡ Some (settled_at (k + length trees) tree.start)
