@@ -46,7 +46,7 @@ held-stand None process domain h = absurd h
 held-stand (Some st) process domain h = (st, refl, h)
 
 not-open : (b : Bool) → b ≡ false → b ≡ true → ⊥
-not-open b no yes = true≢false (sym yes ∙ no)
+not-open b closed opened = true≢false (sym opened ∙ closed)
 
 -- A line more
 
@@ -213,7 +213,7 @@ walk-forks-before F trees list marked k m child h at quiet fresh tree closed wit
     becomes : history later ≡ xs ++ fork ∷ line_of m ∷ ys
     becomes =
         ap history (split.set (bearing m c)) ∙ history-append split.before (bearing m c ∷ split.behind)
-        ∙ ap (λ t. history split.before ++ (t ++ line_of m ∷ []) ++ ys) (forks-bearing m.line.children)
+        ∙ ap (λ t. history split.before ++ ((t ++ line_of m ∷ []) ++ ys)) (forks-bearing m.line.children)
         ∙ ap (λ t. history split.before ++ t) (regroup (forks_of m m.line.children) fork (line_of m) ys)
         ∙ sym (append_assoc (history split.before) (forks_of m m.line.children) (fork ∷ line_of m ∷ ys))
       where
@@ -221,9 +221,9 @@ walk-forks-before F trees list marked k m child h at quiet fresh tree closed wit
         forks-bearing [] = refl
         forks-bearing (x ∷ cs) = ap (λ t. fork_line m.line.tree (pid_of m.line.item) x m.domain ∷ t) (forks-bearing cs)
 
-        regroup : (fs : List Happening) (f l : Happening) (ys : List Happening) → ((fs ++ f ∷ []) ++ l ∷ []) ++ ys ≡ fs ++ f ∷ l ∷ ys
-        regroup [] f l ys = refl
-        regroup (x ∷ fs) f l ys = ap (λ t. x ∷ t) (regroup fs f l ys)
+        regroup : (fs : List Happening) (f l : Happening) (zs : List Happening) → ((fs ++ f ∷ []) ++ l ∷ []) ++ zs ≡ fs ++ f ∷ l ∷ zs
+        regroup [] f l zs = refl
+        regroup (x ∷ fs) f l zs = ap (λ t. x ∷ t) (regroup fs f l zs)
 
     joined : Joined c s s (xs ++ line_of m ∷ ys) (xs ++ fork ∷ line_of m ∷ ys) (settled_at m.line.tree m.domain)
     joined =

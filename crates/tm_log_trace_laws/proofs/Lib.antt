@@ -2,3 +2,9 @@ pub mod Lists
 pub mod Walks
 pub mod Listing
 pub mod Told
+pub mod Going
+pub mod Sound
+pub mod Keys
+pub mod Finding
+pub mod Asking
+pub mod Ending

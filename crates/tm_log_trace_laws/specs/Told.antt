@@ -1,5 +1,5 @@
 -- What the trace of a log tells of its records.
-use Rattle.std.specs.Prelude.{◌≡◌, ⊤, ℕ, ◌+◌, ◌^◌, ◌-◌, ◌<◌, ◌≤◌, ◌==◌, if◌then◌else◌, List, [], ◌∷◌, ◌++◌, length, slice_get, min, Option, Some, None}
+use Rattle.std.specs.Prelude.{◌≡◌, ⊤, ℕ, suc, ◌<◌, ◌≤◌, ◌==◌, nat_le, if◌then◌else◌, ◌⊎◌, List, [], ◌∷◌, ◌++◌, length, slice_get, Option, Some, None}
 use Rattle.std.specs.List.{AllByRecursion, flat_map}
 use Rattle.tm_types.specs.declared.request.Item.{Item}
 use Rattle.tm_types.specs.declared.request.Request.{Request}
@@ -57,6 +57,36 @@ abbrev pub IsCutBefore : Option Source → List Used → Type 0
 IsCutBefore None rest = rest ≡ []
 IsCutBefore (Some source) rest = (used : Used) × (more : List Used) × (rest ≡ used ∷ more) × (used.source ≡ source)
 
+-- Pids
+
+-- after a warning a key that means this process means this one
+abbrev pub renamed : ℕ → ℕ → Warning → ℕ
+renamed key pid (Warning.Again old next) = if old == key then next else pid
+renamed key pid (Warning.Move old domain next) = if old == pid then next else pid
+renamed key pid _ = pid
+
+abbrev pub number_from : ℕ → ℕ → List Note → ℕ
+number_from key pid [] = pid
+number_from key pid (note ∷ notes) = number_from key (renamed key pid note.warning) notes
+
+-- the process that a pid of the log means after these warnings: that of this pid, until it is used again or its process goes on as another
+abbrev pub number_told : ℕ → List Note → ℕ
+number_told key notes = number_from key key notes
+
+-- the warnings up to a record
+abbrev pub notes_up_to : ℕ → List Note → List Note
+notes_up_to number [] = []
+notes_up_to number (note ∷ notes) = if nat_le note.source.number number then note ∷ notes_up_to number notes else notes_up_to number notes
+
+abbrev pub number_at : List Note → Used → ℕ → ℕ
+number_at warnings used key = number_told key (notes_up_to used.source.number warnings)
+
+-- a line that is of a record is of the process that the record's pid means, or its global pid
+abbrev pub IsNamed : List Note → Option Used → ℕ → Type 0
+IsNamed warnings None pid = ⊤
+IsNamed warnings (Some used) pid =
+    (pid ≡ number_at warnings used used.«record».process.pid) ⊎ (pid ≡ number_at warnings used used.«record».global_pid)
+
 -- the trace is these lines, tree by tree, each in order; those of records are all records up to the cut, each once and in order; any
 -- other `do` is a manual transition of which a warning tells; and each process can be in the domain of each of its lines
 pub record IsHistory (log : Log) (made : Made) (history : List Happening) (rest : List Used) : Type 0 where
@@ -65,6 +95,7 @@ pub record IsHistory (log : Log) (made : Made) (history : List Happening) (rest 
   pub records : log.used ≡ records_of history ++ rest
   pub cut : IsCutBefore made.cut rest
   pub each : AllByRecursion (λ (h : Happening). IsOf h.used h) history
+  pub named : AllByRecursion (λ (h : Happening). IsNamed made.warnings h.used (pid_of h.item)) history
   pub manuals : supposed_of history ≡ manuals_in made.warnings
   pub replays : Replays (firsts_from 0 made.trace) history
 
@@ -73,6 +104,11 @@ abbrev pub HasPids : Used → Type 0
 HasPids used =
     (used.«record».global_pid ≤ 4194304) × (used.«record».process.pid ≤ 4194304) × (used.«record».process.ppid ≤ 4194304)
 
+-- each record has a greater number than those before it, the first at least this one
+abbrev pub RisesFrom : ℕ → List Used → Type 0
+RisesFrom number [] = ⊤
+RisesFrom number (used ∷ more) = (number ≤ used.source.number) × RisesFrom (suc used.source.number) more
+
 abbrev pub EachRecordIsOneLine : Type 0
 EachRecordIsOneLine =
-    (log : Log) → AllByRecursion HasPids log.used → (history : List Happening) × (rest : List Used) × IsHistory log (trace_made log) history rest
+    (log : Log) → AllByRecursion HasPids log.used → RisesFrom 0 log.used → (history : List Happening) × (rest : List Used) × IsHistory log (trace_made log) history rest
