@@ -17,7 +17,6 @@ use Rattle.tm_log_processes.specs.Processes.{same_ids}
 use Rattle.tm_log_processes.specs.Places.{Left, with_place}
 use Rattle.tm_log_processes.specs.Forests.{Grown, added, counted, has_room, sum_of, pid_of}
 use Rattle.tm_log_processes.specs.Lists.{Listed, at, with_process, fits}
-use Rattle.tm_log_trace.specs.declared.maker.Told.{Told}
 use Rattle.tm_log_trace.specs.declared.notes.Note.{Note}
 use Rattle.tm_log_trace.specs.declared.notes.Warning.{Warning}
 use Rattle.tm_log_trace.specs.Making.{Making, warned, process_with, process_of, key_by, key_of, with_ids, executed, writes_own_domain, writing, after_request, asked, warned_of_cut, told_of, with_request, taken_as, at_source, taken}
@@ -53,22 +52,22 @@ pub record Counted (recs : List Used) (number : ℕ) (s made : Making) (p : ℕ)
   pub source : made.source ≡ s.source
   pub same_warnings : made.warnings ≡ s.warnings
 
-ids-ready : (recs : List Used) (number : ℕ) (s : Making) (p : ℕ) (told : Told) → Ready recs number s p told.domain → Counted recs number s (with_ids s p told) p told.domain
+ids-ready : (recs : List Used) (number : ℕ) (s : Making) (p key : ℕ) (one : Record) → Ready recs number s p one.domain → Counted recs number s (with_ids s p (told_of key one)) p one.domain
 unfolding with_ids added
-ids-ready recs number s p told h =
+ids-ready recs number s p key one h =
     let old : Process = h.here.process in
-    let new : Process = record old { ids = told.process.ids } in
-    let item : Item = Item.Ids old.origin.number told.process.ids in
-    let within : old.tree < length s.forest.trees = tree-there (IsFree s.table s.invented) s.forest.trees s.list h.sound.marked p old told.domain h.sound.walk h.here.there in
+    let new : Process = record old { ids = one.process.ids } in
+    let item : Item = Item.Ids old.origin.number one.process.ids in
+    let within : old.tree < length s.forest.trees = tree-there (IsFree s.table s.invented) s.forest.trees s.list h.sound.marked p old one.domain h.sound.walk h.here.there in
     let changed : Making = record s { forest = added s.forest old.tree item 0; list = with_process s.list p new } in
-    let done : Counted recs number s changed p told.domain = record {
+    let done : Counted recs number s changed p one.domain = record {
       ready = record {
         sound = record {
-          marked = h.sound.marked ++ mark old.tree item told.domain None ∷ [];
-          told = told-push-none recs s.source.number s.forest s.warnings h.sound.marked old.tree item 0 told.domain h.sound.told within refl;
-          walk = walk-line-kept (IsFree s.table s.invented) s.forest.trees s.list h.sound.marked p old new told.domain item None h.sound.walk h.here.there refl (λ st t. refl) refl refl
+          marked = h.sound.marked ++ mark old.tree item one.domain None ∷ [];
+          told = told-push-none recs s.source.number s.forest s.warnings h.sound.marked old.tree item 0 one.domain h.sound.told within refl;
+          walk = walk-line-kept (IsFree s.table s.invented) s.forest.trees s.list h.sound.marked p old new one.domain item None h.sound.walk h.here.there refl (λ st t. refl) refl refl
               (refl, inl refl, λ open_. absurd (true≢false (sym open_ ∙ h.here.closed)));
-          left = left-push s.places h.sound.marked (mark old.tree item told.domain None ∷ []) h.sound.left;
+          left = left-push s.places h.sound.marked (mark old.tree item one.domain None ∷ []) h.sound.left;
         };
         here = record {
           process = new;
@@ -82,10 +81,10 @@ ids-ready recs number s p told h =
       source = refl;
       same_warnings = refl;
     } in
-    let kept : Counted recs number s s p told.domain = record { ready = h; same_invented = refl; source = refl; same_warnings = refl } in
-    rw h.here.there.place (by (same_ids old.ids told.process.ids) changed kept done)
+    let kept : Counted recs number s s p one.domain = record { ready = h; same_invented = refl; source = refl; same_warnings = refl } in
+    rw h.here.there.place (by (same_ids old.ids one.process.ids) changed kept done)
   where
-    by : (b : Bool) (changed : Making) → Counted recs number s s p told.domain → Counted recs number s changed p told.domain → Counted recs number s (if b then s else changed) p told.domain
+    by : (b : Bool) (changed : Making) → Counted recs number s s p one.domain → Counted recs number s changed p one.domain → Counted recs number s (if b then s else changed) p one.domain
     by true changed kept done = kept
     by false changed kept done = done
 
@@ -104,10 +103,10 @@ after_execute old refused place =
     record old { last_execute = Some place; is_open = old.is_open || not refused; is_writer = old.is_writer && refused }
 
 module _ (recs : List Used) (s : Making) (p : ℕ) (used : Used) (h : Ready recs (number_told used.«record».process.pid s.warnings) s p used.«record».domain ⊎ Ready recs (number_told used.«record».global_pid s.warnings) s p used.«record».domain) (source : s.source ≡ used.source) where
-  F : ℕ → Type 0
+  abbrev F : ℕ → Type 0
   F = IsFree s.table s.invented
 
-  one : Record
+  abbrev one : Record
   one = used.«record»
 
   sound : Sounds recs F s
@@ -131,16 +130,16 @@ module _ (recs : List Used) (s : Making) (p : ℕ) (used : Used) (h : Ready recs
       of (inl r) = (r.here, inl r.number_is)
       of (inr r) = (r.here, inr r.number_is)
 
-  old : Process
+  abbrev old : Process
   old = found.0.process
 
   there : There s.list p old one.domain
   there = found.0.there
 
-  item : Item
+  abbrev item : Item
   item = Item.Do old.origin.number one.request
 
-  line : Marked
+  abbrev line : Marked
   line = mark old.tree item one.domain (Some used)
 
   marked : List Marked
@@ -165,7 +164,7 @@ module _ (recs : List Used) (s : Making) (p : ℕ) (used : Used) (h : Ready recs
   left-after : LeftOk s.places (now-sound.marked ++ line ∷ [])
   left-after = left-push s.places now-sound.marked (line ∷ []) now-sound.left
 
-  place : Place
+  abbrev place : Place
   place = record { line = length s.forest.lines; tree = old.tree; ids = old.ids }
 
   left-executed : LeftOk (with_place s.places place one.domain) (now-sound.marked ++ line ∷ [])
@@ -190,9 +189,9 @@ module _ (recs : List Used) (s : Making) (p : ℕ) (used : Used) (h : Ready recs
   or-false true b no_ e = absurd cc
   or-false false b no_ e = e
 
-  pub asked-done : (size : ℕ) (told : Told) → told.domain ≡ one.domain → Asked (recs ++ used ∷ []) (suc used.source.number) s (asked s p told one.request size one.refused)
+  pub asked-done : (size key : ℕ) → Asked (recs ++ used ∷ []) (suc used.source.number) s (asked s p (told_of key one) one.request size one.refused)
   unfolding asked executed
-  asked-done size told domain = rw (there.place, domain) (by (is_execute one.request) refl)
+  asked-done size key = rw there.place (by (is_execute one.request) refl)
     where
       moved : Process
       moved = after_execute old one.refused (length s.places.places)
@@ -277,7 +276,7 @@ first-part false b c e = absurd cc
 
 -- a record that has room
 pub taken-going : (recs : List Used) (next : ℕ) (s : Making) (used : Used) → Going recs next s → HasPids used → next ≤ used.source.number → has_room s.forest used.size ≡ true → Going (recs ++ used ∷ []) (suc used.source.number) (taken s used)
-unfolding taken has_room
+unfolding taken
 taken-going recs next s used h pids later room =
     cut-going (recs ++ used ∷ []) (suc used.source.number) counted_ last one.cut done
     (let e : last.source ≡ used.source = done.source ∙ source in rw e (omega arith))
@@ -293,20 +292,17 @@ taken-going recs next s used h pids later room =
     key : ℕ
     key = key_of start one
 
-    told : Told
-    told = told_of key one
-
     found : Making
-    found = (process_of start told).0
+    found = (process_of start (told_of key one)).0
 
     p : ℕ
-    p = (process_of start told).1
+    p = (process_of start (told_of key one)).1
 
     counted_ : Making
-    counted_ = with_ids found p told
+    counted_ = with_ids found p (told_of key one)
 
     last : Making
-    last = asked counted_ p told one.request used.size one.refused
+    last = asked counted_ p (told_of key one) one.request used.size one.refused
 
     few : s.forest.records ≤ 199995
     few = leb-true s.forest.records 199995 (first-part (nat_le s.forest.records 199995) (nat_le (length s.forest.trees) 4094) (nat_le (sum_of s.forest.bytes used.size) 16768216) room)
@@ -330,10 +326,10 @@ taken-going recs next s used h pids later room =
     }
 
     t : Taken recs key start found p one.domain
-    t = process-taken recs start told sound h.names h.low bound key-low pids.2
+    t = process-taken recs start key one sound h.names h.low bound key-low pids.2
 
     c : Counted recs (number_told key found.warnings) found counted_ p one.domain
-    c = ids-ready recs (number_told key found.warnings) found p told (record { sound = t.sound; here = t.here; names = t.names; number_is = t.number })
+    c = ids-ready recs (number_told key found.warnings) found p key one (record { sound = t.sound; here = t.here; names = t.names; number_is = t.number })
 
     source : counted_.source ≡ used.source
     source = c.source ∙ t.source
@@ -349,4 +345,4 @@ taken-going recs next s used h pids later room =
         by (inr e) = inr (subst (λ n. Ready recs n counted_ p one.domain) (means one.global_pid e) c.ready)
 
     done : Asked (recs ++ used ∷ []) (suc used.source.number) counted_ last
-    done = asked-done recs counted_ p used ready source used.size told refl
+    done = asked-done recs counted_ p used ready source used.size key

@@ -16,18 +16,19 @@ use Rattle.tm_log.specs.declared.log.Source.{Source}
 use Rattle.tm_log.specs.declared.log.Used.{Used}
 use Rattle.tm_log_processes.specs.declared.forest.TraceLine.{TraceLine}
 use Rattle.tm_log_processes.specs.Forests.{has_room, items_of, with_items, put_if, with_line, in_trees, pid_of}
-use Rattle.tm_log_trace.specs.declared.made.TakenAll.{TakenAll}
 use Rattle.tm_log_trace.specs.declared.notes.Note.{Note}
 use Rattle.tm_log_trace.specs.Making.{Making, nothing_made, taken, seen}
 use Rattle.tm_log_trace.specs.Made.{all_seen, step, step_if, step_by, count_next, taken_all, none_taken, trace_made}
 use Rattle.tm_log_trace_laws.specs.History.{Happening, Replays, firsts_from}
-use Rattle.tm_log_trace_laws.specs.Told.{items_in, record_in, records_of, IsOf, IsNamed, supposed_in, supposed_of, IsCutBefore, IsHistory, HasPids, RisesFrom, EachRecordIsOneLine}
+use Rattle.tm_log_trace_laws.specs.Told.{items_in, record_in, records_of, IsOf, IsNamed, supposed_in, supposed_of, IsCutBefore, IsHistory, HasPids, RisesFrom, EachRecordIsOneLine, EachRecordOfBytesIsOneLine}
 use Rattle.tm_log_trace_laws.proofs.Lists.{All-get, All-both, All-later, get-in, get-set-same, get-set-other, length-set}
 use Rattle.tm_log_trace_laws.proofs.Walks.{fork_line}
 use Rattle.tm_log_trace_laws.proofs.Told.{Marked, line_of, forks_of, happenings, history}
 use Rattle.tm_log_trace_laws.proofs.Keys.{IsFree}
 use Rattle.tm_log_trace_laws.proofs.Sound.{Sound}
+use Rattle.tm_log.specs.Logs.{log_of}
 use Rattle.tm_log_trace_laws.proofs.Asking.{Going, taken-going}
+use Rattle.tm_log_trace_laws.proofs.LogReads.{log-ok}
 
 -- The trees with their lines
 
@@ -106,14 +107,11 @@ items-of t m = items-append t (forks_of m m.line.children) (line_of m ∷ []) �
 
 items-all : (t : ℕ) (ms : List Marked) → items_in t (history ms) ≡ lines_in t (map (λ (m : Marked). m.line) ms)
 items-all t [] = refl
-items-all t (m ∷ ms) = items-append t (happenings m) (history ms) ∙ ap (λ items. items ++ items_in t (history ms)) (items-of t m) ∙ by (m.line.tree == t)
+items-all t (m ∷ ms) = items-append t (happenings m) (history ms) ∙ ap (λ items. items ++ items_in t (history ms)) (items-of t m) ∙ by (items-all t ms) (m.line.tree == t)
   where
-    more : items_in t (history ms) ≡ lines_in t (map (λ (m : Marked). m.line) ms)
-    more = items-all t ms
-
-    by : (b : Bool) → (if b then items_of m.line else []) ++ items_in t (history ms) ≡ (if b then items_of m.line ++ lines_in t (map (λ (m : Marked). m.line) ms) else lines_in t (map (λ (m : Marked). m.line) ms))
-    by true = ap (λ items. items_of m.line ++ items) more
-    by false = more
+    by : items_in t (history ms) ≡ lines_in t (map (λ (m : Marked). m.line) ms) → (b : Bool) → (if b then items_of m.line else []) ++ items_in t (history ms) ≡ (if b then items_of m.line ++ lines_in t (map (λ (m : Marked). m.line) ms) else lines_in t (map (λ (m : Marked). m.line) ms))
+    by more true = ap (λ items. items_of m.line ++ items) more
+    by more false = more
 
 records-all : (ms : List Marked) → records_of (history ms) ≡ flat_map (λ (m : Marked). record_in m.used) ms
 records-all [] = refl
@@ -189,47 +187,50 @@ going-nothing = record {
     nowhere x f e = absurd cc
 
 -- what is taken, and what isn't
-pub record TakenSo (recs log : List Used) (all : TakenAll) : Type 0 where
+pub record TakenSo (recs log : List Used) (made : Making) (cut : Option Source) : Type 0 where
   pub more : List Used
   pub rest : List Used
   pub next : ℕ
-  pub going : Going (recs ++ more) next all.maker
+  pub going : Going (recs ++ more) next made
   pub is : log ≡ more ++ rest
-  pub cut : IsCutBefore all.cut rest
+  pub at_cut : IsCutBefore cut rest
 
-stays : (all : TakenAll) (source : Source) (log : List Used) → all.cut ≡ Some source → taken_all all log ≡ all
+-- once the log is cut nothing is taken
+stays-made : (s : Making) (count : ℕ) (source : Source) (log : List Used) → (taken_all (record { maker = s; count = count; cut = Some source }) log).maker ≡ s
 unfolding step
-stays all source [] e = refl
-stays all source (used ∷ more) e = rw e (stays all source more e)
+stays-made s count source [] = refl
+stays-made s count source (used ∷ more) = stays-made s count source more
 
-taken-so : (recs log : List Used) (next : ℕ) (s : Making) (count : ℕ) → Going recs next s → AllByRecursion HasPids log → RisesFrom next log → TakenSo recs log (taken_all (record { maker = s; count = count; cut = None }) log)
+stays-cut : (s : Making) (count : ℕ) (source : Source) (log : List Used) → (taken_all (record { maker = s; count = count; cut = Some source }) log).cut ≡ Some source
 unfolding step
-taken-so recs [] next s count h pids rises = record { more = []; rest = []; next = next; going = rw (append-nil recs) h; is = refl; cut = refl }
+stays-cut s count source [] = refl
+stays-cut s count source (used ∷ more) = stays-cut s count source more
+
+taken-so : (recs log : List Used) (next : ℕ) (s : Making) (count : ℕ) → Going recs next s → AllByRecursion HasPids log → RisesFrom next log → TakenSo recs log (taken_all (record { maker = s; count = count; cut = None }) log).maker (taken_all (record { maker = s; count = count; cut = None }) log).cut
+unfolding step
+taken-so recs [] next s count h pids rises = record { more = []; rest = []; next = next; going = rw (append-nil recs) h; is = refl; at_cut = refl }
 taken-so recs (used ∷ log) next s count h pids rises = by (has_room s.forest used.size) refl (λ going. taken-so (recs ++ used ∷ []) log (suc used.source.number) (taken s used) (count_next count) going pids.1 rises.1)
   where
-    all : TakenAll
-    all = record { maker = s; count = count; cut = None }
-
-    full : TakenAll
-    full = record { maker = s; count = count; cut = Some used.source }
-
-    one-more : TakenAll
-    one-more = record { maker = taken s used; count = count_next count; cut = None }
-
-    by : (b : Bool) → has_room s.forest used.size ≡ b → (Going (recs ++ used ∷ []) (suc used.source.number) (taken s used) → TakenSo (recs ++ used ∷ []) log (taken_all one-more log)) → TakenSo recs (used ∷ log) (taken_all (step_if b all used) log)
+    by : (b : Bool) → has_room s.forest used.size ≡ b → (Going (recs ++ used ∷ []) (suc used.source.number) (taken s used) → TakenSo (recs ++ used ∷ []) log (taken_all (record { maker = taken s used; count = count_next count; cut = None }) log).maker (taken_all (record { maker = taken s used; count = count_next count; cut = None }) log).cut) → TakenSo recs (used ∷ log) (taken_all (step_if b (record { maker = s; count = count; cut = None }) used) log).maker (taken_all (step_if b (record { maker = s; count = count; cut = None }) used) log).cut
     by true room later =
         let t = later (taken-going recs next s used h pids.0 rises.0 room) in
         record {
           more = used ∷ t.more;
           rest = t.rest;
           next = t.next;
-          going = subst (λ rs. Going rs t.next (taken_all one-more log).maker) (append_assoc recs (used ∷ []) t.more) t.going;
+          going = subst (λ rs. Going rs t.next (taken_all (record { maker = taken s used; count = count_next count; cut = None }) log).maker) (append_assoc recs (used ∷ []) t.more) t.going;
           is = ap (λ rs. used ∷ rs) t.is;
-          cut = t.cut;
+          at_cut = t.at_cut;
         }
     by false room later =
-        subst (λ x. TakenSo recs (used ∷ log) x) (sym (stays full used.source log refl))
-        (record { more = []; rest = used ∷ log; next = next; going = rw (append-nil recs) h; is = refl; cut = (used, log, refl, refl) })
+        record {
+          more = [];
+          rest = used ∷ log;
+          next = next;
+          going = rw (append-nil recs, stays-made s count used.source log) h;
+          is = refl;
+          at_cut = rw (stays-cut s count used.source log) (used, log, refl, refl);
+        }
 
 -- first processes are what they were
 firsts-set : (k : ℕ) (trees : Trace) (t : ℕ) (tree new : Tree) → slice_get trees t ≡ Some tree → new.pid ≡ tree.pid → new.start ≡ tree.start → firsts_from k (slice_set trees t new) ≡ firsts_from k trees
@@ -269,9 +270,9 @@ one_line_each log pids rises =
         within = each-all (λ (h : Happening). h.tree < length trace) sound.marked (λ m c lt. lt)
             (All-later (λ (m : Marked). m.line.tree < length trees) (λ (m : Marked). m.line.tree < length trace) sound.marked (λ m lt. rw (length-trees trees lines) lt) sound.told.within);
         records = t.is ∙ ap (λ rs. rs ++ t.rest) (sym sound.told.records ∙ sym (records-all sound.marked));
-        cut = t.cut;
+        cut = t.at_cut;
         each = each-all (λ (h : Happening). IsOf h.used h) sound.marked (λ m c is. tt) sound.told.each;
-        named = each-all (λ (h : Happening). IsNamed all.maker.warnings h.used (pid_of h.item)) sound.marked (λ m c is. tt) sound.told.named;
+        named = each-all (λ (h : Happening). IsNamed made.warnings h.used (pid_of h.item)) sound.marked (λ m c is. tt) sound.told.named;
         manuals = supposed-all sound.marked ∙ sound.told.manuals;
         replays = subst (λ s. Replays s (history sound.marked)) (sym (firsts-trees trees lines)) sound.walk.replays;
       },
@@ -280,20 +281,23 @@ one_line_each log pids rises =
     start : Making
     start = all_seen nothing_made log.used
 
-    all : TakenAll
-    all = taken_all (none_taken start) log.used
+    made : Making
+    made = (taken_all (none_taken start) log.used).maker
 
-    t : TakenSo [] log.used all
+    t : TakenSo [] log.used made (taken_all (none_taken start) log.used).cut
     t = taken-so [] log.used 0 start 0 (seen-all nothing_made log.used (Going [] 0) going-seen going-nothing) pids rises
 
-    sound : Sound t.more (IsFree all.maker.table all.maker.invented) t.next all.maker.forest all.maker.list all.maker.places all.maker.warnings
+    sound : Sound t.more (IsFree made.table made.invented) t.next made.forest made.list made.places made.warnings
     sound = t.going.sound
 
     trees : Trace
-    trees = all.maker.forest.trees
+    trees = made.forest.trees
 
     lines : List TraceLine
-    lines = all.maker.forest.lines
+    lines = made.forest.lines
 
     trace : Trace
     trace = in_trees trees lines
+
+pub one_line_each_of_bytes : EachRecordOfBytesIsOneLine
+one_line_each_of_bytes bytes room = (let log = log-ok bytes room in one_line_each (log_of bytes) log.1.pids log.1.rises)

@@ -6,13 +6,13 @@ use Rattle.std.specs.BTreeMap.{insert_entry}
 use Rattle.std.proofs.lemmas.Bool.{eq-eqb, ne_eqb, eqb-true, eqb-false}
 use Rattle.tm_rules.specs.Words.{DomainName}
 use Rattle.tm_log.specs.declared.log.Used.{Used}
+use Rattle.tm_log.specs.declared.record.Record.{Record}
 use Rattle.tm_log_processes.specs.declared.process.Origin.{Origin}
 use Rattle.tm_log_processes.specs.declared.process.Process.{Process}
 use Rattle.tm_log_processes.specs.Lists.{Listed, at, with_process, with_domain, fits, comes_from}
-use Rattle.tm_log_trace.specs.declared.maker.Told.{Told}
 use Rattle.tm_log_trace.specs.declared.notes.Note.{Note}
 use Rattle.tm_log_trace.specs.declared.notes.Warning.{Warning}
-use Rattle.tm_log_trace.specs.Making.{Making, warned, process_with, named, naming, next_number, with_invented, staying, put, gone_manually, start_of, unknown_parent, parent_by, parent_of, child, origin_of, child_of, has_no_parent, made_as, made, moved_on, settled, handed, again, differs, known_with, known, warned_of_thread, process_by, process_of}
+use Rattle.tm_log_trace.specs.Making.{Making, warned, process_with, named, naming, next_number, with_invented, staying, put, gone_manually, start_of, unknown_parent, parent_by, parent_of, child, origin_of, child_of, has_no_parent, made_as, made, moved_on, settled, handed, again, differs, known_with, known, warned_of_thread, process_by, process_of, told_of}
 use Rattle.tm_log_trace_laws.specs.Told.{manual_in, renamed, number_told}
 use Rattle.tm_log_trace_laws.proofs.Lists.{get-in, get-set-same}
 use Rattle.tm_log_trace_laws.proofs.Listing.{There, Listing, Fitting, at-is, fitting, writer-there}
@@ -39,7 +39,7 @@ named-fewer : (But More : ℕ → Type 0) (table : Table) (list : Listed) (warni
 named-fewer But More table list warnings more h =
     record { known = λ key p ne e. h.known key p (λ b. ne (more key b)) e; unknown = λ key ne low e. h.unknown key (λ b. ne (more key b)) low e }
 
-named-kept : (But : ℕ → Type 0) (table now : Table) (list later : Listed) (warnings notes : List Note) → now ≡ table → Keeps list later → ((key : ℕ) → number_told key notes ≡ number_told key warnings) → Named But table list warnings → Named But now later notes
+pub named-kept : (But : ℕ → Type 0) (table now : Table) (list later : Listed) (warnings notes : List Note) → now ≡ table → Keeps list later → ((key : ℕ) → number_told key notes ≡ number_told key warnings) → Named But table list warnings → Named But now later notes
 named-kept But table now list later warnings notes same keeps told h =
     record {
       known = λ key p ne e.
@@ -97,23 +97,23 @@ pub record Parented (recs : List Used) (But : ℕ → Type 0) (invented ppid : �
   pub source : made.source ≡ s.source
   pub same : (key : ℕ) → number_told key made.warnings ≡ number_told key s.warnings
 
-pub parent-found : (recs : List Used) (But : ℕ → Type 0) (invented : ℕ) (s : Making) (told : Told) → Sounds recs (IsFree s.table invented) s → Named But s.table s.list s.warnings → (But told.process.ppid → ⊥) → told.process.ppid ≤ 4194304 → Parented recs But invented told.process.ppid s (parent_of s told).0
+pub parent-found : (recs : List Used) (But : ℕ → Type 0) (invented : ℕ) (s : Making) (key : ℕ) (one : Record) → Sounds recs (IsFree s.table invented) s → Named But s.table s.list s.warnings → (But one.process.ppid → ⊥) → one.process.ppid ≤ 4194304 → Parented recs But invented one.process.ppid s (parent_of s (told_of key one)).0
 unfolding parent_of
-parent-found recs But invented s told h names ne low = by (process_with s told.process.ppid) refl
+parent-found recs But invented s key one h names ne low = by (process_with s one.process.ppid) refl
   where
     ppid : ℕ
-    ppid = told.process.ppid
+    ppid = one.process.ppid
 
     starting : Making
-    starting = warned s (Warning.Parent ppid (start_of s told))
+    starting = warned s (Warning.Parent ppid (start_of s (told_of key one)))
 
-    by : (o : Option ℕ) → process_with s ppid ≡ o → Parented recs But invented ppid s (parent_by o s told).0
+    by : (o : Option ℕ) → process_with s ppid ≡ o → Parented recs But invented ppid s (parent_by o s (told_of key one)).0
     by (Some q) e = record { sound = h; names = names; later = λ n other f. f; same_invented = refl; source = refl; same = λ key. refl }
     by None e =
-        let b = put-found recs (IsFree s.table invented) starting (unknown_parent ppid) (start_of s told) (sound-warned recs (IsFree s.table invented) s (Warning.Parent ppid (start_of s told)) refl (λ key pid. refl) h) (inl (low, e)) in
-        let parent : Making = (put starting (unknown_parent ppid) (start_of s told)).0 in
-        let q : ℕ = (put starting (unknown_parent ppid) (start_of s told)).1 in
-        let kept : Kept s parent = kept-trans s starting parent (kept-warned s (Warning.Parent ppid (start_of s told)) (λ key pid. refl)) b.found.kept in
+        let b = put-found recs (IsFree s.table invented) starting (unknown_parent ppid) (start_of s (told_of key one)) (sound-warned recs (IsFree s.table invented) s (Warning.Parent ppid (start_of s (told_of key one))) refl (λ key pid. refl) h) (inl (low, e)) in
+        let parent : Making = (put starting (unknown_parent ppid) (start_of s (told_of key one))).0 in
+        let q : ℕ = (put starting (unknown_parent ppid) (start_of s (told_of key one))).1 in
+        let kept : Kept s parent = kept-trans s starting parent (kept-warned s (Warning.Parent ppid (start_of s (told_of key one))) (λ key pid. refl)) b.found.kept in
         let mine : Process = b.found.here.process in
         let number : mine.origin.number ≡ number_told ppid parent.warnings = ap (λ (o : Origin). o.number) b.is ∙ sym (names.unknown ppid ne low e) ∙ sym (kept.same ppid) in
         record {
@@ -145,40 +145,40 @@ last-false : (a b : Bool) → (a || b) ≡ false → b ≡ false
 last-false true b e = absurd cc
 last-false false b e = e
 
-pub entered-as : (recs : List Used) (invented : ℕ) (s : Making) (number : ℕ) (told : Told) → Sounds recs (IsFree s.table invented) s → Named (OneKey told.key) s.table s.list s.warnings → IsFree s.table invented number → ((told.process.ppid ≡ told.key → ⊥) → number ≡ told.process.ppid → ⊥) → told.process.ppid ≤ 4194304 → Entered recs invented number told.key s (made_as s number told).0 (made_as s number told).1 told.domain
+pub entered-as : (recs : List Used) (invented : ℕ) (s : Making) (number : ℕ) (key : ℕ) (one : Record) → Sounds recs (IsFree s.table invented) s → Named (OneKey key) s.table s.list s.warnings → IsFree s.table invented number → ((one.process.ppid ≡ key → ⊥) → number ≡ one.process.ppid → ⊥) → one.process.ppid ≤ 4194304 → Entered recs invented number key s (made_as s number (told_of key one)).0 (made_as s number (told_of key one)).1 one.domain
 unfolding made_as
-entered-as recs invented s number told h names fresh apart low = by (has_no_parent told) refl
+entered-as recs invented s number key one h names fresh apart low = by (has_no_parent (told_of key one)) refl
   where
     as-by : Bool → Making × ℕ
-    as-by b = if b then put s (origin_of number told None) told.domain else child_of (parent_of s told) number told
+    as-by b = if b then put s (origin_of number (told_of key one) None) one.domain else child_of (parent_of s (told_of key one)) number (told_of key one)
 
-    by : (b : Bool) → has_no_parent told ≡ b → Entered recs invented number told.key s (as-by b).0 (as-by b).1 told.domain
+    by : (b : Bool) → has_no_parent (told_of key one) ≡ b → Entered recs invented number key s (as-by b).0 (as-by b).1 one.domain
     by true e =
-        let b = put-found recs (IsFree s.table invented) s (origin_of number told None) told.domain h fresh in
-        let last : Making = (put s (origin_of number told None) told.domain).0 in
+        let b = put-found recs (IsFree s.table invented) s (origin_of number (told_of key one) None) one.domain h fresh in
+        let last : Making = (put s (origin_of number (told_of key one) None) one.domain).0 in
         record {
           sound = subst (λ t. Sounds recs (Less (IsFree t invented) number) last) (sym b.found.kept.table) b.found.sound;
           here = b.found.here;
           mine = ap (λ (o : Origin). o.key) b.is;
           is = ap (λ (o : Origin). o.number) b.is;
-          names = named-kept (OneKey told.key) s.table last.table s.list last.list s.warnings last.warnings b.found.kept.table b.found.kept.keeps b.found.kept.same names;
+          names = named-kept (OneKey key) s.table last.table s.list last.list s.warnings last.warnings b.found.kept.table b.found.kept.keeps b.found.kept.same names;
           same_invented = b.found.kept.invented;
           source = b.found.kept.source;
           same = b.found.kept.same;
         }
     by false e =
-        let other : told.process.ppid ≡ told.key → ⊥ = eqb-false told.process.ppid told.key (last-false (not (told.key == told.process.pid) || told.process.ppid == 0) (told.process.ppid == told.key) e) in
-        let parent = parent-found recs (OneKey told.key) invented s told h names other low in
-        let mid : Making = (parent_of s told).0 in
-        let q : ℕ = (parent_of s told).1 in
-        let b = child-found recs (IsFree mid.table invented) mid q (origin_of number told (Some q)) told.domain parent.sound (parent.later number (apart other) fresh) in
-        let last : Making = (child mid q (origin_of number told (Some q)) told.domain).0 in
+        let other : one.process.ppid ≡ key → ⊥ = eqb-false one.process.ppid key (last-false (not (key == one.process.pid) || one.process.ppid == 0) (one.process.ppid == key) e) in
+        let parent = parent-found recs (OneKey key) invented s key one h names other low in
+        let mid : Making = (parent_of s (told_of key one)).0 in
+        let q : ℕ = (parent_of s (told_of key one)).1 in
+        let b = child-found recs (IsFree mid.table invented) mid q (origin_of number (told_of key one) (Some q)) one.domain parent.sound (parent.later number (apart other) fresh) in
+        let last : Making = (child mid q (origin_of number (told_of key one) (Some q)) one.domain).0 in
         record {
           sound = subst (λ t. Sounds recs (Less (IsFree t invented) number) last) (sym b.found.kept.table) b.found.sound;
           here = b.found.here;
           mine = ap (λ (o : Origin). o.key) b.is;
           is = ap (λ (o : Origin). o.number) b.is;
-          names = named-kept (OneKey told.key) mid.table last.table mid.list last.list mid.warnings last.warnings b.found.kept.table b.found.kept.keeps b.found.kept.same parent.names;
+          names = named-kept (OneKey key) mid.table last.table mid.list last.list mid.warnings last.warnings b.found.kept.table b.found.kept.keeps b.found.kept.same parent.names;
           same_invented = b.found.kept.invented ∙ parent.same_invented;
           source = b.found.kept.source ∙ parent.source;
           same = λ k. b.found.kept.same k ∙ parent.same k;
@@ -196,21 +196,21 @@ pub record Taken (recs : List Used) (key : ℕ) (s made : Making) (p : ℕ) (dom
   pub high : made.invented ≤ s.invented + 1
 
 -- its number was there before: none is invented
-pub made-taken : (recs : List Used) (invented : ℕ) (s : Making) (number : ℕ) (told : Told) → Sounds recs (IsFree s.table invented) s → Named (OneKey told.key) s.table s.list s.warnings → number_told told.key s.warnings ≡ number → IsFree s.table invented number → ((told.process.ppid ≡ told.key → ⊥) → number ≡ told.process.ppid → ⊥) → told.process.ppid ≤ 4194304 → ((t : Table) (p n : ℕ) → IsFree (insert_entry nat_cmp t told.key p) s.invented n → Less (IsFree t invented) number n) → Taken recs told.key s (made s number told).0 (made s number told).1 told.domain × ((made s number told).0.invented ≡ s.invented)
+pub made-taken : (recs : List Used) (invented : ℕ) (s : Making) (number : ℕ) (key : ℕ) (one : Record) → Sounds recs (IsFree s.table invented) s → Named (OneKey key) s.table s.list s.warnings → number_told key s.warnings ≡ number → IsFree s.table invented number → ((one.process.ppid ≡ key → ⊥) → number ≡ one.process.ppid → ⊥) → one.process.ppid ≤ 4194304 → ((t : Table) (p n : ℕ) → IsFree (insert_entry nat_cmp t key p) s.invented n → Less (IsFree t invented) number n) → Taken recs key s (made s number (told_of key one)).0 (made s number (told_of key one)).1 one.domain × ((made s number (told_of key one)).0.invented ≡ s.invented)
 unfolding made
-made-taken recs invented s number told h names means fresh apart low fewer =
-    let e = entered-as recs invented s number told h names fresh apart low in
-    let last : Making = (made_as s number told).0 in
-    let p : ℕ = (made_as s number told).1 in
+made-taken recs invented s number key one h names means fresh apart low fewer =
+    let e = entered-as recs invented s number key one h names fresh apart low in
+    let last : Making = (made_as s number (told_of key one)).0 in
+    let p : ℕ = (made_as s number (told_of key one)).1 in
     (
       record {
-        sound = sound-fewer recs (Less (IsFree last.table invented) number) (IsFree (insert_entry nat_cmp last.table told.key p) last.invented) last
-            (λ n f. fewer last.table p n (subst (λ i. IsFree (insert_entry nat_cmp last.table told.key p) i n) e.same_invented f)) e.sound;
+        sound = sound-fewer recs (Less (IsFree last.table invented) number) (IsFree (insert_entry nat_cmp last.table key p) last.invented) last
+            (λ n f. fewer last.table p n (subst (λ i. IsFree (insert_entry nat_cmp last.table key p) i n) e.same_invented f)) e.sound;
         here = e.here;
-        names = named-entry NoKey last.table last.list last.warnings told.key p e.here.process
-            (named-fewer (OneKey told.key) (OrKey NoKey told.key) last.table last.list last.warnings (λ n x. inr x) e.names)
-            e.here.there.place e.mine (e.is ∙ sym means ∙ sym (e.same told.key));
-        number = e.is ∙ sym means ∙ sym (e.same told.key);
+        names = named-entry NoKey last.table last.list last.warnings key p e.here.process
+            (named-fewer (OneKey key) (OrKey NoKey key) last.table last.list last.warnings (λ n x. inr x) e.names)
+            e.here.there.place e.mine (e.is ∙ sym means ∙ sym (e.same key));
+        number = e.is ∙ sym means ∙ sym (e.same key);
         source = e.source;
         low = rw e.same_invented (omega arith);
         high = rw e.same_invented (omega arith);
@@ -267,9 +267,9 @@ next-is : (n : ℕ) → n < 4294967295 → next_number n ≡ n + 1
 next-is n lt = omega arith
 
 -- another one goes on for it
-moved-taken : (recs : List Used) (s : Making) (p : ℕ) (told : Told) → Standing recs s told.key p → told.key ≤ 4194304 → Taken recs told.key s (moved_on s p told).0 (moved_on s p told).1 told.domain
+moved-taken : (recs : List Used) (s : Making) (p : ℕ) (key : ℕ) (one : Record) → Standing recs s key p → key ≤ 4194304 → Taken recs key s (moved_on s p (told_of key one)).0 (moved_on s p (told_of key one)).1 one.domain
 unfolding moved_on
-moved-taken recs s p told h key-low =
+moved-taken recs s p key one h key-low =
     record {
       sound = sound-fewer recs (Less (IsFree s.table s.invented) next) (IsFree (insert_entry nat_cmp last.table key q) last.invented) last fewer b.found.sound;
       here = b.found.here;
@@ -282,9 +282,6 @@ moved-taken recs s p told h key-low =
       high = rw (b.found.kept.invented, next_is) (omega arith);
     }
   where
-    key : ℕ
-    key = told.key
-
     m : Meant s key p
     m = meant recs s key p h
 
@@ -298,7 +295,7 @@ moved-taken recs s p told h key-low =
     next_is = next-is s.invented h.high
 
     warning : Warning
-    warning = Warning.Move (at s.list p).origin.number told.domain next
+    warning = Warning.Move (at s.list p).origin.number one.domain next
 
     mid : Making
     mid = warned (with_invented s) warning
@@ -307,16 +304,16 @@ moved-taken recs s p told h key-low =
     origin = record (at s.list p).origin { number = next }
 
     last : Making
-    last = (put mid origin told.domain).0
+    last = (put mid origin one.domain).0
 
     q : ℕ
-    q = (put mid origin told.domain).1
+    q = (put mid origin one.domain).1
 
     past : (4194304 < next) × (s.invented < next)
     past = (let l = h.low in let e = next_is in (omega (arith, e), omega (arith, e)))
 
-    b : Born recs (Less (IsFree s.table s.invented) next) mid last q origin told.domain
-    b = put-found recs (IsFree s.table s.invented) mid origin told.domain (sound-renamed recs (IsFree s.table s.invented) s warning refl h.sound) (inr past)
+    b : Born recs (Less (IsFree s.table s.invented) next) mid last q origin one.domain
+    b = put-found recs (IsFree s.table s.invented) mid origin one.domain (sound-renamed recs (IsFree s.table s.invented) s warning refl h.sound) (inr past)
 
     renames : (k : ℕ) → number_told k mid.warnings ≡ (if m.process.origin.number == number_told k s.warnings then next else number_told k s.warnings)
     renames k = number-more k s.warnings (record { source = s.source; warning = warning }) ∙ rw is refl
@@ -355,52 +352,52 @@ moved-taken recs s p told h key-low =
             sym mine ∙ ap (λ (process : Process). process.origin.key) (sym same) ∙ m.mine
 
 -- it is in the domain, goes there, or another one goes on for it
-settled-taken : (recs : List Used) (s : Making) (p : ℕ) (told : Told) → Standing recs s told.key p → told.key ≤ 4194304 → Taken recs told.key s (settled s p told).0 (settled s p told).1 told.domain
+settled-taken : (recs : List Used) (s : Making) (p : ℕ) (key : ℕ) (one : Record) → Standing recs s key p → key ≤ 4194304 → Taken recs key s (settled s p (told_of key one)).0 (settled s p (told_of key one)).1 one.domain
 unfolding settled
-settled-taken recs s p told h key-low = by (fits s.list p told.domain) refl
+settled-taken recs s p key one h key-low = by (fits s.list p one.domain) refl
   where
     F : ℕ → Type 0
     F = IsFree s.table s.invented
 
     later-by : Bool → Making × ℕ
-    later-by b = if b then (gone_manually s p told.domain, p) else moved_on s p told
+    later-by b = if b then (gone_manually s p one.domain, p) else moved_on s p (told_of key one)
 
     settled-by : Bool → Making × ℕ
-    settled-by b = if b then (record s { list = staying s.list p told.domain }, p) else later-by (at s.list p).is_writer
+    settled-by b = if b then (record s { list = staying s.list p one.domain }, p) else later-by (at s.list p).is_writer
 
-    writes : (b : Bool) → (at s.list p).is_writer ≡ b → Taken recs told.key s (later-by b).0 (later-by b).1 told.domain
+    writes : (b : Bool) → (at s.list p).is_writer ≡ b → Taken recs key s (later-by b).0 (later-by b).1 one.domain
     writes true e =
         let who = writer-there s.list p h.sound.walk.listing.lengths e in
-        found-taken recs s (gone_manually s p told.domain) told.key p told.domain h (gone-found recs F s p who.0 who.1 told.domain h.sound who.2)
-    writes false e = moved-taken recs s p told h key-low
+        found-taken recs s (gone_manually s p one.domain) key p one.domain h (gone-found recs F s p who.0 who.1 one.domain h.sound who.2)
+    writes false e = moved-taken recs s p key one h key-low
 
-    by : (b : Bool) → fits s.list p told.domain ≡ b → Taken recs told.key s (settled-by b).0 (settled-by b).1 told.domain
+    by : (b : Bool) → fits s.list p one.domain ≡ b → Taken recs key s (settled-by b).0 (settled-by b).1 one.domain
     by true e =
-        let fit = fitting s.list p told.domain h.sound.walk.listing.lengths e in
+        let fit = fitting s.list p one.domain h.sound.walk.listing.lengths e in
         let old : Process = fit.process in
         let new : Process = record old { is_open = false } in
-        let done : Making = record s { list = with_domain (with_process s.list p new) p told.domain } in
-        let f : Found recs F s done p told.domain = record {
+        let done : Making = record s { list = with_domain (with_process s.list p new) p one.domain } in
+        let f : Found recs F s done p one.domain = record {
           sound = record {
             marked = h.sound.marked;
             told = h.sound.told;
-            walk = walk-settles F s.forest.trees s.list h.sound.marked p old new fit.own told.domain h.sound.walk fit.there fit.goes refl refl refl;
+            walk = walk-settles F s.forest.trees s.list h.sound.marked p old new fit.own one.domain h.sound.walk fit.there fit.goes refl refl refl;
             left = h.sound.left;
           };
           here = record {
             process = new;
-            there = record { place = get-set-same s.list.processes p new old fit.there.place; inside = get-set-same s.list.domains p told.domain fit.own fit.there.inside };
+            there = record { place = get-set-same s.list.processes p new old fit.there.place; inside = get-set-same s.list.domains p one.domain fit.own fit.there.inside };
             closed = refl;
           };
           kept = record {
             table = refl;
             invented = refl;
             source = refl;
-            keeps = keeps-put s.list p old new (slice_set s.list.domains p told.domain) fit.there.place refl refl;
+            keeps = keeps-put s.list p old new (slice_set s.list.domains p one.domain) fit.there.place refl refl;
             same = λ key. refl;
           };
         } in
-        rw fit.there.place (found-taken recs s done told.key p told.domain h f)
+        rw fit.there.place (found-taken recs s done key p one.domain h f)
     by false e = writes (at s.list p).is_writer refl
 
 -- its parent is another one
@@ -435,9 +432,9 @@ warned-standing recs s key p warning none plain h =
     }
 
 -- its key is another one's from now on
-again-taken : (recs : List Used) (s : Making) (p : ℕ) (told : Told) → Standing recs s told.key p → told.key ≤ 4194304 → told.process.ppid ≤ 4194304 → Taken recs told.key s (again s told).0 (again s told).1 told.domain
+again-taken : (recs : List Used) (s : Making) (p : ℕ) (key : ℕ) (one : Record) → Standing recs s key p → key ≤ 4194304 → one.process.ppid ≤ 4194304 → Taken recs key s (again s (told_of key one)).0 (again s (told_of key one)).1 one.domain
 unfolding again
-again-taken recs s p told h key-low low =
+again-taken recs s p key one h key-low low =
     record {
       sound = t.0.sound;
       here = t.0.here;
@@ -448,9 +445,6 @@ again-taken recs s p told h key-low low =
       high = rw (t.1, next_is) (omega arith);
     }
   where
-    key : ℕ
-    key = told.key
-
     next : ℕ
     next = next_number s.invented
 
@@ -464,7 +458,7 @@ again-taken recs s p told h key-low low =
     mid = warned (with_invented s) warning
 
     done : Making
-    done = (made mid next told).0
+    done = (made mid next (told_of key one)).0
 
     past : (4194304 < next) × (s.invented < next)
     past = (let l = h.low in let e = next_is in (omega (arith, e), omega (arith, e)))
@@ -486,20 +480,20 @@ again-taken recs s p told h key-low low =
         let few : IsFree (insert_entry nat_cmp table key q) s.invented n × (n ≡ next → ⊥) = free-invented (insert_entry nat_cmp table key q) s.invented next n past.1 past.0 f in
         (free-back table s.invented key q n few.0 key-low, few.1)
 
-    t : Taken recs key mid done (made mid next told).1 told.domain × (done.invented ≡ next)
-    t = made-taken recs s.invented mid next told (sound-renamed recs (IsFree s.table s.invented) s warning refl h.sound) mid-names
+    t : Taken recs key mid done (made mid next (told_of key one)).1 one.domain × (done.invented ≡ next)
+    t = made-taken recs s.invented mid next key one (sound-renamed recs (IsFree s.table s.invented) s warning refl h.sound) mid-names
         (renames key ∙ rw (eq-eqb key key refl) refl) (inr past) (λ other e. (let a : 4194304 < next = past.0 in absurd (omega arith))) low fewer
 
 -- a process that the key means
-known-taken : (recs : List Used) (s : Making) (p : ℕ) (told : Told) → Standing recs s told.key p → told.key ≤ 4194304 → told.process.ppid ≤ 4194304 → Taken recs told.key s (known s p told).0 (known s p told).1 told.domain
+known-taken : (recs : List Used) (s : Making) (p : ℕ) (key : ℕ) (one : Record) → Standing recs s key p → key ≤ 4194304 → one.process.ppid ≤ 4194304 → Taken recs key s (known s p (told_of key one)).0 (known s p (told_of key one)).1 one.domain
 unfolding known
-known-taken recs s p told h key-low low = by (not (told.key == told.global_pid))
+known-taken recs s p key one h key-low low = by (not (key == one.global_pid))
   where
     ppid : ℕ
-    ppid = told.process.ppid
+    ppid = one.process.ppid
 
     -- after a step that keeps the number of those that were invented
-    later : (mid made : Making) (q : ℕ) → mid.invented ≡ s.invented → mid.source ≡ s.source → Taken recs told.key mid made q told.domain → Taken recs told.key s made q told.domain
+    later : (mid made : Making) (q : ℕ) → mid.invented ≡ s.invented → mid.source ≡ s.source → Taken recs key mid made q one.domain → Taken recs key s made q one.domain
     later mid made q invented source t =
         record {
           sound = t.sound;
@@ -518,44 +512,41 @@ known-taken recs s p told h key-low low = by (not (told.key == told.global_pid))
     orphan = warned s warning
 
     over-by : Bool → Making × ℕ
-    over-by b = if b then again s told else settled (handed orphan p ppid) p told
+    over-by b = if b then again s (told_of key one) else settled (handed orphan p ppid) p (told_of key one)
 
-    over : (b : Bool) → Taken recs told.key s (over-by b).0 (over-by b).1 told.domain
-    over true = again-taken recs s p told h key-low low
+    over : (b : Bool) → Taken recs key s (over-by b).0 (over-by b).1 one.domain
+    over true = again-taken recs s p key one h key-low low
     over false =
-        later (handed orphan p ppid) (settled (handed orphan p ppid) p told).0 (settled (handed orphan p ppid) p told).1 refl refl
-        (settled-taken recs (handed orphan p ppid) p told (handed-standing recs orphan told.key p ppid (warned-standing recs s told.key p warning refl (λ key pid. refl) h)) key-low)
+        later (handed orphan p ppid) (settled (handed orphan p ppid) p (told_of key one)).0 (settled (handed orphan p ppid) p (told_of key one)).1 refl refl
+        (settled-taken recs (handed orphan p ppid) p key one (handed-standing recs orphan key p ppid (warned-standing recs s key p warning refl (λ key pid. refl) h)) key-low)
 
     with-by : Bool → Making × ℕ
-    with-by b = if b then settled (handed s p ppid) p told else over-by (not (ppid == 1) && not (comes_from s.list p ppid))
+    with-by b = if b then settled (handed s p ppid) p (told_of key one) else over-by (not (ppid == 1) && not (comes_from s.list p ppid))
 
-    parted : (b : Bool) → Taken recs told.key s (with-by b).0 (with-by b).1 told.domain
+    parted : (b : Bool) → Taken recs key s (with-by b).0 (with-by b).1 one.domain
     parted true =
-        later (handed s p ppid) (settled (handed s p ppid) p told).0 (settled (handed s p ppid) p told).1 refl refl
-        (settled-taken recs (handed s p ppid) p told (handed-standing recs s told.key p ppid h) key-low)
+        later (handed s p ppid) (settled (handed s p ppid) p (told_of key one)).0 (settled (handed s p ppid) p (told_of key one)).1 refl refl
+        (settled-taken recs (handed s p ppid) p key one (handed-standing recs s key p ppid h) key-low)
     parted false = over (not (ppid == 1) && not (comes_from s.list p ppid))
 
     known-by : Bool → Making × ℕ
-    known-by b = if b then settled s p told else known_with s p told ppid
+    known-by b = if b then settled s p (told_of key one) else known_with s p (told_of key one) ppid
 
-    by : (b : Bool) → Taken recs told.key s (known-by b).0 (known-by b).1 told.domain
-    by true = settled-taken recs s p told h key-low
+    by : (b : Bool) → Taken recs key s (known-by b).0 (known-by b).1 one.domain
+    by true = settled-taken recs s p key one h key-low
     by false = parted (not (differs (at s.list p).origin.ppid ppid))
 
 -- the process of a record
-pub process-taken : (recs : List Used) (s : Making) (told : Told) → Sounds recs (IsFree s.table s.invented) s → Named NoKey s.table s.list s.warnings → 4194304 ≤ s.invented → s.invented < 4294967295 → told.key ≤ 4194304 → told.process.ppid ≤ 4194304 → Taken recs told.key s (process_of s told).0 (process_of s told).1 told.domain
+pub process-taken : (recs : List Used) (s : Making) (key : ℕ) (one : Record) → Sounds recs (IsFree s.table s.invented) s → Named NoKey s.table s.list s.warnings → 4194304 ≤ s.invented → s.invented < 4294967295 → key ≤ 4194304 → one.process.ppid ≤ 4194304 → Taken recs key s (process_of s (told_of key one)).0 (process_of s (told_of key one)).1 one.domain
 unfolding process_of
-process-taken recs s told h names bound room key-low low = by (process_with s told.key) refl
+process-taken recs s key one h names bound room key-low low = by (process_with s key) refl
   where
-    key : ℕ
-    key = told.key
-
     warning : Warning
-    warning = Warning.Thread told.global_pid told.process.pid key
+    warning = Warning.Thread one.global_pid one.process.pid key
 
-    fresh : (mid : Making) → mid.table ≡ s.table → mid.invented ≡ s.invented → mid.source ≡ s.source → Sounds recs (IsFree s.table s.invented) mid → Named NoKey s.table mid.list mid.warnings → key_in s.table key ≡ None → Taken recs key s (made mid key told).0 (made mid key told).1 told.domain
+    fresh : (mid : Making) → mid.table ≡ s.table → mid.invented ≡ s.invented → mid.source ≡ s.source → Sounds recs (IsFree s.table s.invented) mid → Named NoKey s.table mid.list mid.warnings → key_in s.table key ≡ None → Taken recs key s (made mid key (told_of key one)).0 (made mid key (told_of key one)).1 one.domain
     fresh mid table invented source sound names e =
-        let t = made-taken recs s.invented mid key told (subst (λ t. Sounds recs (IsFree t s.invented) mid) (sym table) sound)
+        let t = made-taken recs s.invented mid key key one (subst (λ t. Sounds recs (IsFree t s.invented) mid) (sym table) sound)
             (named-fewer NoKey (OneKey key) mid.table mid.list mid.warnings (λ n x. absurd x) (subst (λ t. Named NoKey t mid.list mid.warnings) (sym table) names))
             (names.unknown key (λ x. x) key-low e) (inl (key-low, ap (λ t. key_in t key) table ∙ e)) (λ other same. other (sym same)) low
             (λ table_ q n f. free-before table_ s.invented key q n (subst (λ i. IsFree (insert_entry nat_cmp table_ key q) i n) invented f) key-low) in
@@ -569,12 +560,12 @@ process-taken recs s told h names bound room key-low low = by (process_with s to
           high = rw (t.1, invented) (omega arith);
         }
 
-    threads : (b : Bool) → key_in s.table key ≡ None → Taken recs key s (made (if b then s else warned s warning) key told).0 (made (if b then s else warned s warning) key told).1 told.domain
+    threads : (b : Bool) → key_in s.table key ≡ None → Taken recs key s (made (if b then s else warned s warning) key (told_of key one)).0 (made (if b then s else warned s warning) key (told_of key one)).1 one.domain
     threads true e = fresh s refl refl refl h names e
     threads false e =
         fresh (warned s warning) refl refl refl (sound-warned recs (IsFree s.table s.invented) s warning refl (λ key pid. refl) h)
         (named-kept NoKey s.table s.table s.list s.list s.warnings (warned s warning).warnings refl (keeps-refl s.list) (kept-warned s warning (λ key pid. refl)).same names) e
 
-    by : (o : Option ℕ) → process_with s key ≡ o → Taken recs key s (process_by o s told).0 (process_by o s told).1 told.domain
-    by None e = threads (key == told.process.pid) e
-    by (Some p) e = known-taken recs s p told (record { sound = h; names = names; means = e; low = bound; high = room }) key-low low
+    by : (o : Option ℕ) → process_with s key ≡ o → Taken recs key s (process_by o s (told_of key one)).0 (process_by o s (told_of key one)).1 one.domain
+    by None e = threads (key == one.process.pid) e
+    by (Some p) e = known-taken recs s p key one (record { sound = h; names = names; means = e; low = bound; high = room }) key-low low

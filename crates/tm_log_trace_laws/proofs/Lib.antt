@@ -7,4 +7,6 @@ pub mod Sound
 pub mod Keys
 pub mod Finding
 pub mod Asking
+pub mod Pids
+pub mod LogReads
 pub mod Ending

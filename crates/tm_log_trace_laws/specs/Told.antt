@@ -1,5 +1,5 @@
 -- What the trace of a log tells of its records.
-use Rattle.std.specs.Prelude.{◌≡◌, ⊤, ℕ, suc, ◌<◌, ◌≤◌, ◌==◌, nat_le, if◌then◌else◌, ◌⊎◌, List, [], ◌∷◌, ◌++◌, length, slice_get, Option, Some, None}
+use Rattle.std.specs.Prelude.{◌≡◌, ⊤, ℕ, suc, ◌-◌, ◌^◌, ◌<◌, ◌≤◌, ◌==◌, nat_le, if◌then◌else◌, ◌⊎◌, List, [], ◌∷◌, ◌++◌, length, slice_get, Option, Some, None}
 use Rattle.std.specs.List.{AllByRecursion, flat_map}
 use Rattle.tm_types.specs.declared.request.Item.{Item}
 use Rattle.tm_types.specs.declared.request.Request.{Request}
@@ -13,6 +13,7 @@ use Rattle.tm_log_trace.specs.declared.made.Made.{Made}
 use Rattle.tm_log_trace.specs.declared.notes.Note.{Note}
 use Rattle.tm_log_trace.specs.declared.notes.Warning.{Warning}
 use Rattle.tm_log_trace.specs.Making.{manual_request}
+use Rattle.tm_log.specs.Logs.{log_of}
 use Rattle.tm_log_trace.specs.Made.{trace_made}
 use Rattle.tm_log_trace_laws.specs.History.{Happening, Replays, firsts_from}
 
@@ -112,3 +113,8 @@ RisesFrom number (used ∷ more) = (number ≤ used.source.number) × RisesFrom 
 abbrev pub EachRecordIsOneLine : Type 0
 EachRecordIsOneLine =
     (log : Log) → AllByRecursion HasPids log.used → RisesFrom 0 log.used → (history : List Happening) × (rest : List Used) × IsHistory log (trace_made log) history rest
+
+-- the same of the log that bytes are, whose pids and numbers are such
+abbrev pub EachRecordOfBytesIsOneLine : Type 0
+EachRecordOfBytesIsOneLine =
+    (bytes : List ℕ) → length bytes < 2 ^ 64 - 1 → (history : List Happening) × (rest : List Used) × IsHistory (log_of bytes) (trace_made (log_of bytes)) history rest

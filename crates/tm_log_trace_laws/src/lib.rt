@@ -5,4 +5,4 @@
 
 mod laws;
 
-pub use laws::each_record_is_one_line;
+pub use laws::{each_record_is_one_line, each_record_of_bytes_is_one_line};
