@@ -46,19 +46,19 @@ taken-ok bound log lines h le = by (is_full log)
     source : Source
     source = record { number = lines.number; line = lines.line }
 
-    as : (r : Result Record Reason) → OkIs (λ (one : Record). (one.global_pid ≤ 4194304) × (one.process.pid ≤ 4194304) × (one.process.ppid ≤ 4194304)) r → LogOk (suc lines.number) (taken_as log source r)
-    as (Ok one) pids =
+    reasoned : (r : Result Record Reason) → OkIs (λ (one : Record). (one.global_pid ≤ 4194304) × (one.process.pid ≤ 4194304) × (one.process.ppid ≤ 4194304)) r → LogOk (suc lines.number) (taken_as log source r)
+    reasoned (Ok one) pids =
         let made : Log = with_used log source one in
         record {
           pids = All-both HasPids log.used _ h.pids (pids, tt);
           rises = rises-push 0 log.used _ h.rises (below-later bound lines.number log.used le h.below) (omega arith);
           below = All-both (IsBelow (suc lines.number)) log.used _ (below-later bound (suc lines.number) log.used (omega arith) h.below) (omega arith, tt);
         }
-    as (Err reason) pids = record { pids = h.pids; rises = h.rises; below = below-later bound (suc lines.number) log.used (omega arith) h.below }
+    reasoned (Err reason) pids = record { pids = h.pids; rises = h.rises; below = below-later bound (suc lines.number) log.used (omega arith) h.below }
 
     by : (b : Bool) → LogOk (suc lines.number) (if b then log else taken_as log source (record_of lines.texts))
     by true = log-later bound (suc lines.number) log (omega arith) h
-    by false = as (record_of lines.texts) (record-pids lines.texts)
+    by false = reasoned (record_of lines.texts) (record-pids lines.texts)
 
 -- the record that goes on is the latest
 abbrev HasCurrent : ℕ → ℕ → Option Lines → Type 0

@@ -30,13 +30,13 @@ OkIs P (Ok x) = P x
 OkIs P (Err e) = Unit {0}
 
 bound : {A B E : Type 0} (P : A → Type 0) (Q : B → Type 0) (r : Result A E) (f : A → Result B E) → OkIs P r → ((x : A) → P x → OkIs Q (f x)) → OkIs Q (r >>= f)
-bound P Q (Ok x) f h then = then x h
-bound P Q (Err e) f h then = tt
+bound P Q (Ok x) f h onward = onward x h
+bound P Q (Err e) f h onward = tt
 
 -- whatever is read
 anything : {A B E : Type 0} (Q : B → Type 0) (r : Result A E) (f : A → Result B E) → ((x : A) → OkIs Q (f x)) → OkIs Q (r >>= f)
-anything Q (Ok x) f then = then x
-anything Q (Err e) f then = tt
+anything Q (Ok x) f onward = onward x
+anything Q (Err e) f onward = tt
 
 reasoned : {A : Type 0} (P : A → Type 0) (reason : Reason) (r : Result A LineKind) → OkIs P r → OkIs P (for_reason reason r)
 reasoned P reason (Ok x) h = h
