@@ -20,7 +20,7 @@ use Rattle.tm_log_trace.specs.declared.notes.Note.{Note}
 use Rattle.tm_log_trace.specs.Making.{Making, nothing_made, taken, seen}
 use Rattle.tm_log_trace.specs.Made.{all_seen, step, step_if, step_by, count_next, taken_all, none_taken, trace_made}
 use Rattle.tm_log_trace_laws.specs.History.{Happening, Replays, firsts_from}
-use Rattle.tm_log_trace_laws.specs.Told.{items_in, record_in, records_of, IsOf, IsNamed, supposed_in, supposed_of, IsCutBefore, IsHistory, HasPids, RisesFrom, EachRecordIsOneLine, EachRecordOfBytesIsOneLine}
+use Rattle.tm_log_trace_laws.specs.Told.{items_in, record_in, records_of, IsOf, IsNamed, supposed_in, supposed_of, IsCutBefore, IsHistory, IsOfKernel, RisesFrom, EachRecordIsOneLine, EachRecordOfBytesIsOneLine}
 use Rattle.tm_log_trace_laws.proofs.Lists.{All-get, All-both, All-later, get-in, get-set-same, get-set-other, length-set}
 use Rattle.tm_log_trace_laws.proofs.Walks.{fork_line}
 use Rattle.tm_log_trace_laws.proofs.Told.{Marked, line_of, forks_of, happenings, history}
@@ -206,14 +206,14 @@ unfolding step
 stays-cut s count source [] = refl
 stays-cut s count source (used ∷ more) = stays-cut s count source more
 
-taken-so : (recs log : List Used) (next : ℕ) (s : Making) (count : ℕ) → Going recs next s → AllByRecursion HasPids log → RisesFrom next log → TakenSo recs log (taken_all (record { maker = s; count = count; cut = None }) log).maker (taken_all (record { maker = s; count = count; cut = None }) log).cut
+taken-so : (recs log : List Used) (next : ℕ) (s : Making) (count : ℕ) → Going recs next s → AllByRecursion IsOfKernel log → RisesFrom next log → TakenSo recs log (taken_all (record { maker = s; count = count; cut = None }) log).maker (taken_all (record { maker = s; count = count; cut = None }) log).cut
 unfolding step
 taken-so recs [] next s count h pids rises = record { more = []; rest = []; next = next; going = rw (append-nil recs) h; is = refl; at_cut = refl }
 taken-so recs (used ∷ log) next s count h pids rises = by (has_room s.forest used.size) refl (λ going. taken-so (recs ++ used ∷ []) log (suc used.source.number) (taken s used) (count_next count) going pids.1 rises.1)
   where
     by : (b : Bool) → has_room s.forest used.size ≡ b → (Going (recs ++ used ∷ []) (suc used.source.number) (taken s used) → TakenSo (recs ++ used ∷ []) log (taken_all (record { maker = taken s used; count = count_next count; cut = None }) log).maker (taken_all (record { maker = taken s used; count = count_next count; cut = None }) log).cut) → TakenSo recs (used ∷ log) (taken_all (step_if b (record { maker = s; count = count; cut = None }) used) log).maker (taken_all (step_if b (record { maker = s; count = count; cut = None }) used) log).cut
     by true room later =
-        let t = later (taken-going recs next s used h pids.0 rises.0 room) in
+        let t = later (taken-going recs next s used h pids.0.0 rises.0 room) in
         record {
           more = used ∷ t.more;
           rest = t.rest;

@@ -7,6 +7,8 @@ pub mod Sound
 pub mod Keys
 pub mod Finding
 pub mod Asking
+pub mod Passing
+pub mod Asks
 pub mod Pids
 pub mod LogReads
 pub mod Ending

@@ -14,7 +14,8 @@ use Rattle.tm_log_trace_laws.specs.History.{Stand, Stands, stand_of, MayBe, Stan
 use Rattle.tm_log_trace_laws.proofs.Lists.{get-set-other, get-set-same, length-set, get-push, get-in, get-last, set-same}
 use Rattle.tm_log_trace_laws.proofs.Walks.{SameBut}
 
--- a process is where its lines put it, or, unless its last move was an execute, where that may have led it
+-- a process is where its lines put it, or, unless its last move was an execute, where that may
+-- have led it
 abbrev pub HeldIn : Option Stand → Process → DomainName → Type 0
 HeldIn None process domain = ⊥
 HeldIn (Some stand) process domain =

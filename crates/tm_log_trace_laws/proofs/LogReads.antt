@@ -16,9 +16,10 @@ use Rattle.tm_log.specs.declared.record.Record.{Record}
 use Rattle.tm_log.specs.Gathering.{next, sort_of, no_lines, begun, with_more, with_line, with_line_of, gathered_as, gathered}
 use Rattle.tm_log.specs.Records.{record_of}
 use Rattle.tm_log.specs.Logs.{no_log, is_full, with_used, with_left, taken_as, taken, taken_if, Reading, nothing_read, ends_line, with_end, with_byte, fed, finished, log_of}
-use Rattle.tm_log_trace_laws.specs.Told.{HasPids, RisesFrom}
+use Rattle.tm_log_trace_laws.specs.Told.{IsOfKernel, RisesFrom}
 use Rattle.tm_log_trace_laws.proofs.Lists.{All-both, All-later}
-use Rattle.tm_log_trace_laws.proofs.Pids.{OkIs, record-pids}
+use Rattle.tm_log_trace_laws.proofs.Passing.{OkIs}
+use Rattle.tm_log_trace_laws.proofs.Pids.{HasRecord, record-pids}
 
 abbrev IsBelow : ℕ → Used → Type 0
 IsBelow bound used = used.source.number < bound
@@ -29,7 +30,7 @@ rises-push n (x ∷ xs) u rises below le = (rises.0, rises-push (suc x.source.nu
 
 -- records with pids, whose numbers rise to this one
 pub record LogOk (bound : ℕ) (log : Log) : Type 0 where
-  pub pids : AllByRecursion HasPids log.used
+  pub pids : AllByRecursion IsOfKernel log.used
   pub rises : RisesFrom 0 log.used
   pub below : AllByRecursion (IsBelow bound) log.used
 
@@ -46,11 +47,11 @@ taken-ok bound log lines h le = by (is_full log)
     source : Source
     source = record { number = lines.number; line = lines.line }
 
-    reasoned : (r : Result Record Reason) → OkIs (λ (one : Record). (one.global_pid ≤ 4194304) × (one.process.pid ≤ 4194304) × (one.process.ppid ≤ 4194304)) r → LogOk (suc lines.number) (taken_as log source r)
+    reasoned : (r : Result Record Reason) → OkIs HasRecord r → LogOk (suc lines.number) (taken_as log source r)
     reasoned (Ok one) pids =
         let made : Log = with_used log source one in
         record {
-          pids = All-both HasPids log.used _ h.pids (pids, tt);
+          pids = All-both IsOfKernel log.used _ h.pids (pids, tt);
           rises = rises-push 0 log.used _ h.rises (below-later bound lines.number log.used le h.below) (omega arith);
           below = All-both (IsBelow (suc lines.number)) log.used _ (below-later bound (suc lines.number) log.used (omega arith) h.below) (omega arith, tt);
         }

@@ -22,25 +22,10 @@ use Rattle.tm_log.specs.declared.record.Record.{Record}
 use Rattle.tm_log.specs.Steps.{after_front, plain_text, plain_field, number_at, parent_pid_at, some_pid, pid_at, pid_text}
 use Rattle.tm_log.specs.Headers.{closed_pid, global_pid_at, ids_at, handler_at, task_at, refused_at, process_at, files_at, facts_at, header_of}
 use Rattle.tm_log.specs.Reasons.{for_reason}
+use Rattle.tm_log_trace_laws.specs.Told.{IsNoManual}
+use Rattle.tm_log_trace_laws.proofs.Passing.{OkIs, bound, anything, reasoned}
+use Rattle.tm_log_trace_laws.proofs.Asks.{asked-no}
 use Rattle.tm_log.specs.Records.{asked, told, header_in, domain_in, with_domain, three_lines, record_of}
-
--- what is read, if anything, passes
-abbrev pub OkIs : {A E : Type 0} → (A → Type 0) → Result A E → Type 0
-OkIs P (Ok x) = P x
-OkIs P (Err e) = Unit {0}
-
-bound : {A B E : Type 0} (P : A → Type 0) (Q : B → Type 0) (r : Result A E) (f : A → Result B E) → OkIs P r → ((x : A) → P x → OkIs Q (f x)) → OkIs Q (r >>= f)
-bound P Q (Ok x) f h onward = onward x h
-bound P Q (Err e) f h onward = tt
-
--- whatever is read
-anything : {A B E : Type 0} (Q : B → Type 0) (r : Result A E) (f : A → Result B E) → ((x : A) → OkIs Q (f x)) → OkIs Q (r >>= f)
-anything Q (Ok x) f onward = onward x
-anything Q (Err e) f onward = tt
-
-reasoned : {A : Type 0} (P : A → Type 0) (reason : Reason) (r : Result A LineKind) → OkIs P r → OkIs P (for_reason reason r)
-reasoned P reason (Ok x) h = h
-reasoned P reason (Err e) h = tt
 
 abbrev IsPid : ℕ → Type 0
 IsPid n = n < 4194305
@@ -123,15 +108,15 @@ header words =
     (λ files. anything HasHeader (facts_at files.1) (λ facts. Ok (record { refused = refused.0; global_pid = process.0.0; process = process.0.1; first = files.0.0; second = files.0.1; exec = facts.0; target = facts.1 })) (λ facts. p))))
 
 abbrev pub HasRecord : Record → Type 0
-HasRecord one = (one.global_pid ≤ 4194304) × (one.process.pid ≤ 4194304) × (one.process.ppid ≤ 4194304)
+HasRecord one = ((one.global_pid ≤ 4194304) × (one.process.pid ≤ 4194304) × (one.process.ppid ≤ 4194304)) × IsNoManual one.request.args
 
 three : (first second third : Text) → OkIs HasRecord (three_lines first second third)
 unfolding three_lines header_in with_domain
 three first second third =
     bound HasHeader HasRecord (header_in first) (λ header. domain_in second >>= λ domain. with_domain header domain third) (reasoned HasHeader Reason.Header (header_of (words_of first)) (header (words_of first)))
     (λ header h. anything HasRecord (domain_in second) (λ domain. with_domain header domain third)
-    (λ domain. anything HasRecord (asked header (words_of third)) (λ request. Ok (told header domain request))
-    (λ request. (let a = h.0 in let b = h.1.0 in let c = h.1.1 in (omega arith, omega arith, omega arith)))))
+    (λ domain. bound (λ (request : Request). IsNoManual request.args) HasRecord (asked header (words_of third)) (λ request. Ok (told header domain request)) (asked-no header (words_of third))
+    (λ request no_manual. (let a = h.0 in let b = h.1.0 in let c = h.1.1 in ((omega arith, omega arith, omega arith), no_manual)))))
 
 pub record-pids : (texts : List Text) → OkIs HasRecord (record_of texts)
 record-pids [] = tt

@@ -9,15 +9,16 @@ use Rattle.tm_log.specs.declared.log.Used.{Used}
 use Rattle.tm_log_processes.specs.Domains.{leads}
 use Rattle.tm_log_processes.specs.Forests.{pid_of}
 
--- a line of the trace: the place of its tree, from 0, the line itself, the domain in which its process is there, and the record of the
--- log that it is of, if any
+-- a line of the trace: the place of its tree, from 0, the line itself, the domain in which its
+-- process is there, and the record of the log that it is of, if any
 pub record Happening : Type 0 where
   pub tree : ℕ
   pub item : Item
   pub domain : DomainName
   pub used : Option Used
 
--- where a process is: its tree, its domain, and whether its last line was an execute that may have led it on
+-- where a process is: its tree, its domain, and whether its last line was an execute that may have
+-- led it on
 pub record Stand : Type 0 where
   pub tree : ℕ
   pub domain : DomainName
@@ -50,11 +51,15 @@ domain_after (Item.Do pid request) domain = led request.args domain
 domain_after (Item.Ids pid ids) domain = domain
 domain_after (Item.Fork pid child) domain = domain
 
--- after a record its process is in the record's domain, and may go on from there by an execute that wasn't refused
+-- after a record its process is in the record's domain, and may go on from there by an execute that
+-- wasn't refused
 abbrev pub stand_by : Option Used → Happening → Stand
 stand_by None h = record { tree = h.tree; domain = domain_after h.item h.domain; is_open = false }
-stand_by (Some used) h =
-    record { tree = h.tree; domain = h.domain; is_open = is_execute used.«record».request && not used.«record».refused }
+stand_by (Some used) h = record {
+  tree = h.tree;
+  domain = h.domain;
+  is_open = is_execute used.«record».request && not used.«record».refused;
+}
 
 abbrev pub stand_after : Happening → Stand
 stand_after h = stand_by h.used h
@@ -71,9 +76,11 @@ after_line stands h = with_child h.item (stand_after h) ((pid_of h.item, stand_a
 -- each line is of a process that is in the line's tree and may be in the line's domain
 abbrev pub Replays : Stands → List Happening → Type 0
 Replays stands [] = ⊤
-Replays stands (h ∷ more) = StandsIn (stand_of stands (pid_of h.item)) h.tree h.domain × Replays (after_line stands h) more
+Replays stands (h ∷ more) =
+    StandsIn (stand_of stands (pid_of h.item)) h.tree h.domain × Replays (after_line stands h) more
 
 -- the first process of each tree, the first of which has this place
 abbrev pub firsts_from : ℕ → Trace → Stands
 firsts_from t [] = []
-firsts_from t (tree ∷ trees) = (tree.pid, record { tree = t; domain = tree.start; is_open = false }) ∷ firsts_from (suc t) trees
+firsts_from t (tree ∷ trees) =
+    (tree.pid, record { tree = t; domain = tree.start; is_open = false }) ∷ firsts_from (suc t) trees
