@@ -1,11 +1,9 @@
 -- A record is taken: its process is found, and its line comes last.
-use Rattle.std.proofs.Common.{◌≡◌, ℕ, zero, suc, ◌+◌, ◌-◌, ◌^◌, ◌<◌, ◌≤◌, ◌==◌, ◌&&◌, ◌||◌, not, Bool, true, false, true≢false, if◌then◌else◌, List, [], ◌∷◌, ◌++◌, length, map, min, refl, sym, ap, ◌∙◌, subst, arith, length-append, ◌⊎◌, inl, inr}
-use Rattle.std.specs.Prelude.{Option, Some, None, slice_get, slice_set, nat_le}
-use Rattle.std.proofs.lemmas.Bool.{eqb-true, leb-true}
+use Rattle.std.proofs.Common.{◌≡◌, ℕ, suc, ◌+◌, ◌<◌, ◌≤◌, ◌==◌, ◌&&◌, ◌||◌, not, Bool, true, false, true≢false, if◌then◌else◌, List, [], ◌∷◌, ◌++◌, length, min, refl, sym, ap, ◌∙◌, subst, arith, length-append, ◌⊎◌, inl, inr}
+use Rattle.std.specs.Prelude.{Option, Some, None, slice_get, nat_le}
+use Rattle.std.proofs.lemmas.Bool.{leb-true}
 use Rattle.std.proofs.lemmas.List.{length-map}
-use Rattle.tm_types.specs.declared.request.Ids.{Ids}
 use Rattle.tm_types.specs.declared.request.Item.{Item}
-use Rattle.tm_types.specs.declared.request.Request.{Request}
 use Rattle.tm_rules.specs.Condition.{is_execute}
 use Rattle.tm_rules.specs.Words.{DomainName}
 use Rattle.tm_log.specs.declared.log.Source.{Source}
@@ -15,19 +13,18 @@ use Rattle.tm_log_processes.specs.declared.process.Place.{Place}
 use Rattle.tm_log_processes.specs.declared.process.Process.{Process}
 use Rattle.tm_log_processes.specs.Processes.{same_ids}
 use Rattle.tm_log_processes.specs.Places.{Left, with_place}
-use Rattle.tm_log_processes.specs.Forests.{Grown, added, counted, has_room, sum_of, pid_of}
-use Rattle.tm_log_processes.specs.Lists.{Listed, at, with_process, fits}
+use Rattle.tm_log_processes.specs.Forests.{Grown, added, has_room, sum_of}
+use Rattle.tm_log_processes.specs.Lists.{with_process, fits}
 use Rattle.tm_log_trace.specs.declared.notes.Note.{Note}
 use Rattle.tm_log_trace.specs.declared.notes.Warning.{Warning}
-use Rattle.tm_log_trace.specs.Making.{Making, warned, process_with, process_of, key_by, key_of, with_ids, executed, writes_own_domain, writing, after_request, asked, warned_of_cut, told_of, with_request, taken_as, at_source, taken}
-use Rattle.tm_log_trace_laws.specs.History.{Stand, Stands, with_child, stand_after}
+use Rattle.tm_log_trace.specs.Making.{Making, process_with, process_of, key_by, key_of, with_ids, executed, writes_own_domain, asked, warned_of_cut, told_of, at_source, taken}
 use Rattle.tm_log_trace_laws.specs.Told.{HasPids, number_told}
 use Rattle.tm_log_trace_laws.proofs.Lists.{get-set-same, get-last, set-same}
-use Rattle.tm_log_trace_laws.proofs.Listing.{There, HeldIn, at-is}
-use Rattle.tm_log_trace_laws.proofs.Told.{Marked, mark, line_of, told-push-none, told-asked, told-warned, told-later, number-plain}
-use Rattle.tm_log_trace_laws.proofs.Going.{Walk, tree-there, walk-line-kept}
+use Rattle.tm_log_trace_laws.proofs.Listing.{There}
+use Rattle.tm_log_trace_laws.proofs.Told.{Marked, mark, told-push-none, told-asked, told-warned, told-later, number-plain}
+use Rattle.tm_log_trace_laws.proofs.Going.{tree-there, walk-line-kept}
 use Rattle.tm_log_trace_laws.proofs.Keys.{IsFree}
-use Rattle.tm_log_trace_laws.proofs.Sound.{PlaceOk, LeftOk, left-push, left-more, Sound, Sounds, Here, Keeps, keeps-refl, keeps-put}
+use Rattle.tm_log_trace_laws.proofs.Sound.{PlaceOk, LeftOk, left-push, left-more, Sound, Sounds, Here, keeps-refl, keeps-put}
 use Rattle.tm_log_trace_laws.proofs.Finding.{Named, NoKey, named-kept, Taken, process-taken}
 
 -- between records: the next one has at least this number

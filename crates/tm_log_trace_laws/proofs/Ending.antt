@@ -1,26 +1,24 @@
 -- All records of a log are taken, and the trace tells them.
-use Rattle.std.proofs.Common.{◌≡◌, ℕ, zero, suc, ◌+◌, ◌<◌, ◌≤◌, ◌==◌, Bool, true, false, not, ◌||◌, if◌then◌else◌, List, [], ◌∷◌, ◌++◌, length, map, min, refl, sym, ap, ◌∙◌, subst, arith, append_assoc, append-nil, ◌⊎◌, inl, inr}
+use Rattle.std.proofs.Common.{◌≡◌, ℕ, zero, suc, ◌<◌, ◌==◌, Bool, true, false, not, ◌||◌, if◌then◌else◌, List, [], ◌∷◌, ◌++◌, length, map, refl, sym, ap, ◌∙◌, subst, arith, append_assoc, append-nil}
 use Rattle.std.specs.Prelude.{Option, Some, None, is_some, slice_get, slice_set}
 use Rattle.std.specs.Ordering.{nat_cmp}
 use Rattle.std.specs.BTreeMap.{is_at, insert_entry}
 use Rattle.std.specs.Map.{lookup}
 use Rattle.std.specs.List.{AllByRecursion, flat_map}
-use Rattle.std.proofs.lemmas.Bool.{eqb-true, eqb-false, ne_eqb, eq-eqb}
+use Rattle.std.proofs.lemmas.Bool.{eqb-true, eqb-false}
 use Rattle.std.proofs.lemmas.Grind.{flat_map-append}
 use Rattle.tm_types.specs.declared.request.Item.{Item}
 use Rattle.tm_types.specs.declared.request.Tree.{Tree}
 use Rattle.tm_rules.specs.Words.{DomainName, Trace}
 use Rattle.tm_log.specs.declared.record.Record.{Record}
-use Rattle.tm_log.specs.declared.log.Log.{Log}
 use Rattle.tm_log.specs.declared.log.Source.{Source}
 use Rattle.tm_log.specs.declared.log.Used.{Used}
 use Rattle.tm_log_processes.specs.declared.forest.TraceLine.{TraceLine}
 use Rattle.tm_log_processes.specs.Forests.{has_room, items_of, with_items, put_if, with_line, in_trees, pid_of}
-use Rattle.tm_log_trace.specs.declared.notes.Note.{Note}
 use Rattle.tm_log_trace.specs.Making.{Making, nothing_made, taken, seen}
-use Rattle.tm_log_trace.specs.Made.{all_seen, step, step_if, step_by, count_next, taken_all, none_taken, trace_made}
+use Rattle.tm_log_trace.specs.Made.{all_seen, step, step_if, count_next, taken_all, none_taken, trace_made}
 use Rattle.tm_log_trace_laws.specs.History.{Happening, Replays, firsts_from}
-use Rattle.tm_log_trace_laws.specs.Told.{items_in, record_in, records_of, IsOf, IsNamed, supposed_in, supposed_of, IsCutBefore, IsHistory, IsOfKernel, RisesFrom, EachRecordIsOneLine, EachRecordOfBytesIsOneLine}
+use Rattle.tm_log_trace_laws.specs.Told.{items_in, record_in, records_of, IsOf, IsNamed, supposed_in, supposed_of, IsCutBefore, IsOfKernel, RisesFrom, EachRecordIsOneLine, EachRecordOfBytesIsOneLine}
 use Rattle.tm_log_trace_laws.proofs.Lists.{All-get, All-both, All-later, get-in, get-set-same, get-set-other, length-set}
 use Rattle.tm_log_trace_laws.proofs.Walks.{fork_line}
 use Rattle.tm_log_trace_laws.proofs.Told.{Marked, line_of, forks_of, happenings, history}
@@ -261,22 +259,21 @@ tree-items trees lines t tree bare at =
 
 pub one_line_each : EachRecordIsOneLine
 unfolding trace_made
-one_line_each log pids rises =
-    (
-      history sound.marked,
-      t.rest,
-      record {
-        lines = λ k tree at. tree-items trees lines k tree sound.told.bare at ∙ sym (items-all k sound.marked ∙ ap (lines_in k) (sym sound.told.lines));
-        within = each-all (λ (h : Happening). h.tree < length trace) sound.marked (λ m c lt. lt)
-            (All-later (λ (m : Marked). m.line.tree < length trees) (λ (m : Marked). m.line.tree < length trace) sound.marked (λ m lt. rw (length-trees trees lines) lt) sound.told.within);
-        records = t.is ∙ ap (λ rs. rs ++ t.rest) (sym sound.told.records ∙ sym (records-all sound.marked));
-        cut = t.at_cut;
-        each = each-all (λ (h : Happening). IsOf h.used h) sound.marked (λ m c is. tt) sound.told.each;
-        named = each-all (λ (h : Happening). IsNamed made.warnings h.used (pid_of h.item)) sound.marked (λ m c is. tt) sound.told.named;
-        manuals = supposed-all sound.marked ∙ sound.told.manuals;
-        replays = subst (λ s. Replays s (history sound.marked)) (sym (firsts-trees trees lines)) sound.walk.replays;
-      },
-    )
+one_line_each log pids rises = (
+  history sound.marked,
+  t.rest,
+  record {
+    lines = λ k tree at. tree-items trees lines k tree sound.told.bare at ∙ sym (items-all k sound.marked ∙ ap (lines_in k) (sym sound.told.lines));
+    within = each-all (λ (h : Happening). h.tree < length trace) sound.marked (λ m c lt. lt)
+        (All-later (λ (m : Marked). m.line.tree < length trees) (λ (m : Marked). m.line.tree < length trace) sound.marked (λ m lt. rw (length-trees trees lines) lt) sound.told.within);
+    records = t.is ∙ ap (λ rs. rs ++ t.rest) (sym sound.told.records ∙ sym (records-all sound.marked));
+    cut = t.at_cut;
+    each = each-all (λ (h : Happening). IsOf h.used h) sound.marked (λ m c is. tt) sound.told.each;
+    named = each-all (λ (h : Happening). IsNamed made.warnings h.used (pid_of h.item)) sound.marked (λ m c is. tt) sound.told.named;
+    manuals = supposed-all sound.marked ∙ sound.told.manuals;
+    replays = subst (λ s. Replays s (history sound.marked)) (sym (firsts-trees trees lines)) sound.walk.replays;
+  },
+)
   where
     start : Making
     start = all_seen nothing_made log.used

@@ -1,5 +1,5 @@
 -- The process of a record is found or made, and what its keys mean is told.
-use Rattle.std.proofs.Common.{◌≡◌, ℕ, zero, suc, ◌+◌, ◌-◌, ◌^◌, ◌<◌, ◌≤◌, ◌==◌, ◌&&◌, ◌||◌, not, Bool, true, false, true≢false, if◌then◌else◌, List, [], ◌∷◌, ◌++◌, length, refl, sym, ap, ◌∙◌, subst, arith, ◌⊎◌, inl, inr}
+use Rattle.std.proofs.Common.{◌≡◌, ℕ, ◌+◌, ◌<◌, ◌≤◌, ◌==◌, ◌&&◌, ◌||◌, not, Bool, true, false, if◌then◌else◌, List, [], refl, sym, ap, ◌∙◌, subst, arith, ◌⊎◌, inl, inr}
 use Rattle.std.specs.Prelude.{Option, Some, None, slice_get, slice_set}
 use Rattle.std.specs.Ordering.{nat_cmp}
 use Rattle.std.specs.BTreeMap.{insert_entry}
@@ -12,14 +12,14 @@ use Rattle.tm_log_processes.specs.declared.process.Process.{Process}
 use Rattle.tm_log_processes.specs.Lists.{Listed, at, with_process, with_domain, fits, comes_from}
 use Rattle.tm_log_trace.specs.declared.notes.Note.{Note}
 use Rattle.tm_log_trace.specs.declared.notes.Warning.{Warning}
-use Rattle.tm_log_trace.specs.Making.{Making, warned, process_with, named, naming, next_number, with_invented, staying, put, gone_manually, start_of, unknown_parent, parent_by, parent_of, child, origin_of, child_of, has_no_parent, made_as, made, moved_on, settled, handed, again, differs, known_with, known, warned_of_thread, process_by, process_of, told_of}
-use Rattle.tm_log_trace_laws.specs.Told.{manual_in, renamed, number_told}
+use Rattle.tm_log_trace.specs.Making.{Making, warned, process_with, next_number, with_invented, staying, put, gone_manually, start_of, unknown_parent, parent_by, parent_of, child, origin_of, child_of, has_no_parent, made_as, made, moved_on, settled, handed, again, differs, known_with, known, process_by, process_of, told_of}
+use Rattle.tm_log_trace_laws.specs.Told.{manual_in, number_told}
 use Rattle.tm_log_trace_laws.proofs.Lists.{get-in, get-set-same}
-use Rattle.tm_log_trace_laws.proofs.Listing.{There, Listing, Fitting, at-is, fitting, writer-there}
-use Rattle.tm_log_trace_laws.proofs.Told.{Marked, IsPlain, number-plain, number-more}
-use Rattle.tm_log_trace_laws.proofs.Going.{Less, Walk, walk-settles, walk-same, taken-number}
+use Rattle.tm_log_trace_laws.proofs.Listing.{There, at-is, fitting, writer-there}
+use Rattle.tm_log_trace_laws.proofs.Told.{IsPlain, number-more}
+use Rattle.tm_log_trace_laws.proofs.Going.{Less, walk-settles, walk-same, taken-number}
 use Rattle.tm_log_trace_laws.proofs.Keys.{Table, key_in, insert-other, insert-same, IsFree, free-before, free-after, free-invented}
-use Rattle.tm_log_trace_laws.proofs.Sound.{Sound, Sounds, Here, Keeps, keeps-trans, keeps-refl, keeps-put, Kept, kept-trans, Found, Born, sound-fewer, sound-warned, kept-warned, sound-renamed, put-found, gone-found, child-found}
+use Rattle.tm_log_trace_laws.proofs.Sound.{Sounds, Here, Keeps, keeps-refl, keeps-put, Kept, kept-trans, Found, Born, sound-fewer, sound-warned, kept-warned, sound-renamed, put-found, gone-found, child-found}
 
 -- Keys, but for some, mean the processes that warnings tell
 pub record Named (But : ℕ → Type 0) (table : Table) (list : Listed) (warnings : List Note) : Type 0 where
@@ -43,9 +43,9 @@ pub named-kept : (But : ℕ → Type 0) (table now : Table) (list later : Listed
 named-kept But table now list later warnings notes same keeps told h =
     record {
       known = λ key p ne e.
-        let was = h.known key p ne (ap (λ t. key_in t key) (sym same) ∙ e) in
-        let new = keeps.each p was.0 was.1 in
-        (new.0, new.1, new.2 ∙ was.2, new.3 ∙ was.3 ∙ sym (told key));
+          let was = h.known key p ne (ap (λ t. key_in t key) (sym same) ∙ e) in
+          let new = keeps.each p was.0 was.1 in
+          (new.0, new.1, new.2 ∙ was.2, new.3 ∙ was.3 ∙ sym (told key));
       unknown = λ key ne low e. told key ∙ h.unknown key ne low (ap (λ t. key_in t key) (sym same) ∙ e);
     }
 
@@ -201,8 +201,7 @@ unfolding made
 made-taken recs invented s number key one h names means fresh apart low fewer =
     let e = entered-as recs invented s number key one h names fresh apart low in
     let last : Making = (made_as s number (told_of key one)).0 in
-    let p : ℕ = (made_as s number (told_of key one)).1 in
-    (
+    let p : ℕ = (made_as s number (told_of key one)).1 in (
       record {
         sound = sound-fewer recs (Less (IsFree last.table invented) number) (IsFree (insert_entry nat_cmp last.table key p) last.invented) last
             (λ n f. fewer last.table p n (subst (λ i. IsFree (insert_entry nat_cmp last.table key p) i n) e.same_invented f)) e.sound;
@@ -334,13 +333,13 @@ moved-taken recs s p key one h key-low =
     mid-names : Named (OneKey key) s.table s.list mid.warnings
     mid-names = record {
       known = λ k r ne e.
-        let was = h.names.known k r (λ x. x) e in
-        let apart : m.process.origin.number ≡ number_told k s.warnings → ⊥ = λ x. ne (other-key k r was.0 was.1 was.2 (x ∙ sym was.3)) in
-        (was.0, was.1, was.2, was.3 ∙ sym (others k apart));
+          let was = h.names.known k r (λ x. x) e in
+          let apart : m.process.origin.number ≡ number_told k s.warnings → ⊥ = λ x. ne (other-key k r was.0 was.1 was.2 (x ∙ sym was.3)) in
+          (was.0, was.1, was.2, was.3 ∙ sym (others k apart));
       unknown = λ k ne low e.
-        let was : number_told k s.warnings ≡ k = h.names.unknown k (λ x. x) low e in
-        let apart : m.process.origin.number ≡ number_told k s.warnings → ⊥ = λ x. taken-number (IsFree s.table s.invented) s.forest.trees s.list h.sound.marked p m.process m.own k h.sound.walk m.there (inl (low, e)) (x ∙ was) in
-        others k apart ∙ was;
+          let was : number_told k s.warnings ≡ k = h.names.unknown k (λ x. x) low e in
+          let apart : m.process.origin.number ≡ number_told k s.warnings → ⊥ = λ x. taken-number (IsFree s.table s.invented) s.forest.trees s.list h.sound.marked p m.process m.own k h.sound.walk m.there (inl (low, e)) (x ∙ was) in
+          others k apart ∙ was;
     }
       where
         other-key : (k r : ℕ) (process : Process) → slice_get s.list.processes r ≡ Some process → process.origin.key ≡ k → m.process.origin.number ≡ process.origin.number → k ≡ key
@@ -547,9 +546,9 @@ process-taken recs s key one h names bound room key-low low = by (process_with s
     fresh : (mid : Making) → mid.table ≡ s.table → mid.invented ≡ s.invented → mid.source ≡ s.source → Sounds recs (IsFree s.table s.invented) mid → Named NoKey s.table mid.list mid.warnings → key_in s.table key ≡ None → Taken recs key s (made mid key (told_of key one)).0 (made mid key (told_of key one)).1 one.domain
     fresh mid table invented source sound names e =
         let t = made-taken recs s.invented mid key key one (subst (λ t. Sounds recs (IsFree t s.invented) mid) (sym table) sound)
-            (named-fewer NoKey (OneKey key) mid.table mid.list mid.warnings (λ n x. absurd x) (subst (λ t. Named NoKey t mid.list mid.warnings) (sym table) names))
-            (names.unknown key (λ x. x) key-low e) (inl (key-low, ap (λ t. key_in t key) table ∙ e)) (λ other same. other (sym same)) low
-            (λ table_ q n f. free-before table_ s.invented key q n (subst (λ i. IsFree (insert_entry nat_cmp table_ key q) i n) invented f) key-low) in
+        (named-fewer NoKey (OneKey key) mid.table mid.list mid.warnings (λ n x. absurd x) (subst (λ t. Named NoKey t mid.list mid.warnings) (sym table) names))
+        (names.unknown key (λ x. x) key-low e) (inl (key-low, ap (λ t. key_in t key) table ∙ e)) (λ other same. other (sym same)) low
+        (λ table_ q n f. free-before table_ s.invented key q n (subst (λ i. IsFree (insert_entry nat_cmp table_ key q) i n) invented f) key-low) in
         record {
           sound = t.0.sound;
           here = t.0.here;

@@ -1,19 +1,18 @@
 -- Lines, trees and processes that are added to a trace that is being made still replay.
-use Rattle.std.proofs.Common.{◌≡◌, ℕ, zero, suc, ◌+◌, ◌<◌, ◌==◌, Bool, true, false, true≢false, List, [], ◌∷◌, ◌++◌, length, refl, sym, ap, ◌∙◌, subst, arith, append_assoc, append-nil, length-append, ◌⊎◌, inl, inr}
+use Rattle.std.proofs.Common.{◌≡◌, ℕ, ◌+◌, ◌<◌, Bool, true, false, true≢false, List, [], ◌∷◌, ◌++◌, length, refl, sym, ap, ◌∙◌, subst, arith, append_assoc, length-append, inl}
 use Rattle.std.specs.Prelude.{Option, Some, None, slice_get, slice_set}
 use Rattle.std.specs.List.{AllByRecursion}
 use Rattle.tm_types.specs.declared.request.Item.{Item}
-use Rattle.tm_types.specs.declared.request.Tree.{Tree}
 use Rattle.tm_rules.specs.Words.{DomainName, Trace}
 use Rattle.tm_log.specs.declared.log.Used.{Used}
 use Rattle.tm_log_processes.specs.declared.process.Process.{Process}
 use Rattle.tm_log_processes.specs.Forests.{pid_of, new_tree}
 use Rattle.tm_log_processes.specs.Lists.{Listed, with_process, with_domain, entered}
-use Rattle.tm_log_trace_laws.specs.History.{Happening, Stand, Stands, stand_of, MayBe, StandsIn, stand_after, with_child, after_line, Replays, firsts_from}
+use Rattle.tm_log_trace_laws.specs.History.{Happening, Stand, Stands, stand_of, StandsIn, stand_after, with_child, after_line, Replays, firsts_from}
 use Rattle.tm_log_trace_laws.proofs.Lists.{All-set, All-both, All-later, All-get, SplitAt, split-at, set-same}
 use Rattle.tm_log_trace_laws.proofs.Walks.{after_lines, after-append, replays-both, SameBut, same-refl, same-one, stand-same, stand-other, Joined, fork_line, settled_at, fork-before, tree-last}
 use Rattle.tm_log_trace_laws.proofs.Listing.{HeldIn, There, Listing, MayGo, held-fits, held-some, listing-changed, listing-kept, listing-entered}
-use Rattle.tm_log_trace_laws.proofs.Told.{Marked, mark, line_of, forks_of, happenings, history, bearing, history-append, forks-append}
+use Rattle.tm_log_trace_laws.proofs.Told.{Marked, mark, line_of, forks_of, history, bearing, history-append}
 
 -- where all are at the end
 abbrev pub ends : Trace → List Marked → Stands

@@ -1,7 +1,7 @@
 -- The processes of a trace that is being made, against where its lines put them.
-use Rattle.std.proofs.Common.{◌≡◌, ℕ, zero, suc, ◌+◌, ◌<◌, ◌==◌, ◌&&◌, ◌||◌, not, Bool, true, false, if◌then◌else◌, List, [], ◌∷◌, ◌++◌, length, refl, sym, ap, ◌∙◌, subst, arith, ◌⊎◌, inl, inr}
+use Rattle.std.proofs.Common.{◌≡◌, ℕ, zero, suc, ◌<◌, ◌==◌, ◌&&◌, ◌||◌, not, Bool, true, false, if◌then◌else◌, List, [], ◌∷◌, ◌++◌, length, refl, sym, ap, ◌∙◌, subst, arith, ◌⊎◌, inl, inr}
 use Rattle.std.specs.Prelude.{Option, Some, None, slice_get, slice_set, unwrap_or}
-use Rattle.std.proofs.lemmas.Bool.{eqb-true, eqb-false, and_parts}
+use Rattle.std.proofs.lemmas.Bool.{eqb-true, eqb-false}
 use Rattle.std.proofs.lemmas.Option.{slice_get_within}
 use Rattle.tm_rules.specs.Words.{DomainName}
 use Rattle.tm_word.specs.Texts.{texts_equal}
@@ -11,7 +11,7 @@ use Rattle.tm_log_processes.specs.Domains.{leads}
 use Rattle.tm_log_processes.specs.Processes.{nobody}
 use Rattle.tm_log_processes.specs.Lists.{Listed, at, with_process, with_domain, is_named, is_in, moved_from, moved, fits, entered, is_settled, first_from, settled_in}
 use Rattle.tm_log_trace_laws.specs.History.{Stand, Stands, stand_of, MayBe, StandsIn}
-use Rattle.tm_log_trace_laws.proofs.Lists.{get-set-other, get-set-same, length-set, get-push, get-in, get-last, set-same}
+use Rattle.tm_log_trace_laws.proofs.Lists.{get-set-other, get-set-same, length-set, get-push, get-in, set-same}
 use Rattle.tm_log_trace_laws.proofs.Walks.{SameBut}
 
 -- a process is where its lines put it, or, unless its last move was an execute, where that may

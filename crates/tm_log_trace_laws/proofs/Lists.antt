@@ -1,8 +1,7 @@
 -- Lists at their places.
-use Rattle.std.proofs.Common.{◌≡◌, ℕ, zero, suc, ◌+◌, ◌<◌, List, [], ◌∷◌, ◌++◌, length, map, refl, sym, ap, ◌∙◌, arith, ◌⊎◌, inl, inr}
-use Rattle.std.specs.Prelude.{Option, Some, None, slice_get, slice_set}
+use Rattle.std.proofs.Common.{◌≡◌, ℕ, zero, suc, List, [], ◌∷◌, ◌++◌, length, map, refl, ap, arith, ◌⊎◌, inl, inr}
+use Rattle.std.specs.Prelude.{Some, None, slice_get, slice_set}
 use Rattle.std.specs.List.{AllByRecursion}
-use Rattle.std.proofs.lemmas.Option.{slice_get_within}
 
 pub get-set-other : {A : Type 0} (xs : List A) (k t : ℕ) (x : A) → (t ≡ k → ⊥) → slice_get (slice_set xs k x) t ≡ slice_get xs t
 get-set-other [] k t x other = refl

@@ -1,5 +1,5 @@
 -- A log that is read from bytes: its records have pids of Linux, and numbers that rise.
-use Rattle.std.proofs.Common.{◌≡◌, ℕ, zero, suc, ◌+◌, ◌-◌, ◌^◌, ◌<◌, ◌≤◌, ◌==◌, ◌||◌, nat_lt, Bool, true, false, if◌then◌else◌, List, [], ◌∷◌, ◌++◌, length, refl, sym, ap, ◌∙◌, subst, arith}
+use Rattle.std.proofs.Common.{◌≡◌, ℕ, suc, ◌+◌, ◌-◌, ◌^◌, ◌<◌, ◌≤◌, Bool, true, false, if◌then◌else◌, List, [], ◌∷◌, ◌++◌, length, refl, arith}
 use Rattle.std.specs.Prelude.{Option, Some, None, Result, Ok, Err}
 use Rattle.std.specs.List.{AllByRecursion}
 use Rattle.std.proofs.lemmas.Bool.{lt-ltb}
@@ -13,9 +13,9 @@ use Rattle.tm_log.specs.declared.log.Log.{Log}
 use Rattle.tm_log.specs.declared.log.Source.{Source}
 use Rattle.tm_log.specs.declared.log.Used.{Used}
 use Rattle.tm_log.specs.declared.record.Record.{Record}
-use Rattle.tm_log.specs.Gathering.{next, sort_of, no_lines, begun, with_more, with_line, with_line_of, gathered_as, gathered}
+use Rattle.tm_log.specs.Gathering.{next, sort_of, begun, with_line_of, gathered_as, gathered}
 use Rattle.tm_log.specs.Records.{record_of}
-use Rattle.tm_log.specs.Logs.{no_log, is_full, with_used, with_left, taken_as, taken, taken_if, Reading, nothing_read, ends_line, with_end, with_byte, fed, finished, log_of}
+use Rattle.tm_log.specs.Logs.{is_full, with_used, taken_as, taken, taken_if, Reading, nothing_read, ends_line, with_end, with_byte, fed, finished, log_of}
 use Rattle.tm_log_trace_laws.specs.Told.{IsOfKernel, RisesFrom}
 use Rattle.tm_log_trace_laws.proofs.Lists.{All-both, All-later}
 use Rattle.tm_log_trace_laws.proofs.Passing.{OkIs}

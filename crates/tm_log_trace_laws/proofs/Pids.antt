@@ -3,25 +3,21 @@ use Rattle.std.proofs.Common.{◌≡◌, ℕ, ◌-◌, ◌<◌, ◌≤◌, ◌==
 use Rattle.std.specs.Prelude.{Option, Some, None, Result, Ok, Err, codes}
 use Rattle.tm_word.specs.Words.{Text}
 use Rattle.tm_word.specs.Spelling.{words_of}
-use Rattle.tm_word.specs.Texts.{after, texts_equal}
+use Rattle.tm_word.specs.Texts.{after}
 use Rattle.tm_word.specs.Gives.{◌>>=◌}
 use Rattle.tm_number.specs.Numbers.{plain_of}
 use Rattle.tm_number.proofs.NumberLaws.{plain_small}
 use Rattle.tm_types.specs.declared.entry.LineKind.{LineKind}
-use Rattle.tm_types.specs.declared.request.Ids.{Ids}
 use Rattle.tm_types.specs.declared.request.Proc.{Proc}
 use Rattle.tm_types.specs.declared.request.Request.{Request}
-use Rattle.tm_rules.specs.Words.{DomainName}
 use Rattle.tm_line.specs.Lines.{or_kind, word_at}
-use Rattle.tm_line.specs.Domains.{domain_to_end}
 use Rattle.tm_cond.specs.Attributes.{ends_in}
 use Rattle.tm_trace.specs.Requests.{only_at}
 use Rattle.tm_log.specs.declared.faults.Reason.{Reason}
 use Rattle.tm_log.specs.declared.header.Header.{Header}
 use Rattle.tm_log.specs.declared.record.Record.{Record}
-use Rattle.tm_log.specs.Steps.{after_front, plain_text, plain_field, number_at, parent_pid_at, some_pid, pid_at, pid_text}
+use Rattle.tm_log.specs.Steps.{after_front, plain_text, plain_field, parent_pid_at, some_pid, pid_at, pid_text}
 use Rattle.tm_log.specs.Headers.{closed_pid, global_pid_at, ids_at, handler_at, task_at, refused_at, process_at, files_at, facts_at, header_of}
-use Rattle.tm_log.specs.Reasons.{for_reason}
 use Rattle.tm_log_trace_laws.specs.Told.{IsNoManual}
 use Rattle.tm_log_trace_laws.proofs.Passing.{OkIs, bound, anything, reasoned}
 use Rattle.tm_log_trace_laws.proofs.Asks.{asked-no}

@@ -1,31 +1,29 @@
 -- What is kept while a trace is made: its small steps.
-use Rattle.std.proofs.Common.{◌≡◌, ℕ, zero, suc, ◌+◌, ◌<◌, ◌==◌, ◌&&◌, ◌||◌, not, Bool, true, false, true≢false, if◌then◌else◌, List, [], ◌∷◌, ◌++◌, length, map, refl, sym, ap, ◌∙◌, subst, arith, append-nil, ◌⊎◌, inl, inr}
+use Rattle.std.proofs.Common.{◌≡◌, ℕ, zero, suc, ◌<◌, ◌==◌, ◌||◌, Bool, true, false, true≢false, if◌then◌else◌, List, [], ◌∷◌, ◌++◌, length, refl, sym, ap, ◌∙◌, subst, arith, ◌⊎◌, inl, inr}
 use Rattle.std.specs.Prelude.{Option, Some, None, slice_get, slice_set, codes}
-use Rattle.std.specs.List.{AllByRecursion, position}
 use Rattle.std.proofs.lemmas.Bool.{eqb-true, eqb-false}
 use Rattle.std.proofs.lemmas.Option.{slice_get-get_or}
 use Rattle.std.proofs.lemmas.List.Quantifiers.{position-Some}
 use Rattle.tm_word.specs.Texts.{texts_equal}
 use Rattle.tm_word.proofs.TextLaws.{texts_sound}
 use Rattle.tm_types.specs.declared.request.Item.{Item}
-use Rattle.tm_types.specs.declared.request.Ids.{Ids}
-use Rattle.tm_rules.specs.Words.{DomainName, Trace}
+use Rattle.tm_rules.specs.Words.{DomainName}
 use Rattle.tm_log.specs.declared.log.Used.{Used}
 use Rattle.tm_log_processes.specs.declared.forest.TraceLine.{TraceLine}
 use Rattle.tm_log_processes.specs.declared.process.Origin.{Origin}
 use Rattle.tm_log_processes.specs.declared.process.Place.{Place}
 use Rattle.tm_log_processes.specs.declared.process.Process.{Process}
 use Rattle.tm_log_processes.specs.Processes.{born, no_ids}
-use Rattle.tm_log_processes.specs.Forests.{Grown, added, counted, forked_before, forked_if, planted, new_tree, sum_of}
+use Rattle.tm_log_processes.specs.Forests.{Grown, added, forked_before, forked_if, planted, sum_of}
 use Rattle.tm_log_processes.specs.Lists.{Listed, at, with_process, with_domain, entered, is_settled, settled_in, moved, is_named}
-use Rattle.tm_log_processes.specs.Places.{Left, with_place, first_in, is_at as is_place_in}
+use Rattle.tm_log_processes.specs.Places.{Left, with_place, first_in}
 use Rattle.tm_log_trace.specs.declared.notes.Note.{Note}
 use Rattle.tm_log_trace.specs.declared.notes.Warning.{Warning}
-use Rattle.tm_log_trace.specs.Making.{Making, warned, staying, entering, forked, forked_at, warned_of_tree, tree_planted, place_at, first_left, put_before, put_by, put, manual_request, gone_manually, left_if, left_by, child_last, child}
-use Rattle.tm_log_trace_laws.specs.History.{Happening, Stand, Stands, with_child}
-use Rattle.tm_log_trace_laws.specs.Told.{manual_in, manuals_in, supposed_in, number_told}
-use Rattle.tm_log_trace_laws.proofs.Lists.{All-get, get-set-other, get-set-same, get-front, get-last, get-push, set-same, length-set}
-use Rattle.tm_log_trace_laws.proofs.Listing.{There, Listing, MayGo, Fitting, at-is, fitting-first, fitting-child, writer-there}
+use Rattle.tm_log_trace.specs.Making.{Making, warned, entering, forked, forked_at, tree_planted, place_at, first_left, put_before, put_by, put, manual_request, gone_manually, left_if, left_by, child_last, child}
+use Rattle.tm_log_trace_laws.specs.History.{Stand, Stands, with_child}
+use Rattle.tm_log_trace_laws.specs.Told.{manual_in, number_told}
+use Rattle.tm_log_trace_laws.proofs.Lists.{All-get, get-set-other, get-set-same, get-front, get-last, get-push, length-set}
+use Rattle.tm_log_trace_laws.proofs.Listing.{There, Fitting, fitting-first, fitting-child, writer-there}
 use Rattle.tm_log_trace_laws.proofs.Told.{Marked, mark, bearing, IsPlain, number-plain, Told, told-push-none, told-manual, told-before, told-planted, told-warned, told-renamed}
 use Rattle.tm_log_trace_laws.proofs.Going.{Less, Walk, walk-fewer, tree-there, walk-line, walk-forks, walk-forks-before, walk-planted}
 
@@ -48,8 +46,8 @@ left-push places marked more h =
     record {
       lengths = h.lengths;
       placed = λ i place domain a b.
-        let ok = h.placed i place domain a b in
-        record { m = ok.m; there = get-front marked more place.line ok.m ok.there; quiet = ok.quiet; tree = ok.tree; inside = ok.inside };
+          let ok = h.placed i place domain a b in
+          record { m = ok.m; there = get-front marked more place.line ok.m ok.there; quiet = ok.quiet; tree = ok.tree; inside = ok.inside };
     }
 
 pub left-bearing : (places : Left) (marked : List Marked) (k child : ℕ) (m : Marked) → slice_get marked k ≡ Some m → LeftOk places marked → LeftOk places (slice_set marked k (bearing m child))
@@ -144,9 +142,9 @@ pub keeps-trans : (list later last : Listed) → Keeps list later → Keeps late
 keeps-trans list later last a b =
     record {
       each = λ p process e.
-        let x = a.each p process e in
-        let y = b.each p x.0 x.1 in
-        (y.0, y.1, y.2 ∙ x.2, y.3 ∙ x.3);
+          let x = a.each p process e in
+          let y = b.each p x.0 x.1 in
+          (y.0, y.1, y.2 ∙ x.2, y.3 ∙ x.3);
     }
 
 pub keeps-refl : (list : Listed) → Keeps list list
@@ -240,7 +238,8 @@ forked-found recs F s p origin domain h fit fresh =
     let walk = walk-forks F s.forest.trees s.list h.marked p old parent new fit.own domain h.walk fit.there fit.goes fresh refl refl refl refl refl in
     let staying_ : Listed = with_domain (with_process s.list p parent) p domain in
     rw fit.there.place (
-      record { found = record {
+    record {
+      found = record {
         sound = record {
           marked = h.marked ++ mark old.tree (Item.Fork old.origin.number origin.number) domain None ∷ [];
           told = told-push-none recs s.source.number s.forest s.warnings h.marked old.tree (Item.Fork old.origin.number origin.number) 0 domain h.told within refl;
@@ -255,7 +254,9 @@ forked-found recs F s p origin domain h fit fresh =
           keeps = keeps-trans s.list staying_ (entered staying_ new domain).0 (keeps-put s.list p old parent (slice_set s.list.domains p domain) fit.there.place refl refl) (keeps-entered staying_ new domain);
           same = λ key. refl;
         };
-      }; is = refl }
+      };
+      is = refl;
+    }
     )
   where
     same-lengths : (list : Listed) (p : ℕ) (new : Process) (domain : DomainName) → length list.processes ≡ length list.domains → length (slice_set list.processes p new) ≡ length (slice_set list.domains p domain)
@@ -276,17 +277,20 @@ forked-at-found recs F s place origin domain h ok fresh =
     let later : List Marked = slice_set h.marked place.line (bearing ok.m origin.number) in
     let within : ok.m.line.tree < length s.forest.trees = All-get (λ (m : Marked). m.line.tree < length s.forest.trees) h.marked place.line ok.m h.told.within ok.there in
     let walk : Walk (Less F origin.number) s.forest.trees (entered s.list new ok.m.domain).0 later = walk-forks-before F s.forest.trees s.list h.marked place.line ok.m new h.walk ok.there ok.quiet fresh (sym ok.tree) refl within in
-    record { found = record {
-      sound = record {
-        marked = later;
-        told = told-before recs s.source.number s.forest s.warnings h.marked place.line origin.number ok.m h.told ok.there;
-        walk = subst (λ ts. Walk (Less F origin.number) ts (entered s.list new domain).0 later) (sym (trees-before s.forest place.line origin.number))
-            (subst (λ d. Walk (Less F origin.number) s.forest.trees (entered s.list new d).0 later) ok.inside walk);
-        left = left-bearing s.places h.marked place.line origin.number ok.m ok.there h.left;
+    record {
+      found = record {
+        sound = record {
+          marked = later;
+          told = told-before recs s.source.number s.forest s.warnings h.marked place.line origin.number ok.m h.told ok.there;
+          walk = subst (λ ts. Walk (Less F origin.number) ts (entered s.list new domain).0 later) (sym (trees-before s.forest place.line origin.number))
+              (subst (λ d. Walk (Less F origin.number) s.forest.trees (entered s.list new d).0 later) ok.inside walk);
+          left = left-bearing s.places h.marked place.line origin.number ok.m ok.there h.left;
+        };
+        here = entered-here s.list new domain h.walk.listing.lengths refl;
+        kept = record { table = refl; invented = refl; source = refl; keeps = keeps-entered s.list new domain; same = λ key. refl };
       };
-      here = entered-here s.list new domain h.walk.listing.lengths refl;
-      kept = record { table = refl; invented = refl; source = refl; keeps = keeps-entered s.list new domain; same = λ key. refl };
-    }; is = refl }
+      is = refl;
+    }
 
 pub planted-found : (recs : List Used) (F : ℕ → Type 0) (s : Making) (origin : Origin) (domain : DomainName) → Sounds recs F s → F origin.number → Born recs (Less F origin.number) s (tree_planted s origin domain).0 (tree_planted s origin domain).1 origin domain
 unfolding tree_planted planted entered-here
@@ -360,22 +364,22 @@ gone-found recs F s p old own domain h there =
     let within : old.tree < length s.forest.trees = tree-there F s.forest.trees s.list h.marked p old own h.walk there in
     let note : Note = record { source = s.source; warning = Warning.Manual old.origin.number domain } in
     rw there.place (
-      record {
-        sound = record {
-          marked = h.marked ++ mark old.tree item own None ∷ [];
-          told = told-manual recs s.source.number s.forest s.warnings h.marked old.tree item (sum_of (length domain) 30) own note h.told within refl (λ key pid. refl) (omega arith);
-          walk = walk-line F s.forest.trees s.list h.marked p old new own own domain item None h.walk there (inl refl) refl (λ st t. refl) refl refl (refl, inl refl, λ open_. absurd (true≢false (sym open_)));
-          left = left-push s.places h.marked (mark old.tree item own None ∷ []) h.left;
-        };
-        here = record { process = new; there = record { place = get-set-same s.list.processes p new old there.place; inside = get-set-same s.list.domains p domain own there.inside }; closed = refl };
-        kept = record {
-          table = refl;
-          invented = refl;
-          source = refl;
-          keeps = keeps-put s.list p old new (slice_set s.list.domains p domain) there.place refl refl;
-          same = λ key. number-plain key s.warnings note (λ key pid. refl);
-        };
-      }
+    record {
+      sound = record {
+        marked = h.marked ++ mark old.tree item own None ∷ [];
+        told = told-manual recs s.source.number s.forest s.warnings h.marked old.tree item (sum_of (length domain) 30) own note h.told within refl (λ key pid. refl) (omega arith);
+        walk = walk-line F s.forest.trees s.list h.marked p old new own own domain item None h.walk there (inl refl) refl (λ st t. refl) refl refl (refl, inl refl, λ open_. absurd (true≢false (sym open_)));
+        left = left-push s.places h.marked (mark old.tree item own None ∷ []) h.left;
+      };
+      here = record { process = new; there = record { place = get-set-same s.list.processes p new old there.place; inside = get-set-same s.list.domains p domain own there.inside }; closed = refl };
+      kept = record {
+        table = refl;
+        invented = refl;
+        source = refl;
+        keeps = keeps-put s.list p old new (slice_set s.list.domains p domain) there.place refl refl;
+        same = λ key. number-plain key s.warnings note (λ key pid. refl);
+      };
+    }
     )
 
 -- A child

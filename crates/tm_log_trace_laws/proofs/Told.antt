@@ -1,5 +1,5 @@
 -- What the lines of a trace that is being made tell of records and warnings.
-use Rattle.std.proofs.Common.{◌≡◌, ℕ, zero, suc, ◌+◌, ◌-◌, ◌^◌, ◌<◌, ◌≤◌, nat_le, Bool, true, false, if◌then◌else◌, ◌⊎◌, inl, inr, List, [], ◌∷◌, ◌++◌, length, map, min, refl, sym, ap, ◌∙◌, subst, arith, append_assoc, append-nil, length-append}
+use Rattle.std.proofs.Common.{◌≡◌, ℕ, zero, suc, ◌+◌, ◌<◌, ◌≤◌, nat_le, Bool, true, false, if◌then◌else◌, ◌⊎◌, inl, inr, List, [], ◌∷◌, ◌++◌, length, map, min, refl, sym, ap, ◌∙◌, arith, append_assoc, append-nil, length-append}
 use Rattle.std.specs.Prelude.{Option, Some, None, slice_get, slice_set}
 use Rattle.std.specs.List.{AllByRecursion, flat_map}
 use Rattle.std.proofs.lemmas.List.{map-append}
@@ -8,15 +8,15 @@ use Rattle.std.proofs.lemmas.Bool.{le-leb}
 use Rattle.std.proofs.lemmas.Bool.Decides.{leb_tells}
 use Rattle.tm_types.specs.declared.request.Item.{Item}
 use Rattle.tm_types.specs.declared.request.Tree.{Tree}
-use Rattle.tm_rules.specs.Words.{DomainName, Trace}
+use Rattle.tm_rules.specs.Words.{DomainName}
 use Rattle.tm_log.specs.declared.log.Used.{Used}
 use Rattle.tm_log_processes.specs.declared.forest.TraceLine.{TraceLine}
-use Rattle.tm_log_processes.specs.Forests.{Grown, pid_of, new_line, with_child, added, counted, forked_before, planted, new_tree, fork_length, line_length, sum_of}
+use Rattle.tm_log_processes.specs.Forests.{Grown, pid_of, new_line, with_child, added, forked_before, planted, new_tree, sum_of}
 use Rattle.tm_log_trace.specs.declared.notes.Note.{Note}
 use Rattle.tm_log_trace.specs.declared.notes.Warning.{Warning}
 use Rattle.tm_log_trace_laws.specs.History.{Happening}
 use Rattle.tm_log_trace_laws.specs.Told.{record_in, IsOf, IsNamed, supposed_in, manual_in, manuals_in, renamed, number_from, number_told, notes_up_to, number_at}
-use Rattle.tm_log_trace_laws.proofs.Lists.{map-set, map-get, All-set, All-both, All-later, All-get, SplitAt, split-at}
+use Rattle.tm_log_trace_laws.proofs.Lists.{map-set, map-get, All-set, All-both, All-later, All-get}
 use Rattle.tm_log_trace_laws.proofs.Walks.{fork_line}
 
 -- a line with the domain of its process and the record that it is of
@@ -125,11 +125,10 @@ named-plain notes note marked plain all =
 
 named-later : (notes : List Note) (note : Note) (marked : List Marked) → AllByRecursion (λ (m : Marked). IsPast note.source.number m.used) marked → AllByRecursion (λ (m : Marked). IsNamed notes m.used (pid_of m.line.item)) marked → AllByRecursion (λ (m : Marked). IsNamed (notes ++ note ∷ []) m.used (pid_of m.line.item)) marked
 named-later notes note [] past all = tt
-named-later notes note (m ∷ ms) past all =
-    (
-      named-same notes (notes ++ note ∷ []) m.used (pid_of m.line.item) (λ one e key. at-later notes note one key (rw e at past.0)) all.0,
-      named-later notes note ms past.1 all.1,
-    )
+named-later notes note (m ∷ ms) past all = (
+  named-same notes (notes ++ note ∷ []) m.used (pid_of m.line.item) (λ one e key. at-later notes note one key (rw e at past.0)) all.0,
+  named-later notes note ms past.1 all.1,
+)
 
 -- every line tells what it is to tell
 pub record Told (recs : List Used) (now : ℕ) (forest : Grown) (warnings : List Note) (marked : List Marked) : Type 0 where
@@ -244,18 +243,18 @@ unfolding forked_before
 told-before recs now forest warnings marked k child m h at =
     let there : slice_get forest.lines k ≡ Some m.line = rw h.lines (map-get (λ (m : Marked). m.line) marked k m at) in
     rw there (
-      record {
-        lines = rw (map-set (λ (m : Marked). m.line) marked k (bearing m child)) (ap (λ ls. slice_set ls k (with_child m.line child)) h.lines);
-        records = flat-set (λ (m : Marked). record_in m.used) marked k m (bearing m child) at refl ∙ h.records;
-        each = All-set (λ (m : Marked). IsOf m.used (line_of m)) marked k (bearing m child) h.each (All-get (λ (m : Marked). IsOf m.used (line_of m)) marked k m h.each at);
-        named = All-set (λ (m : Marked). IsNamed warnings m.used (pid_of m.line.item)) marked k (bearing m child) h.named (All-get (λ (m : Marked). IsNamed warnings m.used (pid_of m.line.item)) marked k m h.named at);
-        past = All-set (λ (m : Marked). IsPast now m.used) marked k (bearing m child) h.past (All-get (λ (m : Marked). IsPast now m.used) marked k m h.past at);
-        notes = h.notes;
-        manuals = flat-set (λ (m : Marked). supposed_in m.used m.line.item) marked k m (bearing m child) at refl ∙ h.manuals;
-        within = All-set (λ (m : Marked). m.line.tree < length forest.trees) marked k (bearing m child) h.within (All-get (λ (m : Marked). m.line.tree < length forest.trees) marked k m h.within at);
-        bare = h.bare;
-        many = no-less (length recs) forest.records h.many;
-      }
+    record {
+      lines = rw (map-set (λ (m : Marked). m.line) marked k (bearing m child)) (ap (λ ls. slice_set ls k (with_child m.line child)) h.lines);
+      records = flat-set (λ (m : Marked). record_in m.used) marked k m (bearing m child) at refl ∙ h.records;
+      each = All-set (λ (m : Marked). IsOf m.used (line_of m)) marked k (bearing m child) h.each (All-get (λ (m : Marked). IsOf m.used (line_of m)) marked k m h.each at);
+      named = All-set (λ (m : Marked). IsNamed warnings m.used (pid_of m.line.item)) marked k (bearing m child) h.named (All-get (λ (m : Marked). IsNamed warnings m.used (pid_of m.line.item)) marked k m h.named at);
+      past = All-set (λ (m : Marked). IsPast now m.used) marked k (bearing m child) h.past (All-get (λ (m : Marked). IsPast now m.used) marked k m h.past at);
+      notes = h.notes;
+      manuals = flat-set (λ (m : Marked). supposed_in m.used m.line.item) marked k m (bearing m child) at refl ∙ h.manuals;
+      within = All-set (λ (m : Marked). m.line.tree < length forest.trees) marked k (bearing m child) h.within (All-get (λ (m : Marked). m.line.tree < length forest.trees) marked k m h.within at);
+      bare = h.bare;
+      many = no-less (length recs) forest.records h.many;
+    }
     )
 
 -- a tree more

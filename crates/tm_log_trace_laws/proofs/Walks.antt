@@ -1,14 +1,13 @@
 -- Where processes are after lines.
-use Rattle.std.proofs.Common.{◌≡◌, ℕ, zero, suc, ◌+◌, ◌<◌, ◌==◌, Bool, true, false, if◌then◌else◌, List, [], ◌∷◌, ◌++◌, length, refl, sym, ap, ◌∙◌, subst, arith, ◌⊎◌, inl, inr}
+use Rattle.std.proofs.Common.{◌≡◌, ℕ, suc, ◌+◌, ◌==◌, Bool, true, false, if◌then◌else◌, List, [], ◌∷◌, ◌++◌, length, refl, sym, ap, ◌∙◌, subst, arith, inl}
 use Rattle.std.specs.Prelude.{Option, Some, None}
 use Rattle.std.proofs.lemmas.Bool.{eq-eqb, ne_eqb}
 use Rattle.tm_types.specs.declared.request.Item.{Item}
-use Rattle.tm_types.specs.declared.request.Request.{Request}
 use Rattle.tm_types.specs.declared.request.Tree.{Tree}
 use Rattle.tm_rules.specs.Words.{DomainName, Trace}
 use Rattle.tm_log.specs.declared.log.Used.{Used}
 use Rattle.tm_log_processes.specs.Forests.{pid_of}
-use Rattle.tm_log_trace_laws.specs.History.{Happening, Stand, Stands, stand_of, MayBe, StandsIn, stand_after, with_child, after_line, Replays, firsts_from}
+use Rattle.tm_log_trace_laws.specs.History.{Happening, Stand, Stands, stand_of, StandsIn, stand_after, with_child, after_line, Replays, firsts_from}
 
 abbrev pub after_lines : Stands → List Happening → Stands
 after_lines s [] = s
@@ -106,8 +105,7 @@ unnamed-before c s (h ∷ hs) none = (unnamed c s h (unnamed-before c (after_lin
 pub frame : (c : ℕ) (s t : Stands) (hs : List Happening) → SameBut c s t → stand_of (after_lines s hs) c ≡ None → Replays s hs → Replays t hs
 frame c s t [] same none all = tt
 frame c s t (h ∷ hs) same none all =
-    let here : Unnamed c s h = unnamed c s h (unnamed-before c (after_line s h) hs none) in
-    (
+    let here : Unnamed c s h = unnamed c s h (unnamed-before c (after_line s h) hs none) in (
       subst (λ (o : Option Stand). StandsIn o h.tree h.domain) (same (pid_of h.item) here.other) all.0,
       frame c (after_line s h) (after_line t h) hs (same-line c h s t same) none all.1,
     )
