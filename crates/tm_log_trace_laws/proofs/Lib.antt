@@ -1,0 +1,14 @@
+pub mod Lists
+pub mod Walks
+pub mod Listing
+pub mod Told
+pub mod Going
+pub mod Sound
+pub mod Keys
+pub mod Finding
+pub mod Asking
+pub mod Passing
+pub mod Asks
+pub mod Pids
+pub mod LogReads
+pub mod Ending
