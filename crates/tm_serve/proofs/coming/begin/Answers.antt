@@ -1,7 +1,6 @@
 -- The step is the pass's own, and the front goes on from it.
-use Rattle.std.proofs.Common.{◌≡◌, Some, sym, ◌∙◌, subst}
-use Rattle.tm_rules.specs.Queries.{numbered}
-use Rattle.tm_publish.specs.Words.{known, front_list}
+use Rattle.std.proofs.Common.{◌∙◌}
+use Rattle.tm_publish.specs.Words.{known}
 use Rattle.tm_serve.proofs.Answering.{numbered_later}
 use Rattle.tm_serve.proofs.coming.begin.Goals as goal
 

@@ -1,5 +1,5 @@
 -- The step comes last, after all that the pass knew.
-use Rattle.std.proofs.Common.{◌≡◌, ◌≤◌, [], ◌∷◌, ◌++◌, length, sym, ap, ◌∙◌, arith, length-append}
+use Rattle.std.proofs.Common.{◌≡◌, ◌≤◌, [], ◌∷◌, length, sym, ap, ◌∙◌, arith, length-append}
 use mathlib.Core.List.{IsPrefix}
 use Rattle.tm_publish.specs.Words.{known}
 use Rattle.tm_publish.proofs.Prefixes.{prefix_trans, prefix_length}
