@@ -146,7 +146,13 @@ fn first_look<S: Seat>(
     requires stands { now.domain ≡ Some domain }
     requires there { DomainIn (state_of (S.opening seat.old) (S.at seat.old)).policy domain }
     ensures playing { IfOk result (λ b. IsPlaying (S.opening seat.old)
-        (record { now = situation_of now; domain = domain; request = request; known = S.at seat.old; before = S.own seat.old })
+        (record {
+          now = situation_of now;
+          domain = domain;
+          request = request;
+          known = S.at seat.old;
+          before = S.own seat.old;
+        })
         (S.at seat.new) (S.own seat.new) b) }
     ensures opening { S.opening seat.new ≡ S.opening seat.old }
     ensures grows { Begins (S.at seat.old) (S.at seat.new) }
