@@ -1,0 +1,5 @@
+pub mod Given
+pub mod Cases
+pub mod Passing
+pub mod Noting
+pub mod Sums

@@ -1,0 +1,178 @@
+//! One machine that makes the given steps, each once.
+ghost use Rattle.std.specs.Prelude.{◌≡◌, ◌+◌, ◌≤◌, ◌<◌, ◌^◌, length, Some, is_some, IfOk, OnOk};
+ghost use Rattle.std.specs.Option.{option_copied};
+ghost use Rattle.tm_rules.specs.Few.{IsFew};
+ghost use Rattle.tm_rules.specs.Book.{book_answer, code_of};
+ghost use Rattle.tm_rules.specs.Queries.{first_query};
+ghost use Rattle.tm_grammar.specs.Tomoyo.{tomoyo_grammar};
+ghost use Rattle.tm_legal.specs.Play.{IsNamed};
+ghost use Rattle.tm_legal.specs.Steps.{apply};
+ghost use Rattle.tm_verify_laws.specs.Desk.{is_answered_so};
+ghost use Rattle.tm_verify.specs.Passing.{suits, IsNotedIn, IsAt};
+
+use crate::given::Given;
+use std::alloc::{AllocError, Global};
+use tm_list::{Copied, NoMemory, Same};
+use tm_machine::Machine;
+use tm_rep::Rep;
+use tm_script::book_code;
+use tm_types::step::{Book, Editor, Made, Maker, Query, Reply, Step};
+
+/// What is noted of a step: whether its reply is the one that it has at its place, and whether the
+/// first unanswered query before it lets the supervisor make it.
+#[derive(Clone, Copy)]
+pub(crate) struct StepNote {
+    pub(crate) replied: bool,
+    pub(crate) suits: bool,
+}
+
+/// A machine that has made the given steps up to a version, and what it has noted of them. A step
+/// that doesn't fit is passed over.
+#[derive(Drop)]
+pub(crate) struct Pass<R: Rep> {
+    pub(crate) machine: Machine<R>,
+    pub(crate) version: u64,
+    pub(crate) notes: Vec<StepNote>,
+}
+
+// Whether the answer of this code is for that query, and is the book's.
+fn is_answered_so(book: &Book, query: Option<&Query>, serial: u64, code: u64) -> bool
+    ensures { result ≡ is_answered_so book.now (option_copied query.entry) serial code }
+{
+    match query {
+        Some(query) => query.serial == serial && book_code(book, query) == code,
+        None => false,
+    }
+}
+
+// Whether the first unanswered query lets the supervisor of this book make a step.
+fn suits_book(book: &Book, query: Option<&Query>, step: &Step) -> bool
+    ensures { result ≡ suits (Some book.now) (option_copied query.entry) step.now }
+{
+    match step {
+        Step::Answer(serial, code) => is_answered_so(book, query, *serial, *code),
+        Step::Detach => query.is_none(),
+        Step::Learn(_, _)
+        | Step::Make(_, _)
+        | Step::Fail(_)
+        | Step::Ask(_, _, _)
+        | Step::Attach
+        | Step::Edit(_, _, _)
+        | Step::End(_) => true,
+    }
+}
+
+// The same where a supervisor stands; true where none does.
+fn suits(book: Option<&Book>, query: Option<&Query>, step: &Step) -> bool
+    ensures { result ≡ suits (option_copied book.entry) (option_copied query.entry) step.now }
+{
+    match book {
+        Some(book) => suits_book(book, query, step),
+        None => true,
+    }
+}
+
+// Whether a step fits.
+fn fits<R: Rep>(_alloc: Global, machine: &Machine<R>, step: &Step) -> Result<bool, NoMemory>
+    ensures { IfOk result
+        (λ fits. fits ≡ is_some (apply tomoyo_grammar machine.now.state step.now).reply) }
+{
+    let _ = machine;
+    let _ = step;
+    Err(AllocError)
+}
+
+#[tactic(auto, using(crate::proofs::PassLaws::passed_over, crate::proofs::PassLaws::no_reply))]
+// Makes a step where it fits, and gives its reply; else nothing changes, and there is none.
+fn make_step<R: Rep>(
+    alloc: Global,
+    machine: &mut Machine<R>,
+    step: &Step,
+) -> Result<Option<Reply>, NoMemory>
+    ensures state { OnOk result
+        (machine.new.state ≡ (apply tomoyo_grammar machine.old.state step.now).state) }
+    ensures reply { IfOk result
+        (λ reply. reply ≡ (apply tomoyo_grammar machine.old.state step.now).reply) }
+{
+    if fits(alloc, machine, step)? {
+        let step = step.copy(alloc)?;
+        let made = Made {
+            maker: Maker::Desk,
+            step,
+        };
+        Ok(Some(machine.settle(alloc, made)?))
+    } else {
+        Ok(None)
+    }
+}
+
+// Makes a step, or passes it over, and notes it.
+fn make_noted<R: Rep>(
+    alloc: Global,
+    book: Option<&Book>,
+    machine: &mut Machine<R>,
+    step: &Step,
+    given: Reply,
+) -> Result<StepNote, NoMemory>
+    ensures state { OnOk result
+        (machine.new.state ≡ (apply tomoyo_grammar machine.old.state step.now).state) }
+    ensures note { IfOk result
+        (IsNotedIn (option_copied book.entry) machine.old.state step.now given) }
+{
+    let suits = suits(book, machine.first_query(), step);
+    let reply = make_step(alloc, machine, step)?;
+    let replied = reply.same(&Some(given));
+    Ok(StepNote { replied, suits })
+}
+
+impl<R: Rep> Pass<R> {
+    /// At version 0 of these given steps.
+    pub(crate) fn start(alloc: Global, given: &Given<'_>, rep: R) -> Result<Pass<R>, NoMemory>
+        requires few { IsFew (R.policy rep) }
+        requires opening { R.policy rep ≡ given.now.opening.now }
+        requires named { IsNamed tomoyo_grammar.is_path (R.policy rep) }
+        requires trees { length given.now.trace.now + 1 < 2 ^ 32 }
+        ensures { IfOk result (IsAt given.now) }
+    {
+        let editors = Editor::copy_all(given.editors, alloc)?;
+        let trees = given.trace.len() as u32;
+        let machine = Machine::start(alloc, rep, editors, trees, given.book.is_some())?;
+        Ok(Pass {
+            machine,
+            version: 0,
+            notes: Vec::new(alloc),
+        })
+    }
+
+    #[tactic(auto, using(crate::proofs::PassLaws::one_more))]
+    // The next given step is made or passed over. No more memory is told where there is none.
+    fn advance(&mut self, alloc: Global, given: &Given<'_>) -> Result<(), NoMemory>
+        requires { IsAt given.now self.old }
+        ensures { OnOk result (IsAt given.now self.new) }
+    {
+        let Some((step, reply)) = given.steps.get(self.version as usize) else {
+            return Err(AllocError);
+        };
+        let note = make_noted(alloc, given.book, &mut self.machine, step, *reply)?;
+        self.notes.push(note)?;
+        self.version += 1;
+        Ok(())
+    }
+
+    /// The given steps are made up to this version, where it wasn't reached before.
+    pub(crate) fn reach(
+        &mut self,
+        alloc: Global,
+        given: &Given<'_>,
+        version: u64,
+    ) -> Result<(), NoMemory>
+        requires { IsAt given.now self.old }
+        ensures { OnOk result (IsAt given.now self.new) }
+    {
+        for place in self.version..version {
+            let _ = place;
+            self.advance(alloc, given)?;
+        }
+        Ok(())
+    }
+}
