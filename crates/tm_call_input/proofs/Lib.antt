@@ -1,3 +1,3 @@
-pub mod Policies
+pub mod PolicyLaws
 pub mod Readings
 pub mod Refusals

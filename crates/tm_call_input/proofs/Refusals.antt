@@ -19,7 +19,7 @@ use Rattle.tm_script.specs.Answers.{answers_of}
 use Rattle.tm_script.specs.Schedule.{schedule_of}
 use Rattle.tm_call.specs.Fetches.{Texts, content}
 use Rattle.tm_call_input.specs.Policies.{policy_of, fault_status, load_refusal}
-use Rattle.tm_call_input.specs.Reading.{of_policy, of_trace, of_script, excess, homeless, within_limits, with_homes, refused, parts_reading, scene_reading, step_reading, step_refusal, status_cause, RefusedBy}
+use Rattle.tm_call_input.specs.Reading.{of_policy, of_trace, of_script, excess, homeless, within_limits, with_homes, admitted, refused, parts_reading, scene_reading, step_reading, step_refusal, status_cause, RefusedBy}
 
 -- What isn't read
 
@@ -31,7 +31,7 @@ IsLater (Status.TooMany what) = Unit {0}
 IsLater _ = ⊥
 
 -- a reading in two steps fails as its first step or as its second
-failed : {A B : Type 0} (P : Status → Type 0) (r : Result A Status) (f : A → Result B Status) (status : Status) → ((s : Status) → r ≡ Err s → P s) → ((x : A) → f x ≡ Err status → P status) → (r >>= f) ≡ Err status → P status
+pub failed : {A B : Type 0} (P : Status → Type 0) (r : Result A Status) (f : A → Result B Status) (status : Status) → ((s : Status) → r ≡ Err s → P s) → ((x : A) → f x ≡ Err status → P status) → (r >>= f) ≡ Err status → P status
 failed P (Ok x) f status first second e = second x e
 failed P (Err s) f status first second e = let same : s ≡ status = cc in subst P same (first s refl)
 

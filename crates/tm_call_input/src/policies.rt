@@ -13,7 +13,7 @@ use tm_types::policy::Policy;
 use tm_types::step::{LoadFault, PolicyFiles};
 
 // The texts of the four policy files, which are taken out of what was fetched.
-#[tactic(auto, using(crate::proofs::Policies::other_name))]
+#[tactic(auto, using(crate::proofs::PolicyLaws::other_name))]
 fn policy_files(alloc: Global, texts: &mut FileList) -> PolicyFiles
     ensures files { result ≡ policy_files texts.old }
     ensures others { OthersStay texts.old texts.new }

@@ -1,4 +1,5 @@
-//! What is played of the files: the policy, the trace, the edits, the supervisor's book and the schedule.
+//! What is played of the files: the policy, the trace, the edits, the supervisor's book and the
+//! schedule.
 ghost use Rattle.std.specs.Prelude.{◌≡◌, nat_lt, length, IfOk};
 ghost use Rattle.tm_rules.specs.Few.{IsFew};
 ghost use Rattle.tm_word.specs.Gives.{Gives};
@@ -37,7 +38,8 @@ pub struct Loaded {
 
 // Reads the trace.
 fn trace_in(alloc: Global, texts: &FileList) -> Result<Trace, Status>
-    ensures { Gives status_cause (λ trace. trace) result (of_trace (trace_of (content texts.now FileName.Trace))) }
+    ensures { Gives status_cause (λ trace. trace) result
+        (of_trace (trace_of (content texts.now FileName.Trace))) }
 {
     match read_trace(alloc, text_at(texts, FileName::Trace)) {
         Ok(trace) => Ok(trace),
@@ -48,7 +50,8 @@ fn trace_in(alloc: Global, texts: &FileList) -> Result<Trace, Status>
 
 // Reads the editors.
 fn editors_in(alloc: Global, texts: &FileList) -> Result<Seq<Editor>, Status>
-    ensures { Gives status_cause (λ editors. editors) result (of_script FileName.Edits (edits_of (content texts.now FileName.Edits))) }
+    ensures { Gives status_cause (λ editors. editors) result
+        (of_script FileName.Edits (edits_of (content texts.now FileName.Edits))) }
 {
     match read_edits(alloc, text_at(texts, FileName::Edits)) {
         Ok(editors) => Ok(Seq::from_vec(editors)),
@@ -59,7 +62,8 @@ fn editors_in(alloc: Global, texts: &FileList) -> Result<Seq<Editor>, Status>
 
 // Reads the supervisor's book.
 fn book_in(alloc: Global, texts: &FileList) -> Result<Book, Status>
-    ensures { Gives status_cause (λ book. book) result (of_script FileName.Answers (answers_of (content texts.now FileName.Answers))) }
+    ensures { Gives status_cause (λ book. book) result
+        (of_script FileName.Answers (answers_of (content texts.now FileName.Answers))) }
 {
     match read_answers(alloc, text_at(texts, FileName::Answers)) {
         Ok(book) => Ok(book),
@@ -75,7 +79,9 @@ fn schedule_in(
     trees: usize,
     editors: usize,
 ) -> Result<Seq<Turn>, Status>
-    ensures { Gives status_cause (λ schedule. schedule) result (of_script FileName.Schedule (schedule_of trees editors (content texts.now FileName.Schedule))) }
+    ensures { Gives status_cause (λ schedule. schedule) result
+        (of_script FileName.Schedule
+        (schedule_of trees editors (content texts.now FileName.Schedule))) }
 {
     let Ok(trees) = u32::try_from(trees) else {
         return Err(Status::OutOfMemory);
@@ -211,8 +217,8 @@ pub fn read_scene(alloc: Global, texts: FileList) -> Result<Loaded, Status>
     admit(text_at(&texts, FileName::Trace), loaded)
 }
 
-/// Reads what `read_scene` reads, and between the answers and the limits the schedule: what is played
-/// on one thread. The texts are dropped when they are read.
+/// Reads what `read_scene` reads, and between the answers and the limits the schedule: what is
+/// played on one thread. The texts are dropped when they are read.
 ///
 /// Errors: the first that is refused, a faulty line, a limit that is passed, or a tree whose domain
 /// isn't live; want of memory.

@@ -1,4 +1,5 @@
-//! The files that are generated from a seed and a size: a policy that learns, and a trace of many trees.
+//! The files that are generated from a seed and a size: a policy that learns, and a trace of many
+//! trees.
 //! Stands on tm_list, tm_word and tm_number.
 //! Promises that the files are those that the rules of draws give, whatever seed and size are.
 #![tactic(auto)]

@@ -19,6 +19,7 @@ use Rattle.tm_script.specs.Schedule.{schedule_of}
 use Rattle.tm_grammar.specs.Tomoyo.{tomoyo_grammar}
 use Rattle.tm_gen.specs.Trace.{state_before, state_of}
 use Rattle.tm_gen.specs.Trace as generated
+use Rattle.tm_gen.specs.Files as files
 use Rattle.tm_gen_laws.specs.Loaded.{policy_files, is_ready}
 use Rattle.tm_gen_laws.specs.Structured.{items, item_at, tree_of, generated_trace}
 use Rattle.tm_call_input.specs.Policies.{policy_of}
@@ -92,7 +93,7 @@ within text seed size few policy home =
     rw (records, trees, all_home policy home seed size) refl
 
 pub never_refused : NeverRefused
-unfolding step_refusal step_reading parts_reading policy_of
+unfolding step_refusal step_reading parts_reading policy_of files.generated
 never_refused seed size few = go (load tomoyo_grammar policy_files) refl generated_load
   where
     both : (a b : Bool) → (a && b) ≡ true → b ≡ true

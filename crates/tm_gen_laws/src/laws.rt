@@ -16,7 +16,8 @@ pub fn generated_traces_are_read()
     ensures { (seed size : ℕ) → size ≤ 4096 → trace_of (trace_text seed size) ≡ Ok (generated_trace seed size) }
 {}
 
-/// Generated files are never refused: they are read, within all limits, and each tree starts in a live domain.
+/// Generated files are never refused: they are read, within all limits, and each tree starts in a
+/// live domain.
 pub fn generated_files_are_never_refused()
     ensures { NeverRefused }
 {}

@@ -1,3 +1,6 @@
 pub mod Steps
 pub mod Ends
 pub mod Courses
+pub mod Fitting
+pub mod Leaving
+pub mod Offices

@@ -1,2 +1,4 @@
 pub mod Current
+pub mod Fitting
 pub mod Machine
+pub mod Office

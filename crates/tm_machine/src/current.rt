@@ -72,6 +72,14 @@ fn name_of(alloc: Global, policy: &Policy, domain: u32) -> Result<DomainName, No
     }
 }
 
+// A set of numbers, copied.
+fn copied_numbers(alloc: Global, numbers: &BTreeSet<u32>) -> Result<BTreeSet<u32>, NoMemory>
+    ensures { IfOk result (λ copy. copy.keys ≡ numbers.now.keys) }
+{
+    let copy = numbers.clone()?;
+    Ok(copy)
+}
+
 impl<R: Rep> Current<R> {
     /// The state at version 0.
     ///
@@ -98,6 +106,26 @@ impl<R: Rep> Current<R> {
         };
         let queries = Queries::new(alloc);
         let ended = BTreeSet::new(alloc);
+        Ok(Current {
+            start,
+            rep,
+            queries,
+            cursors,
+            ended,
+        })
+    }
+
+    /// An equal state, beside an equal opening.
+    ///
+    /// Errors: want of memory.
+    pub(crate) fn copied(&self, alloc: Global) -> Result<Current<R>, NoMemory>
+        ensures { IfOk result (λ current. current ≡ self.now) }
+    {
+        let start = self.start.copy(alloc)?;
+        let rep = self.rep.copy(alloc)?;
+        let queries = self.queries.copy(alloc)?;
+        let cursors = Cursor::copy_all(self.cursors.as_slice(), alloc)?;
+        let ended = copied_numbers(alloc, &self.ended)?;
         Ok(Current {
             start,
             rep,

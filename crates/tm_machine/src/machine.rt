@@ -12,7 +12,8 @@ ghost use Rattle.tm_legal.specs.Run.{reply_at};
 ghost use Rattle.tm_legal.specs.Legal.{Replies, is_attach, is_answer};
 ghost use Rattle.tm_legal.specs.Play.{all_ended};
 ghost use Rattle.tm_machine.specs.Current.{Fits, Makes};
-ghost use Rattle.tm_machine.specs.Machine.{course_from, history_of, steps_made, made_at, has_come, answers_given};
+ghost use Rattle.tm_machine.specs.Fitting.{fits_now};
+ghost use Rattle.tm_machine.specs.Machine.{course_from, history_of, steps_made, made_at, has_come, answers_given, LeavesDomains, LeavesAllRefused};
 
 use crate::current::Current;
 use std::alloc::Global;
@@ -284,6 +285,15 @@ impl<R: Rep> Machine<R> {
         self.current.constants();
     }
 
+    /// Whether a step fits: whether it would have a reply at the newest version.
+    ///
+    /// Errors: want of memory, which a Learn alone takes.
+    pub fn fits(&self, alloc: Global, step: &Step) -> Result<bool, NoMemory>
+        ensures { IfOk result (λ fits. fits ≡ fits_now self.now.state step.now) }
+    {
+        self.current.fits(alloc, step)
+    }
+
     /// Makes the step of this maker, and gives its reply: a Learn, a Make, a Fail, an Ask, an
     /// Answer, an Attach, a Detach, an Edit or an End. The step fits, that is, it has a reply. A
     /// refused step is a step too: it leaves what its reply says.
@@ -295,6 +305,10 @@ impl<R: Rep> Machine<R> {
             record { state = self.new.state; reply = Some reply }) }
         ensures made { IfOk result (λ reply. self.new.made ≡ self.old.made ++ (made, reply) ∷ []) }
         ensures start { self.new.start ≡ self.old.start }
+        ensures domains { OnOk result
+            (LeavesDomains self.old.state made.step self.new.state) }
+        ensures refused { OnOk result
+            (LeavesAllRefused self.old.state made.step self.new.state) }
         ensures kept { OnErr result (self.new ≡ self.old) }
     {
         let came = comes(self.came, &made.step);
@@ -303,6 +317,22 @@ impl<R: Rep> Machine<R> {
         self.came = came;
         self.answers += answers;
         Ok(reply)
+    }
+
+    /// An equal machine.
+    ///
+    /// Errors: want of memory.
+    pub fn copied(&self, alloc: Global) -> Result<Machine<R>, NoMemory>
+        ensures { IfOk result (λ machine. machine ≡ self.now) }
+    {
+        let current = self.current.copied(alloc)?;
+        let made = <(Made, Reply)>::copy_all(self.made.as_slice(), alloc)?;
+        Ok(Machine {
+            current,
+            made,
+            came: self.came,
+            answers: self.answers,
+        })
     }
 
     /// The steps with their replies, copied, so that the machine can go on.

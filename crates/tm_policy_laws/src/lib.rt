@@ -1,6 +1,8 @@
 //! What policy lines can leave of a policy, and that what is printed of it is loaded again.
-//! Stands on tm_policy_line, tm_text, tm_legal and tm_grammar; no code but for functions without a body, on which the laws stand.
-//! Promises that every policy that was loaded stays one that lines can leave, and that its printed files load as its live part.
+//! Stands on tm_policy_line, tm_text, tm_legal and tm_grammar; no code but for functions without a
+//! body, on which the laws stand.
+//! Promises that every policy that was loaded stays one that lines can leave, and that its printed
+//! files load as its live part.
 #![tactic(auto)]
 
 ghost use Rattle.std.specs.Prelude.{◌≡◌, ℕ, true, List, Ok};
@@ -30,9 +32,10 @@ ghost use Rattle.tm_grammar.specs.Tomoyo.{tomoyo_grammar};
 ghost use Rattle.tm_policy_laws.specs.Policies.{IsWritten};
 ghost use Rattle.tm_policy_laws.specs.PolicyText.{policy_text};
 
-/// A policy that lines can leave stays one: whatever line that some text writes is done, whatever entry that a line can write is learned,
-/// whatever domain of a right name is made, where a transition fails, and where its dead domains go. A new policy is one. In such a policy
-/// every domain has a right name, and every aggregator leads to a path.
+/// A policy that lines can leave stays one: whatever line that some text writes is done, whatever
+/// entry that a line can write is learned, whatever domain of a right name is made, where a
+/// transition fails, and where its dead domains go. A new policy is one. In such a policy every
+/// domain has a right name, and every aggregator leads to a path.
 pub fn written_changes()
     ensures new { IsWritten new_policy }
     ensures line { (policy : Policy) (cursor : Cursor) (line : PolicyLine) → IsWritten policy → IsWrittenLine line
@@ -51,8 +54,9 @@ pub fn written_changes()
         is_path_word pair.1 ≡ true) ns.aggregators) policy.namespaces }
 {}
 
-/// Whatever four files load is a policy that lines can leave, and so is every later version of it: whatever a line of a policy file or of
-/// an editor says, whatever step the machine makes, and however many steps.
+/// Whatever four files load is a policy that lines can leave, and so is every later version of it:
+/// whatever a line of a policy file or of an editor says, whatever step the machine makes, and
+/// however many steps.
 pub fn written_policies()
     ensures text { (policy : Policy) (file : FileKind) (cursor : Cursor) (text : Text) → IsWritten policy
         → IsWritten (apply_line tomoyo_grammar policy file cursor text).policy }
@@ -64,10 +68,11 @@ pub fn written_policies()
         → IsWritten policy }
 {}
 
-/// The printed profiles, exceptions, domains and managers of an opened policy that lines can leave are loaded without a fault, and give
-/// its live part: the same live domains in their order by new numbers, the same namespaces by their names, the same managers. Every policy
-/// that was loaded is opened and one that lines can leave, and every step keeps it so. Therefore whatever was loaded is printed, at
-/// whatever later version, to files that load as its live part.
+/// The printed profiles, exceptions, domains and managers of an opened policy that lines can leave
+/// are loaded without a fault, and give its live part: the same live domains in their order by new
+/// numbers, the same namespaces by their names, the same managers. Every policy that was loaded is
+/// opened and one that lines can leave, and every step keeps it so. Therefore whatever was loaded
+/// is printed, at whatever later version, to files that load as its live part.
 pub fn printed_policies()
     ensures again { (policy : Policy) → IsOpened policy → IsWritten policy
         → LoadsBack tomoyo_grammar policy_text policy }

@@ -13,7 +13,8 @@ pub fn clean_runs_grow()
 
 /// A clean run from a plain opening has a plain policy at every version.
 pub fn policies_stay_plain()
-    ensures { (scene : Scene) (run : Run) → CanPlay scene → IsTrue (is_plain scene.policy) → Legal scene run → IsTrue (is_clean run) →
+    ensures { (scene : Scene) (run : Run) → CanPlay scene → IsTrue (is_plain scene.policy)
+        → Legal scene run → IsTrue (is_clean run) →
         (k : ℕ) → k ≤ length run.steps → IsTrue (is_plain (state_at scene run.steps k).policy) }
 {}
 

@@ -1,4 +1,5 @@
-//! Laws of what is learned, and of what a switched policy keeps, each on a function whose only clauses they are.
+//! Laws of what is learned, and of what a switched policy keeps, each on a function whose only
+//! clauses they are.
 ghost use Rattle.std.specs.Prelude.{◌≡◌, ℕ, Bool, Option, option_map};
 ghost use Rattle.tm_word.specs.Words.{Text};
 ghost use Rattle.tm_rules.specs.Words.{DomainName};
@@ -18,15 +19,18 @@ ghost use Rattle.tm_legal.specs.Clean.{switched, switched_mode, switched_profile
 ghost use Rattle.tm_legal.specs.Play.{IsOpened};
 ghost use Rattle.tm_legal.specs.Replay.{Execute, execute_found, LearnedLinesGrant};
 
-/// A switched policy keeps all but its namespaces, so each domain with its entries, and finds live domains at the same numbers.
+/// A switched policy keeps all but its namespaces, so each domain with its entries, and finds live
+/// domains at the same numbers.
 pub fn switched_domains()
-    ensures policies { (policy : Policy) → switched policy ≡ record policy { namespaces = (switched policy).namespaces } }
+    ensures policies { (policy : Policy) →
+        switched policy ≡ record policy { namespaces = (switched policy).namespaces } }
     ensures domains { (policy : Policy) → (switched policy).domains ≡ policy.domains }
-    ensures live { (policy : Policy) (name : DomainName) → live_domain (switched policy) name ≡ live_domain policy name }
+    ensures live { (policy : Policy) (name : DomainName) →
+        live_domain (switched policy) name ≡ live_domain policy name }
 {}
 
-/// Each namespace keeps all but its profiles: its groups, aggregators, controls and ACL groups. So a domain has the same
-/// entries, and the first that grants a request is the same.
+/// Each namespace keeps all but its profiles: its groups, aggregators, controls and ACL groups. So
+/// a domain has the same entries, and the first that grants a request is the same.
 pub fn switched_namespaces()
     ensures namespaces { (policy : Policy) (name : Text) →
         namespace_named (switched policy) name ≡ record (namespace_named policy name) { profiles = (namespace_named (switched policy) name).profiles } }
@@ -48,23 +52,26 @@ pub fn switched_modes()
         mode_of (switched_profile profile) function ≡ switched_mode (mode_of profile function) }
 {}
 
-/// Where clean runs grow, a line that was learned in one grants its own request at each later version, and in the switched
-/// final policy.
+/// Where clean runs grow, a line that was learned in one grants its own request at each later
+/// version, and in the switched final policy.
 pub fn learned_lines_grant()
     ensures { LearnedLinesGrant }
 {}
 
-/// A request leads where it led: the line that is learned for it, its candidate, what decides and what can be entered are the same.
+/// A request leads where it led: the line that is learned for it, its candidate, what decides and
+/// what can be entered are the same.
 pub fn switched_ways()
     ensures lines { (policy : Policy) (domain : Domain) (request : Request) →
         line_of (namespace_of (switched policy) domain) request ≡ line_of (namespace_of policy domain) request }
     ensures candidates { (policy : Policy) (domain : Domain) (found : Option Granting) (request : Request) →
         candidate (namespace_of (switched policy) domain) found request ≡ candidate (namespace_of policy domain) found request }
-    ensures decisions { (policy : Policy) (domain : Domain) (name : DomainName) (found : Option Granting) (request : Request) →
+    ensures decisions { (policy : Policy) (domain : Domain) (name : DomainName)
+        (found : Option Granting) (request : Request) →
         decision (namespace_of (switched policy) domain) name found request ≡ decision (namespace_of policy domain) name found request }
     ensures enters { (is_path : Text → Bool) (policy : Policy) (domain name : DomainName) →
         can_enter is_path (switched policy) domain name ≡ can_enter is_path policy domain name }
-    ensures executes { (policy : Policy) (d : ℕ) (x : Execute) → execute_found (switched policy) d x ≡ execute_found policy d x }
+    ensures executes { (policy : Policy) (d : ℕ) (x : Execute) →
+        execute_found (switched policy) d x ≡ execute_found policy d x }
 {}
 
 /// A switched policy is plain where the policy is.

@@ -1,6 +1,8 @@
 //! A learned run is repeated: the laws of clean runs and of the switched final policy.
-//! Stands on tm_legal, whose definitions of legal runs, plays and switched policies it takes; it has laws alone, and no code.
-//! Promises that every legal rerun of a clean run from a plain opening, under its switched final policy, makes no step and grants every take.
+//! Stands on tm_legal, whose definitions of legal runs, plays and switched policies it takes; it
+//! has laws alone, and no code.
+//! Promises that every legal rerun of a clean run from a plain opening, under its switched final
+//! policy, makes no step and grants every take.
 #![tactic(auto)]
 
 mod execute_law;

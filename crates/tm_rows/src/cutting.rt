@@ -1,4 +1,5 @@
-//! Calls whose files are cut. Each has to end as the readers answer on what is left; where that is a refusal, it leaves all as it was.
+//! Calls whose files are cut. Each has to end as the readers answer on what is left; where that is
+//! a refusal, it leaves all as it was.
 ghost use Rattle.std.specs.Prelude.{◌≡◌, IfOk};
 ghost use Rattle.tm_rows.specs.Cutting.{zeroed_byte, zeroed, cut_text};
 

@@ -1,4 +1,5 @@
-//! Plays worked rows: calls over files in memory, each with all that is expected of it, from tables.
+//! Plays worked rows: calls over files in memory, each with all that is expected of it, from
+//! tables.
 //! Stands on the top call of tomoyo, on tm_io for files in memory, and on the readers of cut files.
 //! Promises that a row agrees exactly where its status, standard output and files are as it says.
 #![tactic(auto)]

@@ -1,10 +1,17 @@
-//! The table, read. A row begins with a line `row NAME` and ends with a line `end`. Between them stand, in any order:
-//! `words WORD..` the words of the call; `in FILE HOW` bytes of a file that the call finds; `status NUMBER LINE` the exit status, and
-//! the line that is said of it where it isn't 0; `fails call NUMBER` and `fails put NUMBER`, which fetch or store and which put fails, from 0;
-//! `cuts FILE`, a file that is cut after each number of its bytes; `out FILE HOW` bytes of a file that the call stores; `put HOW` bytes of standard
-//! output. HOW is `LENGTH`, or `COPIES times LENGTH`, or `COPIES numbered LENGTH`, and after its line come so many bytes and the end
-//! of a line. The pieces of a file stand in it in their order, and so many copies of each; in a numbered one, the number of the copy,
-//! from 1, stands for each `%`. Between rows, empty lines and lines that begin with `#` say nothing.
+//! The table, read. A row begins with a line `row NAME` and ends with a line `end`. Between them
+//! stand, in any order:
+//! `words WORD..` the words of the call; `in FILE HOW` bytes of a file that the call finds; `status
+//! NUMBER LINE` the exit status, and
+//! the line that is said of it where it isn't 0; `fails call NUMBER` and `fails put NUMBER`, which
+//! fetch or store and which put fails, from 0;
+//! `cuts FILE`, a file that is cut after each number of its bytes; `out FILE HOW` bytes of a file
+//! that the call stores; `put HOW` bytes of standard
+//! output. HOW is `LENGTH`, or `COPIES times LENGTH`, or `COPIES numbered LENGTH`, and after its
+//! line come so many bytes and the end
+//! of a line. The pieces of a file stand in it in their order, and so many copies of each; in a
+//! numbered one, the number of the copy,
+//! from 1, stands for each `%`. Between rows, empty lines and lines that begin with `#` say
+//! nothing.
 ghost use Rattle.std.specs.Prelude.{◌<◌, ◌≤◌, length, IfOk};
 
 use crate::faults::{Fault, Kind, Wrong};

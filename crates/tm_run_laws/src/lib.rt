@@ -1,6 +1,8 @@
 //! Runs of this language and their texts: whatever is played can be written and is read back.
-//! Stands on tm_legal, tm_grammar, tm_trace, tm_script and tm_run; no code but for functions without a body, on which the laws stand.
-//! Promises that every legal run of a scene that was read is one that a text can write, so that its text is read back as that run and determines it.
+//! Stands on tm_legal, tm_grammar, tm_trace, tm_script and tm_run; no code but for functions
+//! without a body, on which the laws stand.
+//! Promises that every legal run of a scene that was read is one that a text can write, so that its
+//! text is read back as that run and determines it.
 #![tactic(auto)]
 
 ghost use Rattle.std.specs.Prelude.{◌≡◌, true, List, Ok};
@@ -18,14 +20,16 @@ ghost use Rattle.tm_run.specs.Typed.{is_typed};
 ghost use Rattle.tm_run.specs.Written.{is_written};
 ghost use Rattle.tm_run_laws.specs.Scenes.{IsReadScene};
 
-/// A scene whose trace and whose editors were read, of this language and such that it can be played, is a scene that was read.
+/// A scene whose trace and whose editors were read, of this language and such that it can be
+/// played, is a scene that was read.
 pub fn scenes_are_read()
     ensures { (scene : Scene) (trace edits : Text) → scene.grammar ≡ tomoyo_grammar → CanPlay scene
         → trace_of trace ≡ Ok scene.trace → edits_of edits ≡ Ok scene.editors → IsReadScene scene }
 {}
 
-/// Every legal run of a scene that was read, with numbers in their types' ranges, is one that a text can write: its text is read back as
-/// that run, and no other such run, of whatever scene, has this text. The ranges are what `print_run` tells of each run that it printed.
+/// Every legal run of a scene that was read, with numbers in their types' ranges, is one that a
+/// text can write: its text is read back as that run, and no other such run, of whatever scene, has
+/// this text. The ranges are what `print_run` tells of each run that it printed.
 pub fn legal_runs_are_read_back()
     ensures written { (scene : Scene) (run : Run) → IsReadScene scene → Legal scene run → is_typed run ≡ true
         → is_written run ≡ true }

@@ -1,4 +1,5 @@
-//! Tests of policies with and without an index, of queries, runs and sorted records: what no row shows.
+//! Tests of policies with and without an index, of queries, runs and sorted records: what no row
+//! shows.
 //! Stands on every crate whose calls it tries, and nothing stands on it.
 //! Promises nothing; the name of each test says what it shows.
 #![tactic(auto)]

@@ -61,7 +61,8 @@ fn added_text(alloc: Global, said: &PolicyLine) -> Result<Option<Text>, NoMemory
     }
 }
 
-/// The printed text of the entry that a line of `domain_policy` adds; none where it is refused or adds no entry.
+/// The printed text of the entry that a line of `domain_policy` adds; none where it is refused or
+/// adds no entry.
 pub fn entry_line(alloc: Global, line: &[u8]) -> Result<Option<Text>, NoMemory>
     ensures { IfOk result (λ text. text ≡ entry_text line.now) }
 {
@@ -90,7 +91,8 @@ fn printed_rule(alloc: Global, rule: &ExceptRule) -> Result<Text, NoMemory>
     Seq::from_bytes(alloc, between_ends(&line))
 }
 
-/// The printed text of an ACL group's line, without its namespace word and without the end of the line.
+/// The printed text of an ACL group's line, without its namespace word and without the end of the
+/// line.
 fn printed_group(alloc: Global, group: &GroupLine) -> Result<Text, NoMemory>
     ensures { IfOk result (λ text. text ≡ joined (rule_words (group_rule group.now))) }
 {
@@ -105,7 +107,8 @@ fn printed_group(alloc: Global, group: &GroupLine) -> Result<Text, NoMemory>
     Seq::from_bytes(alloc, between_ends(&line))
 }
 
-/// The printed text of the rule that a line of `exception_policy` adds or removes, without its namespace word.
+/// The printed text of the rule that a line of `exception_policy` adds or removes, without its
+/// namespace word.
 fn rule_text(alloc: Global, said: &PolicyLine) -> Result<Option<Text>, NoMemory>
     ensures { IfOk result (λ text. text ≡ rule_text said.now) }
 {
@@ -119,7 +122,8 @@ fn rule_text(alloc: Global, said: &PolicyLine) -> Result<Option<Text>, NoMemory>
     }
 }
 
-/// The printed text of a line of `exception_policy`, without its namespace word; none where the line is refused.
+/// The printed text of a line of `exception_policy`, without its namespace word; none where the
+/// line is refused.
 pub fn exception_line(alloc: Global, line: &[u8]) -> Result<Option<Text>, NoMemory>
     ensures { IfOk result (λ text. text ≡ exception_text line.now) }
 {

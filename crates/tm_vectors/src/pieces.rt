@@ -6,7 +6,8 @@ use std::alloc::Global;
 use tm_list::{NoMemory, Seq};
 use tm_word::{Text, cut_at};
 
-/// What stands between these bytes of a text: the fields of a row between its tabs, the lines of a field between its bars.
+/// What stands between these bytes of a text: the fields of a row between its tabs, the lines of a
+/// field between its bars.
 pub fn pieces(alloc: Global, byte: u8, text: &[u8]) -> Result<Vec<Text>, NoMemory>
     ensures { IfOk result (λ found. found.items ≡ pieces byte text.now) }
 {

@@ -12,7 +12,8 @@ use tm_list::NoMemory;
 use tm_number::write_decimal;
 use tm_word::{Text, bytes_equal, cut_at};
 
-/// What a line of a table's file is: no row, where it is empty, or a row that agrees with our answer or differs from it.
+/// What a line of a table's file is: no row, where it is empty, or a row that agrees with our
+/// answer or differs from it.
 #[derive(Clone, Copy)]
 pub enum Judgement {
     NoRow,
@@ -99,14 +100,16 @@ fn judge_line(
     Ok(Judgement::Differs)
 }
 
-/// Judges the lines of a table's file, says which rows differ, and counts those that agree and those that differ.
+/// Judges the lines of a table's file, says which rows differ, and counts those that agree and
+/// those that differ.
 fn judge_lines(
     alloc: Global,
     table: Table,
     text: &[u8],
     out: &mut Vec<u8>,
 ) -> Result<(u64, u64), NoMemory>
-    ensures counted { IfOk result (λ counted. (counted.0 ≡ agreeing table (lines_of text.now)) × (counted.1 ≡ differing table (lines_of text.now))) }
+    ensures counted { IfOk result (λ counted. (counted.0 ≡ agreeing table (lines_of text.now))
+        × (counted.1 ≡ differing table (lines_of text.now))) }
     ensures told { OnOk result (out.new.items ≡ out.old.items ++ all_said table 1 (lines_of text.now)) }
 {
     let mut agree: u64 = 0;
@@ -147,7 +150,8 @@ fn push_counts(
     out.extend_from_slice(b" differ\n")
 }
 
-/// Appends what is to be said of a table whose file has this text: a line for each row that differs, and one line of counts.
+/// Appends what is to be said of a table whose file has this text: a line for each row that
+/// differs, and one line of counts.
 #[tactic(auto, unfolding(crate::specs::Reports::report))]
 pub fn judge_table(
     alloc: Global,

@@ -2,14 +2,16 @@
 ghost use Rattle.std.specs.Prelude.{◌≡◌};
 ghost use Rattle.tm_vectors.specs.Reports.{table_name};
 
-/// A table of recorded answers. Each row has fields between tabs, and the last one is what the real TOMOYO answered.
+/// A table of recorded answers. Each row has fields between tabs, and the last one is what the real
+/// TOMOYO answered.
 #[derive(Clone, Copy)]
 pub enum Table {
     /// A line of `domain_policy`, and its printed text or `refused`.
     AclLines,
     /// A line of `exception_policy`, and its printed text without the namespace word, or `refused`.
     ExceptionLines,
-    /// A number, a domain, a program, and controls with `|` between them; and the domain to which an execute leads.
+    /// A number, a domain, a program, and controls with `|` between them; and the domain to which
+    /// an execute leads.
     Transitions,
     /// A pattern and a name, and `yes` where the one matches the other, else `no`.
     PatternVectors,

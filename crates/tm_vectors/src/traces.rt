@@ -9,7 +9,8 @@ use tm_trace::{print_trace, read_trace};
 use tm_types::request::{TraceFault, TraceKind};
 use tm_word::bytes_equal;
 
-/// What becomes of a trace that is read and printed again: it is refused at a line, printed as it was or printed otherwise.
+/// What becomes of a trace that is read and printed again: it is refused at a line, printed as it
+/// was or printed otherwise.
 #[derive(Clone, Copy)]
 pub enum TraceRead {
     Refused(u64, TraceKind),
@@ -66,7 +67,8 @@ fn push_refusal(
     push_end(kind.text().as_bytes(), out)
 }
 
-/// Appends what is to be said of a trace of this name: whether it is printed as it was, or the line at which it is refused.
+/// Appends what is to be said of a trace of this name: whether it is printed as it was, or the line
+/// at which it is refused.
 #[tactic(auto, unfolding(crate::specs::Traces::trace_said))]
 pub fn judge_trace(
     alloc: Global,

@@ -97,10 +97,12 @@ fn read_controls(alloc: Global, lines: &[Text]) -> Result<Option<Seq<Control>>, 
     Ok(Some(controls))
 }
 
-/// The preference that leads where a control of this kind leads: to reset, to initialize or to keep; else to the domain below.
+/// The preference that leads where a control of this kind leads: to reset, to initialize or to
+/// keep; else to the domain below.
 #[tactic(auto, unfolding(tm_domain::specs::Names::preferred_name, tm_rules::specs::Transition::target_name))]
 fn prefer_of(kind: ControlKind) -> Prefer
-    ensures { (domain program : List ℕ) → preferred_name domain program result ≡ unwrap_or (target_name domain program (By_control kind)) domain }
+    ensures { (domain program : List ℕ) →
+        preferred_name domain program result ≡ unwrap_or (target_name domain program (By_control kind)) domain }
 {
     match kind {
         ControlKind::Reset => Prefer::Reset,
@@ -113,8 +115,9 @@ fn prefer_of(kind: ControlKind) -> Prefer
     }
 }
 
-/// The domain to which an execute of a program leads from a domain, under the controls that these lines add, with `|` between them;
-/// none where one of the lines adds no control, or where no domain can have that name.
+/// The domain to which an execute of a program leads from a domain, under the controls that these
+/// lines add, with `|` between them; none where one of the lines adds no control, or where no
+/// domain can have that name.
 pub fn domain_after(
     alloc: Global,
     domain: &DomainName,

@@ -1,7 +1,7 @@
 -- What a call that is done has stored, and what every call leaves.
-use Rattle.std.proofs.Common.{◌≡◌, ◌∙◌, ℕ, ◌∷◌, [], ◌++◌, List, Bool, ◌&&◌, not, take, drop, true, false, Ok, ap, refl, sym, subst, append_assoc}
+use Rattle.std.proofs.Common.{◌≡◌, ◌∙◌, ℕ, ◌∷◌, [], ◌++◌, List, Bool, ◌&&◌, not, take, drop, true, false, Ok, ap, refl, sym, subst, append_assoc, arith, Result, Err, map, nat_lt, length, if◌then◌else◌}
 use Rattle.std.specs.Prelude.{Option, Some, None}
-use Rattle.std.specs.List.{AllByRecursion}
+use Rattle.std.specs.List.{AllByRecursion, list_all}
 use Rattle.std.proofs.lemmas.Bool.{and_parts}
 use Rattle.tm_types.specs.declared.policy.Policy.{Policy}
 use Rattle.tm_io.specs.declared.names.FileName.{FileName}
@@ -12,8 +12,8 @@ use Rattle.tm_call.specs.declared.status.Status.{Status}
 use Rattle.tm_call.specs.declared.status.OutName.{OutName}
 use Rattle.tm_call.specs.declared.carry.Outcome.{Outcome}
 use Rattle.tomoyo.specs.declared.play.Played.{Played}
-use Rattle.tomoyo.specs.declared.rerun.RerunTexts.{RerunTexts}
-use Rattle.tomoyo.specs.declared.rerun.Learned.{Learned}
+use Rattle.tomoyo.specs.declared.learn.RerunTexts.{RerunTexts}
+use Rattle.tomoyo.specs.declared.learn.Learned.{Learned}
 use Rattle.tomoyo.specs.declared.sort.Sorting.{Sorting}
 use Rattle.tm_call.specs.declared.words.Command.{Command}
 use Rattle.tm_call.specs.Fetches.{Texts, IsTold, TellsAll}
@@ -41,9 +41,9 @@ use Rattle.tm_sort.specs.Records.{records_of}
 use Rattle.tm_sort.specs.Rules.{is_rule, rules_of}
 use Rattle.tm_sort.specs.Parts.{part_numbers, is_part, named_numbers, part_of, parts_of}
 use Rattle.tm_sort.proofs.RuleLaws.{rules_right}
-use Rattle.tm_sort.proofs.PartLaws.{shares}
+use Rattle.tm_sort.proofs.PartLaws.{parts_share}
 use Rattle.tomoyo.specs.Sort.{of_audit, of_rules, few_rules}
-use Rattle.tomoyo.proofs.Sorted.{Rising, filter-rising, all-stored, not-stored}
+use Rattle.tomoyo.proofs.Sorted.{Rising, filter-rising, changed-self, all-stored, not-stored}
 
 -- files that the outcome doesn't store
 carried-others : (old new : Outside) (outcome : Outcome) (status : Status) (name : FileName) → CarriedOut outcome old new status → is_named (names_of outcome.stores) name ≡ false → new.files name ≡ old.files name
@@ -68,12 +68,6 @@ kept-of command old new status (Ends.Not_fetched stops untouched) name e = untou
 kept-of command old new status (Ends.Refused texts given refused untouched) name e = untouched.files name
 kept-of command old new status (Ends.Made texts outcome given allowed carried) name e =
     carried-others old new outcome status name carried (unnamed-by command (names_of outcome.stores) name (names-allowed command texts outcome allowed) e)
-
--- a told file that is stored
-changed-self : (stored : FileName) (bytes : List ℕ) (state : FileState) → IsTold state → same_name stored stored ≡ true → changed stored bytes stored state ≡ FileState.Holds bytes
-changed-self stored bytes FileState.Untold is e = absurd is
-changed-self stored bytes FileState.Missing is e = rw e refl
-changed-self stored bytes (FileState.Holds held) is e = rw e refl
 
 not-true : (b : Bool) → not b ≡ true → b ≡ false
 not-true true e = absurd cc
@@ -175,11 +169,11 @@ rules-right texts sorting e =
     rules-read (Err fault) x e = absurd cc
 
     few-rules : (rules : List Rule) (records : List Record) (sorting : Sorting) → few_rules rules records ≡ Ok sorting → sorting.rules ≡ rules
-    few-rules rules records sorting e = go (nat_lt 256 (length rules)) e
+    few-rules rules records sorting e = go (nat_lt 256 (length rules)) (record { rules = rules; records = records }) refl e
       where
-        go : (many : Bool) → (if many then Err (Status.TooMany What.Rules) else Ok (record { rules = rules; records = records })) ≡ Ok sorting → sorting.rules ≡ rules
-        go true h = absurd cc
-        go false h = let made : Sorting = record { rules = rules; records = records } in let same : made ≡ sorting = cc in ap (λ (s : Sorting). s.rules) (sym same)
+        go : (many : Bool) (made : Sorting) → made.rules ≡ rules → (if many then Err (Status.TooMany What.Rules) else Ok made) ≡ Ok sorting → sorting.rules ≡ rules
+        go true made is h = absurd cc
+        go false made is h = let same : made ≡ sorting = cc in ap (λ (s : Sorting). s.rules) (sym same) ∙ is
 
 -- a sort that is done
 sort-done : (old new : Outside) → Ends (wants_of Command.Sort) (Refuses Command.Sort) (Allows Command.Sort) old new Status.Done → TellsAll old.files → IsSorted old new
@@ -195,7 +189,7 @@ sort-done old new (Ends.Made texts outcome given allowed carried) tells =
       sorting = sorting;
       reads = subst (λ (ts : Texts). sort_reading ts ≡ Ok sorting) (texts-told old.files (wants_of Command.Sort) texts tells given) allowed.1.1;
       stored = all-stored part numbers old.files new.files (λ m. refl) tells (filter-rising (is_part sorting.rules) 0 part_numbers rising) leaves;
-      shared = shares sorting.rules sorting.records (rules-right texts sorting allowed.1.1);
+      shared = parts_share sorting.rules sorting.records (rules-right texts sorting allowed.1.1);
       kept = λ number none. leaves-other (map part_store (map part numbers)) old.files new.files (FileName.AuditPart number) leaves (not-stored part (is_part sorting.rules) number part_numbers (λ m. refl) none);
       counts = carried.1 ∙ ap (λ (o : Outcome). then_bytes o.line old.written) allowed.1.2;
     }

@@ -9,8 +9,8 @@ use Rattle.tm_io.specs.declared.names.FileName.{FileName}
 use Rattle.tm_io.specs.Names.{same_name}
 use Rattle.tm_call.specs.declared.status.Status.{Status}
 use Rattle.tm_call.specs.declared.carry.Outcome.{Outcome}
-use Rattle.tomoyo.specs.declared.rerun.RerunTexts.{RerunTexts}
-use Rattle.tomoyo.specs.declared.rerun.Learned.{Learned}
+use Rattle.tomoyo.specs.declared.learn.RerunTexts.{RerunTexts}
+use Rattle.tomoyo.specs.declared.learn.Learned.{Learned}
 use Rattle.tomoyo.specs.declared.sort.Sorting.{Sorting}
 use Rattle.tomoyo.specs.Sort.{part_store, sort_outcome}
 use Rattle.tm_call.specs.declared.words.Command.{Command}
@@ -68,18 +68,19 @@ front-unnamed (other ∷ names) more name e = by-none (same_name other name) (is
 
 -- Names of some parts among all
 
+by-rest : (b q : Bool) → q ≡ true → (if b then true else q) ≡ true
+by-rest true q h = refl
+by-rest false q h = h
+
+-- a part more, which may be left out
+part-more : (n : ℕ) (some all : List ℕ) (name : FileName) → (is_named (map FileName.AuditPart some) name ≡ true → is_named (map FileName.AuditPart all) name ≡ true) → (b : Bool)
+    → is_named (map FileName.AuditPart (if b then n ∷ some else some)) name ≡ true → is_named (map FileName.AuditPart (n ∷ all)) name ≡ true
+part-more n some all name rest true h = by-test (same_name (FileName.AuditPart n) name) (is_named (map FileName.AuditPart some) name) (is_named (map FileName.AuditPart all) name) rest h
+part-more n some all name rest false h = by-rest (same_name (FileName.AuditPart n) name) (is_named (map FileName.AuditPart all) name) (rest h)
+
 part-named : (p : ℕ → Bool) (numbers : List ℕ) (name : FileName) → is_named (map FileName.AuditPart (filter p numbers)) name ≡ true → is_named (map FileName.AuditPart numbers) name ≡ true
 part-named p [] name e = e
-part-named p (n ∷ numbers) name e = go (p n) e
-  where
-    here : (b : Bool) → is_named (map FileName.AuditPart numbers) name ≡ true → (if b then true else is_named (map FileName.AuditPart numbers) name) ≡ true
-    here true h = refl
-    here false h = h
-
-    go : (b : Bool) → is_named (map FileName.AuditPart (if b then n ∷ filter p numbers else filter p numbers)) name ≡ true
-        → (if same_name (FileName.AuditPart n) name then true else is_named (map FileName.AuditPart numbers) name) ≡ true
-    go true h = by-test (same_name (FileName.AuditPart n) name) (is_named (map FileName.AuditPart (filter p numbers)) name) (is_named (map FileName.AuditPart numbers) name) (part-named p numbers name) h
-    go false h = here (same_name (FileName.AuditPart n) name) (part-named p numbers name h)
+part-named p (n ∷ numbers) name e = part-more n (filter p numbers) numbers name (λ h. part-named p numbers name h) (p n) e
 
 part-unnamed : (p : ℕ → Bool) (numbers : List ℕ) (name : FileName) → is_named (map FileName.AuditPart numbers) name ≡ false → is_named (map FileName.AuditPart (filter p numbers)) name ≡ false
 part-unnamed p numbers name e = go (is_named (map FileName.AuditPart (filter p numbers)) name) refl
@@ -102,8 +103,8 @@ pub unnamed-by : (command : Command) (names : List FileName) (name : FileName) �
 unnamed-by Command.Step names name is e = ap (λ (ns : List FileName). is_named ns name) is ∙ e
 unnamed-by Command.Print names name is e = ap (λ (ns : List FileName). is_named ns name) is ∙ e
 unnamed-by (Command.Gen seed size) names name is e = ap (λ (ns : List FileName). is_named ns name) is ∙ e
-unnamed-by Command.Sort names name (rules, is) e = part-named (is_part rules) part_numbers name (ap (λ (ns : List FileName). is_named ns name) (sym is) ∙ e)
-named-by Command.Learn names name (inl is) e = ap (λ (ns : List FileName). is_named ns name) is ∙ e
+unnamed-by Command.Sort names name (rules, is) e = ap (λ (ns : List FileName). is_named ns name) is ∙ part-unnamed (is_part rules) part_numbers name e
+unnamed-by Command.Learn names name (inl is) e = ap (λ (ns : List FileName). is_named ns name) is ∙ e
 unnamed-by Command.Learn names name (inr is) e = ap (λ (ns : List FileName). is_named ns name) is ∙ front-unnamed (stored_by Command.Step) (FileName.Run2 ∷ FileName.Audit2 ∷ []) name e
 
 -- Calls

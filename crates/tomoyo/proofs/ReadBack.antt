@@ -19,8 +19,8 @@ use Rattle.tm_run.specs.Typed.{is_typed}
 use Rattle.tm_run_laws.specs.Scenes.{IsReadScene}
 use Rattle.tm_run_laws.proofs.Runs.{play_read}
 use Rattle.tm_call_input.specs.declared.reading.Loaded.{Loaded}
-use Rattle.tomoyo.specs.declared.rerun.Learned.{Learned}
-use Rattle.tomoyo.specs.declared.rerun.RerunTexts.{RerunTexts}
+use Rattle.tomoyo.specs.declared.learn.Learned.{Learned}
+use Rattle.tomoyo.specs.declared.learn.RerunTexts.{RerunTexts}
 use Rattle.tm_call.specs.Fetches.{Texts, content}
 use Rattle.tm_call_input.specs.Reading.{homeless, scene_of}
 use Rattle.tomoyo.specs.Rerun.{again, CanRerun, Reruns, LearnsLoaded, IsReadBack}

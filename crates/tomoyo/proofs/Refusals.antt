@@ -20,6 +20,7 @@ use Rattle.tm_call.specs.Fetches.{Texts, AllGiven, content}
 use Rattle.tm_call_input.specs.Policies.{policy_of}
 use Rattle.tm_call_input.specs.Reading.{refused}
 use Rattle.tm_call_input.proofs.Refusals.{IsLater, failed, was-refused, step-refused, load-refused, step-kind, HasFault, early, fault-line, fault-undefined, fault-early, IsRefusal}
+use Rattle.tomoyo.specs.declared.sort.Sorting.{Sorting}
 use Rattle.tomoyo.specs.Sort.{of_audit, of_rules, few_rules, sort_reading}
 use Rattle.tomoyo.specs.Call.{wants_of, refusal_of, IsLoadFault, IsStepFault, IsSortFault}
 
@@ -40,11 +41,11 @@ rules-fail (Ok x) status e = absurd cc
 rules-fail (Err fault) status e = let same : Status.BadRules fault.0 fault.1 ≡ status = cc in subst (λ (s : Status). IsSortRefusal s) same tt
 
 many-fail : (rules : List Rule) (records : List Record) (status : Status) → few_rules rules records ≡ Err status → IsSortRefusal status
-many-fail rules records status e = go (nat_lt 256 (length rules)) e
+many-fail rules records status e = go (nat_lt 256 (length rules)) (record { rules = rules; records = records }) e
   where
-    go : (many : Bool) → (if many then Err (Status.TooMany What.Rules) else Ok (record { rules = rules; records = records })) ≡ Err status → IsSortRefusal status
-    go true h = let same : Status.TooMany What.Rules ≡ status = cc in subst (λ (s : Status). IsSortRefusal s) same tt
-    go false h = absurd cc
+    go : (many : Bool) (sorting : Sorting) → (if many then Err (Status.TooMany What.Rules) else Ok sorting) ≡ Err status → IsSortRefusal status
+    go true sorting h = let same : Status.TooMany What.Rules ≡ status = cc in subst (λ (s : Status). IsSortRefusal s) same tt
+    go false sorting h = absurd cc
 
 sort-refused : (texts : Texts) (status : Status) → refused (sort_reading texts) ≡ Some status → IsSortRefusal status
 unfolding sort_reading

@@ -27,7 +27,7 @@ use Rattle.tm_legal.proofs.Histories.{state_at-newest}
 use Rattle.tm_rerun.specs.Rerun.{rerun_text}
 use Rattle.tomoyo.specs.declared.play.Played.{Played}
 use Rattle.tm_call_input.specs.declared.reading.Loaded.{Loaded}
-use Rattle.tomoyo.specs.declared.rerun.RerunTexts.{RerunTexts}
+use Rattle.tomoyo.specs.declared.learn.RerunTexts.{RerunTexts}
 use Rattle.tm_call_input.specs.Reading.{homeless, scene_of}
 use Rattle.tomoyo.specs.Play.{IsPlayOf, IsPrinted}
 use Rattle.tomoyo.specs.Rerun.{again, nobody_else, CanRerun, IsPlayAlone, IsRerunPrinted, Reruns, IsRepeated, LearnsLoaded}

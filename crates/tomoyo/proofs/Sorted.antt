@@ -10,7 +10,7 @@ use Rattle.tm_io.specs.Files.{FileState, Files, changed}
 use Rattle.tm_sort.specs.declared.parts.Part.{Part}
 use Rattle.tm_call.specs.Fetches.{Texts, IsTold, TellsAll}
 use Rattle.tm_call.specs.Stores.{stored, Leaves, names_of, is_named}
-use Rattle.tm_call.proofs.Others.{changed-other, stored-other}
+use Rattle.tm_call.proofs.Others.{changed-other, stored-other, self-same}
 use Rattle.tomoyo.specs.Sort.{part_store}
 
 -- each number is above those before it
@@ -51,14 +51,14 @@ below part n (m ∷ ns) is h =
     let first : same_name (FileName.AuditPart (part m).number) (FileName.AuditPart n) ≡ false = rw (is m) (apart-back m n (omega (arith, h.0))) in
     rw first (below part n ns is (lower (n + 1) (m + 1) ns (omega (arith, h.0)) h.1))
 
-same-self : (n : ℕ) → (n == n) ≡ true
-same-self n = search (nat_tests, refl)
-
 -- a told file that is stored holds its bytes
+pub changed-self : (name : FileName) (bytes : List ℕ) (state : FileState) → IsTold state → same_name name name ≡ true → changed name bytes name state ≡ FileState.Holds bytes
+changed-self name bytes FileState.Untold is e = absurd is
+changed-self name bytes FileState.Missing is e = rw e refl
+changed-self name bytes (FileState.Holds held) is e = rw e refl
+
 holds : (n : ℕ) (bytes : Text) (state : FileState) → IsTold state → changed (FileName.AuditPart n) bytes (FileName.AuditPart n) state ≡ FileState.Holds bytes
-holds n bytes FileState.Untold told = absurd told
-holds n bytes FileState.Missing told = rw (same-self (17 + n)) refl
-holds n bytes (FileState.Holds held) told = rw (same-self (17 + n)) refl
+holds n bytes state told = changed-self (FileName.AuditPart n) bytes state told (self-same (FileName.AuditPart n))
 
 -- a first store of a part below the others
 over : (part : ℕ → Part) (n : ℕ) (ms ns : List ℕ) (files : Files) → ((m : ℕ) → (part m).number ≡ m) → Rising (n + 1) ms

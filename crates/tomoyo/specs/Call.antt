@@ -19,8 +19,8 @@ use Rattle.tm_call.specs.declared.carry.Outcome.{Outcome}
 use Rattle.tm_word.specs.Words.{Text}
 use Rattle.tomoyo.specs.declared.play.Printed.{Printed}
 use Rattle.tomoyo.specs.declared.play.Played.{Played}
-use Rattle.tomoyo.specs.declared.rerun.RerunTexts.{RerunTexts}
-use Rattle.tomoyo.specs.declared.rerun.Learned.{Learned}
+use Rattle.tomoyo.specs.declared.learn.RerunTexts.{RerunTexts}
+use Rattle.tomoyo.specs.declared.learn.Learned.{Learned}
 use Rattle.tm_call.specs.declared.words.Command.{Command}
 use Rattle.tm_call.specs.Fetches.{want, Texts, AllGiven, FetchStops, TellsAll, told_texts, or_else, first_unread}
 use Rattle.tm_call.specs.Stores.{is_named}

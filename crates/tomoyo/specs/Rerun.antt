@@ -17,8 +17,8 @@ use Rattle.tm_run.specs.Reading.{run_of}
 use Rattle.tm_run.specs.RunText.{run_text}
 use Rattle.tm_run.specs.Typed.{is_typed}
 use Rattle.tm_rerun.specs.Rerun.{rerun_text}
-use Rattle.tomoyo.specs.declared.rerun.RerunTexts.{RerunTexts}
-use Rattle.tomoyo.specs.declared.rerun.Learned.{Learned}
+use Rattle.tomoyo.specs.declared.learn.RerunTexts.{RerunTexts}
+use Rattle.tomoyo.specs.declared.learn.Learned.{Learned}
 use Rattle.tm_call_input.specs.declared.reading.Loaded.{Loaded}
 use Rattle.tm_call.specs.Fetches.{Texts}
 use Rattle.tm_call_input.specs.Reading.{homeless, step_reading, scene_of}

@@ -1,14 +1,15 @@
 //! The top call: it fetches the files that the words ask for, does the command, stores and prints.
 //! Stands on tm_call, tm_core and every crate that reads, plays or prints what a command needs.
-//! Promises of each status its cause, what a call that is done has stored, and that no more changes.
+//! Promises of each status its cause, what a call that is done has stored, and that no more
+//! changes.
 #![tactic(auto)]
 
+mod learn;
 mod play;
 mod print;
-mod rerun;
 mod sort;
 mod top;
 
-pub use rerun::rerun;
+pub use learn::rerun;
 pub use tm_call::{OutName, Status, What};
 pub use top::run_alone;

@@ -37,8 +37,8 @@ pub struct Printed {
     pub manager: Text,
 }
 
-/// What a play gives: the text of its run, the audit texts of its takes, the printed files of its final policy, and the line that sums
-/// it up.
+/// What a play gives: the text of its run, the audit texts of its takes, the printed files of its
+/// final policy, and the line that sums it up.
 #[derive(Drop)]
 pub struct Played {
     pub run: Text,

@@ -17,7 +17,7 @@ ghost use Rattle.tm_call.specs.declared.words.Command.{Command};
 
 use crate::play::{Played, Printed, play_of, print_policy};
 use crate::print::counts_line;
-use crate::rerun::{Learned, RerunTexts, learn_of};
+use crate::learn::{Learned, RerunTexts, learn_of};
 use crate::sort::make_sort;
 use std::alloc::{AllocError, Global};
 use tm_call::{Command, Outcome, Status, Want, carry_out, fetch_all, read_command};
@@ -33,7 +33,8 @@ use tm_word::Text;
 // Fetches what a command reads.
 fn fetch_for<S: Shelf>(alloc: Global, command: Command, shelf: &mut S) -> Result<FileList, Status>
     ensures texts { IfOk result (λ texts. AllGiven (S.file shelf.old) (wants_of command) texts) }
-    ensures stops { IfErr result (FetchStops (S.file shelf.old) (wants_of command) (Rose (S.faults shelf.old) (S.faults shelf.new))) }
+    ensures stops { IfErr result (FetchStops (S.file shelf.old) (wants_of command)
+        (Rose (S.faults shelf.old) (S.faults shelf.new))) }
     ensures kept { SameFiles (S.file shelf.old) (S.file shelf.new) }
     ensures counts { S.faults shelf.old ≤ S.faults shelf.new }
     ensures all { OnOk result (Noted (read_by command) (S.fetched shelf.old) (S.fetched shelf.new)) }
@@ -121,7 +122,8 @@ fn step_outcome(alloc: Global, played: Played) -> Result<Outcome, NoMemory>
     })
 }
 
-// Appends the files of a rerun, and its line to the summary; of a rerun that is left out, its line alone.
+// Appends the files of a rerun, and its line to the summary; of a rerun that is left out, its line
+// alone.
 fn push_rerun(
     alloc: Global,
     rerun: Option<RerunTexts>,
@@ -343,22 +345,28 @@ fn perform<S: Shelf, K: Sink>(alloc: Global, command: Command, shelf: &mut S, ou
     }
 }
 
-/// Does the command that the words name, over any shelf and sink, and answers how it ended. `print` loads the policy and stores its
-/// printed texts as `profile.new`, `exception_policy.new`, `domain_policy.new` and `manager.new`. `step` plays the trace by the schedule
-/// under the policy and stores `run`, `audit`, and the final policy in the same four files. `learn` does what `step` does, plays the trace
-/// again under the final policy with its profiles enforcing, without edits and without a supervisor, and stores `run2` and `audit2`; where
-/// some tree's domain isn't live in the final policy it leaves this rerun out, and leaves these two files as they were. `gen` with a seed and
-/// a size reads nothing: it generates `profile`, `exception_policy`, `domain_policy`, `manager` and `trace`, stores them, and does `step` on
-/// them without edits, answers and schedule. `sort` reads `audit` and `sorter` and stores the records of each part that the rules name as
+/// Does the command that the words name, over any shelf and sink, and answers how it ended. `print`
+/// loads the policy and stores its printed texts as `profile.new`, `exception_policy.new`,
+/// `domain_policy.new` and `manager.new`. `step` plays the trace by the schedule under the policy
+/// and stores `run`, `audit`, and the final policy in the same four files. `learn` does what `step`
+/// does, plays the trace again under the final policy with its profiles enforcing, without edits
+/// and without a supervisor, and stores `run2` and `audit2`; where some tree's domain isn't live in
+/// the final policy it leaves this rerun out, and leaves these two files as they were. `gen` with a
+/// seed and a size reads nothing: it generates `profile`, `exception_policy`, `domain_policy`,
+/// `manager` and `trace`, stores them, and does `step` on them without edits, answers and schedule.
+/// `sort` reads `audit` and `sorter` and stores the records of each part that the rules name as
 /// `audit.N`. Nothing is stored before all is read and loaded, played or sorted.
 ///
-/// The first fetch that gives neither a text nor a file that may be missing decides, and no later one is made: `Absent` where
-/// `profile`, `domain_policy` or, but for `print`, `trace` isn't there, `TooLong` where a file has more than 16,777,216 bytes, `ReadFault`
-/// where reading failed. Of the policy files, the first line that isn't done is `BadPolicy`, and without one the first live domain
-/// whose profile isn't defined is `UndefinedProfile`. Of what `step` and `learn` read beside them, the first faulty line of `trace`, or
-/// else of `edits`, `answers` and `schedule`, is `BadTrace` or `BadScript`; then a limit that is passed is `TooMany`; and then the first
-/// tree whose domain isn't live is `BadTrace` at the tree's line. Of what `sort` reads, the first faulty line of `audit` is `BadAudit`, or
-/// else of `sorter` `BadRules`; then more than 256 rules are `TooMany`.
+/// The first fetch that gives neither a text nor a file that may be missing decides, and no later
+/// one is made: `Absent` where `profile`, `domain_policy` or, but for `print`, `trace` isn't there,
+/// `TooLong` where a file has more than 16,777,216 bytes, `ReadFault` where reading failed. Of the
+/// policy files, the first line that isn't done is `BadPolicy`, and without one the first live
+/// domain whose profile isn't defined is `UndefinedProfile`. Of what `step` and `learn` read beside
+/// them, the first faulty line of `trace`, or else of `edits`, `answers` and `schedule`, is
+/// `BadTrace` or `BadScript`; then a limit that is passed is `TooMany`; and then the first tree
+/// whose domain isn't live is `BadTrace` at the tree's line. Of what `sort` reads, the first faulty
+/// line of `audit` is `BadAudit`, or else of `sorter` `BadRules`; then more than 256 rules are
+/// `TooMany`.
 pub fn run_alone<S: Shelf, K: Sink>(
     alloc: Global,
     words: &[String],

@@ -6,7 +6,7 @@ use std::alloc::{AllocError, Global};
 use std::env::{Env, FillError};
 
 /// What `--version` prints.
-pub const VERSION: &str = "tomoyo_run 0.1.0\n";
+pub const VERSION: &str = "tomoyo_run 0.2.0\n";
 
 /// What `--help` prints.
 pub const HELP: &str = "\
@@ -14,6 +14,7 @@ usage: tomoyo_run [-C DIR] print
        tomoyo_run [-C DIR] step
        tomoyo_run [-C DIR] learn
        tomoyo_run [-C DIR] gen SEED SIZE
+       tomoyo_run [-C DIR] sort
        tomoyo_run help [COMMAND] | COMMAND --help | -h | --help
        tomoyo_run -V | --version
 
@@ -25,6 +26,7 @@ Works on the files of the folder DIR, or of the current folder.
   learn  does what step does, and plays the trace again with what was learned,
          enforcing
   gen    generates the policy files and a trace of SIZE trees, and plays it
+  sort   sorts the records of an audit file into parts, by rules
 
 `tomoyo_run COMMAND --help` tells what a command reads, stores and prints.
 
@@ -41,6 +43,8 @@ Exit statuses:
    9  there is too much of something
   10  a file or standard output can't be written
   11  out of memory
+  14  a line of a sorter file is refused
+  15  a line of an audit file can't stand there
 ";
 
 /// What `print --help` prints.
@@ -122,6 +126,27 @@ Exit statuses: 0 done; 1 bad words; 10 a file or standard output can't be
 written; 11 out of memory.
 ";
 
+/// What `sort --help` prints.
+pub const SORT_HELP: &str = "\
+usage: tomoyo_run [-C DIR] sort
+
+Sorts the records of an audit file, such as step stores: each goes to the part
+that the first rule that accepts it names, and to part 0 where none does.
+
+Reads    audit and sorter, which have to be there
+Stores   audit.0, and audit.N for each N from 1 to 15 that a rule names, by
+         rising number; a part that takes no record is stored empty
+Prints   records R, and for each part that is stored a line `sent N K` with the
+         number of its records
+
+A line of sorter is `rule N : HEADER : DOMAIN : LINE`: each list is `any` or
+patterns, and those of HEADER each match some word of a record's first line.
+
+Exit statuses: 0 done; 2 a file can't be read, 3 is missing, 4 is too long;
+9 more than 256 rules; 10 a file or standard output can't be written; 11 out of
+memory; 14 a line of sorter is refused; 15 a line of audit can't stand there.
+";
+
 // The longest word that is looked at; no form of a command has a longer one.
 const LONGEST: usize = 256;
 
@@ -138,6 +163,7 @@ pub enum Topic {
     Step,
     Learn,
     Gen,
+    Sort,
 }
 
 /// The help text about a topic.
@@ -148,13 +174,15 @@ pub fn help_text(topic: Topic) -> &'static str {
         Topic::Step => STEP_HELP,
         Topic::Learn => LEARN_HELP,
         Topic::Gen => GEN_HELP,
+        Topic::Sort => SORT_HELP,
     }
 }
 
 /// What the words of a command line ask for.
 #[derive(Clone, Copy)]
 pub enum Asked {
-    /// A help text: by `help`, `-h` or `--help` all of it, by `help COMMAND`, `COMMAND -h` or `COMMAND --help` one command's.
+    /// A help text: by `help`, `-h` or `--help` all of it, by `help COMMAND`, `COMMAND -h` or
+    /// `COMMAND --help` one command's.
     Help(Topic),
     /// The version, by `-V` or `--version`.
     Version,
@@ -171,7 +199,8 @@ pub struct CommandLine {
     pub words: Vec<String>,
 }
 
-// A word of the command line, None past the last. One that isn't UTF-8 or too long stands as a word of no form.
+// A word of the command line, None past the last. One that isn't UTF-8 or too long stands as a word
+// of no form.
 fn word_at<E: Env>(env: &E, alloc: Global, place: usize) -> Result<Option<String>, AllocError> {
     let mut buffer = [0u8; LONGEST];
     match env.arg(place, &mut buffer) {
@@ -193,7 +222,8 @@ fn words_from<E: Env>(env: &E, alloc: Global, first: usize) -> Result<Vec<String
     Ok(words)
 }
 
-// The folder that the word at this place names. One whose name is too long or isn't UTF-8 has the name of no folder.
+// The folder that the word at this place names. One whose name is too long or isn't UTF-8 has the
+// name of no folder.
 fn folder_at<E: Env>(env: &E, alloc: Global, place: usize) -> Result<Option<String>, AllocError> {
     let mut buffer = [0u8; LONGEST_FOLDER];
     match env.arg(place, &mut buffer) {
@@ -211,7 +241,8 @@ fn is_folder_option<E: Env>(env: &E, alloc: Global, place: usize) -> Result<bool
     }
 }
 
-/// Reads the command line after the program's name: `-C DIR` in front names the folder, which is the current one without it.
+/// Reads the command line after the program's name: `-C DIR` in front names the folder, which is
+/// the current one without it.
 /// Errors: want of memory.
 pub fn read_line<E: Env>(env: &E, alloc: Global) -> Result<CommandLine, AllocError> {
     if is_folder_option(env, alloc, 1)? {
@@ -262,6 +293,8 @@ fn help_of(word: &String) -> Asked
         Asked::Help(Topic::Learn)
     } else if is_one_of(word, &["gen"]) {
         Asked::Help(Topic::Gen)
+    } else if is_one_of(word, &["sort"]) {
+        Asked::Help(Topic::Sort)
     } else {
         Asked::Command
     }
@@ -369,6 +402,7 @@ fn letter_of(asked: Asked) -> char {
         Asked::Help(Topic::Step) => 's',
         Asked::Help(Topic::Learn) => 'l',
         Asked::Help(Topic::Gen) => 'g',
+        Asked::Help(Topic::Sort) => 'o',
         Asked::Version => 'v',
         Asked::Nothing => 'n',
         Asked::Command => 'c',
@@ -390,6 +424,8 @@ fn one_or_two_words_ask_for_help(rt: HostRuntime) -> Result<(), std::test::Fail>
         (&["learn", "-h"], 'l'),
         (&["gen", "--help"], 'g'),
         (&["help", "gen"], 'g'),
+        (&["sort", "--help"], 'o'),
+        (&["help", "sort"], 'o'),
         (&["help", "step"], 's'),
         (&["step", "help"], 'c'),
         (&["help", "run"], 'c'),

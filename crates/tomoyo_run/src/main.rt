@@ -1,6 +1,9 @@
-//! The program `tomoyo_run`: the words of the command line, help and version, and what is printed of how a call ends.
-//! Stands on `tomoyo`, whose top call does the command, and on tm_io, whose folder and standard output it hands in.
-//! Promises what the top call promises of these two; which words ask for help and version is proved.
+//! The program `tomoyo_run`: the words of the command line, help and version, and what is printed
+//! of how a call ends.
+//! Stands on `tomoyo`, whose top call does the command, and on tm_io, whose folder and standard
+//! output it hands in.
+//! Promises what the top call promises of these two; which words ask for help and version is
+//! proved.
 #![tactic(auto)]
 
 mod command_line;

@@ -1,5 +1,7 @@
-//! The program `tomoyo_trace`: writes the trace of an audit log to standard output, and what is told of it to standard error.
-//! Stands on `tm_log`, which reads the log, and on `tm_log_trace`, which makes and prints its trace.
+//! The program `tomoyo_trace`: writes the trace of an audit log to standard output, and what is
+//! told of it to standard error.
+//! Stands on `tm_log`, which reads the log, and on `tm_log_trace`, which makes and prints its
+//! trace.
 //! Promises what these promise of what they are given; nothing is claimed of files and streams.
 #![tactic(auto)]
 
@@ -13,7 +15,7 @@ use tm_io::{OutSink, Sink, Stored};
 use tm_log::LogReader;
 use tm_log_trace::{TextFault, texts_of};
 
-const VERSION: &str = "tomoyo_trace 0.1.0\n";
+const VERSION: &str = "tomoyo_trace 0.2.0\n";
 
 const HELP: &str = "\
 usage: tomoyo_trace [FILE]

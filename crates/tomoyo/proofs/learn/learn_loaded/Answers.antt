@@ -3,7 +3,7 @@ use Rattle.tm_rules.specs.Words.{Trace}
 use Rattle.tm_types.specs.declared.step.Start.{Start}
 use Rattle.tomoyo.specs.Rerun.{CanRerun, Reruns}
 use Rattle.tomoyo.proofs.Rerunning.{rerun-needs, learned-so}
-use Rattle.tomoyo.proofs.rerun.learn_loaded.Goals as goal
+use Rattle.tomoyo.proofs.learn.learn_loaded.Goals as goal
 
 pub rerun_of-requires-clause-can : goal.rerun_of-requires-clause-can
 rerun_of-requires-clause-can c =

@@ -24,7 +24,8 @@ use tm_types::request::Trace;
 use tm_types::step::{Book, Run};
 use tm_word::Text;
 
-/// What a rerun gives: the text of its run, the audit texts of its takes, and the line that it adds to the summary.
+/// What a rerun gives: the text of its run, the audit texts of its takes, and the line that it adds
+/// to the summary.
 #[derive(Drop)]
 pub struct RerunTexts {
     pub run: Text,
@@ -32,7 +33,8 @@ pub struct RerunTexts {
     pub line: Text,
 }
 
-/// What `learn` gives: what the play of the files gives, and the rerun of its run where that isn't left out.
+/// What `learn` gives: what the play of the files gives, and the rerun of its run where that isn't
+/// left out.
 #[derive(Drop)]
 pub struct Learned {
     pub played: Played,
@@ -55,8 +57,8 @@ fn nobody_else(alloc: Global, policy: Indexed, trace: Trace) -> Loaded
     }
 }
 
-/// Plays a trace under a policy with nobody else: without editors, without a supervisor, and in the default order from the first turn on.
-/// Gives the run, and the policy at its last version.
+/// Plays a trace under a policy with nobody else: without editors, without a supervisor, and in the
+/// default order from the first turn on. Gives the run, and the policy at its last version.
 ///
 /// Errors: want of memory.
 pub fn rerun(alloc: Global, policy: Indexed, trace: Trace) -> Result<(Run, Policy), NoMemory>
@@ -91,8 +93,8 @@ fn print_rerun(
     })
 }
 
-// The rerun of a run that has led to this policy; None where some tree has no live domain to start in. The domains of the switched policy
-// are those of this one.
+// The rerun of a run that has led to this policy; None where some tree has no live domain to start
+// in. The domains of the switched policy are those of this one.
 fn rerun_of(
     alloc: Global,
     run: &Run,
@@ -123,7 +125,8 @@ fn learn_loaded(alloc: Global, loaded: Loaded) -> Result<Learned, NoMemory>
 {
     clean_runs_grow();
     learned_runs_repeat();
-    // A play takes its trace apart, tree by tree, so that the second play has a copy: its text isn't read again.
+    // A play takes its trace apart, tree by tree, so that the second play has a copy: its text
+    // isn't read again.
     let trace = loaded.trace.copy(alloc)?;
     let (run, opening, last) = run_of(alloc, loaded)?;
     let played = texts_of(alloc, &run, &opening.policy, &last)?;
@@ -131,7 +134,8 @@ fn learn_loaded(alloc: Global, loaded: Loaded) -> Result<Learned, NoMemory>
     Ok(Learned { played, rerun })
 }
 
-/// Plays what the files hold, and then its trace again under the final policy with its profiles enforcing, or refuses it.
+/// Plays what the files hold, and then its trace again under the final policy with its profiles
+/// enforcing, or refuses it.
 pub fn learn_of(alloc: Global, texts: FileList) -> Result<Learned, Status>
     ensures learned { IfOk result (λ learned. (step_refusal texts ≡ None) × Learns texts learned) }
     ensures refused { IfErr result (RefusedBy (step_refusal texts)) }

@@ -9,7 +9,7 @@ use Rattle.tm_legal.specs.Replay.{alone}
 use Rattle.tm_call_input.specs.Reading.{homeless}
 use Rattle.tomoyo.specs.Rerun.{again, IsPlayAlone}
 use Rattle.tomoyo.proofs.Rerunning.{few-switched, can-rerun, homes-kept, rerun-so}
-use Rattle.tomoyo.proofs.rerun.rerun_of.Goals as goal
+use Rattle.tomoyo.proofs.learn.rerun_of.Goals as goal
 
 pub new-requires : goal.new-requires
 new-requires c = subst IsFew (sym c.in_ok-policy.ensures) (few-switched c.args.last.now c.requires.few)

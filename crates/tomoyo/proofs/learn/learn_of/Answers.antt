@@ -3,7 +3,7 @@ use Rattle.tm_call_input.specs.Reading.{refused, step_reading, step_refusal}
 use Rattle.tm_call_input.proofs.Readings.{can-play, step-read}
 use Rattle.tm_call_input.proofs.Refusals.{refuses}
 use Rattle.tomoyo.proofs.ReadBack.{read-back, rerun-read-back}
-use Rattle.tomoyo.proofs.rerun.learn_of.Goals as goal
+use Rattle.tomoyo.proofs.learn.learn_of.Goals as goal
 
 pub returns-in-Err-clause-refused : goal.returns-in-Err-clause-refused
 unfolding step_refusal

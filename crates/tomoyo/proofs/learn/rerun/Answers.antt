@@ -1,5 +1,5 @@
 use Rattle.tomoyo.proofs.Rerunning.{alone-so, can-alone}
-use Rattle.tomoyo.proofs.rerun.rerun.Goals as goal
+use Rattle.tomoyo.proofs.learn.rerun.Goals as goal
 
 pub run_of-requires-clause-can : goal.run_of-requires-clause-can
 run_of-requires-clause-can c = can-alone c.args.policy c.args.trace c.nobody_else-loaded.result c.nobody_else-loaded.ensures c.requires.can
