@@ -2,7 +2,7 @@
 use Rattle.std.proofs.Common.{◌≡◌, ◌≤◌, ◌<◌, ◌+◌, ◌^◌, ℕ, zero, suc, Bool, true, false, List, [], ◌∷◌, ◌++◌, length, take, Option, Some, None, refl, sym, ap, ◌∙◌, subst, arith}
 use Rattle.std.specs.Prelude.{slice_get, is_some, IsSome}
 use Rattle.std.proofs.lemmas.Option.{slice_get_within, get_or_from_slice_get}
-use Rattle.std.proofs.lemmas.List.{take_more, append_assoc, append-nil}
+use Rattle.std.proofs.lemmas.List.{take_more, take_all, append_assoc, append-nil}
 use Rattle.tm_types.specs.declared.step.Step.{Step}
 use Rattle.tm_types.specs.declared.step.Reply.{Reply}
 use Rattle.tm_types.specs.declared.step.Book.{Book}
@@ -70,3 +70,7 @@ one_more given old new step reply note at there version state notes noted =
       named = subst (λ s. IsNamed tomoyo_grammar.is_path s.policy) (sym state) (step_keeps_names tomoyo_grammar old.machine.state step is_one at.named);
       noted = subst (λ hs. AreNoted (scene_of given) [] hs new.notes.items) (sym more) (subst (λ ns. AreNoted (scene_of given) [] (front ++ pair ∷ []) ns) (sym notes) (noted_more (scene_of given) [] front old.notes.items pair note at.noted here));
     }
+
+-- at the last version all steps are noted
+pub all_noted : {R : Type 0} (given : Given) (pass : code.Pass R) → IsAt given pass → pass.version ≡ length (history_of given) → AreNoted (scene_of given) [] (history_of given) pass.notes.items
+all_noted given pass at last = subst (λ hs. AreNoted (scene_of given) [] hs pass.notes.items) (ap (λ v. take v (history_of given)) last ∙ take_all (length (history_of given)) (history_of given) (omega arith)) at.noted

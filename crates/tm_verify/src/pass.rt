@@ -1,5 +1,5 @@
 //! One machine that makes the given steps, each once.
-ghost use Rattle.std.specs.Prelude.{◌≡◌, ◌+◌, ◌≤◌, ◌<◌, ◌^◌, length, Some, is_some, IfOk, OnOk};
+ghost use Rattle.std.specs.Prelude.{◌≡◌, [], ◌+◌, ◌≤◌, ◌<◌, ◌^◌, length, Some, IfOk, OnOk};
 ghost use Rattle.std.specs.Option.{option_copied};
 ghost use Rattle.tm_rules.specs.Few.{IsFew};
 ghost use Rattle.tm_rules.specs.Book.{book_answer, code_of};
@@ -8,7 +8,8 @@ ghost use Rattle.tm_grammar.specs.Tomoyo.{tomoyo_grammar};
 ghost use Rattle.tm_legal.specs.Play.{IsNamed};
 ghost use Rattle.tm_legal.specs.Steps.{apply};
 ghost use Rattle.tm_verify_laws.specs.Desk.{is_answered_so};
-ghost use Rattle.tm_verify.specs.Passing.{suits, IsNotedIn, IsAt};
+ghost use Rattle.tm_verify.specs.Passing.{suits, IsNotedIn, AreNoted, IsAt};
+ghost use Rattle.tm_verify.specs.Given.{scene_of, history_of};
 
 use crate::given::Given;
 use std::alloc::{AllocError, Global};
@@ -72,16 +73,6 @@ fn suits(book: Option<&Book>, query: Option<&Query>, step: &Step) -> bool
     }
 }
 
-// Whether a step fits.
-fn fits<R: Rep>(_alloc: Global, machine: &Machine<R>, step: &Step) -> Result<bool, NoMemory>
-    ensures { IfOk result
-        (λ fits. fits ≡ is_some (apply tomoyo_grammar machine.now.state step.now).reply) }
-{
-    let _ = machine;
-    let _ = step;
-    Err(AllocError)
-}
-
 #[tactic(auto, using(crate::proofs::PassLaws::passed_over, crate::proofs::PassLaws::no_reply))]
 // Makes a step where it fits, and gives its reply; else nothing changes, and there is none.
 fn make_step<R: Rep>(
@@ -94,7 +85,7 @@ fn make_step<R: Rep>(
     ensures reply { IfOk result
         (λ reply. reply ≡ (apply tomoyo_grammar machine.old.state step.now).reply) }
 {
-    if fits(alloc, machine, step)? {
+    if machine.fits(alloc, step)? {
         let step = step.copy(alloc)?;
         let made = Made {
             maker: Maker::Desk,
@@ -174,5 +165,26 @@ impl<R: Rep> Pass<R> {
             self.advance(alloc, given)?;
         }
         Ok(())
+    }
+
+    /// What is noted of each step, where all are made.
+    #[tactic(auto, using(crate::proofs::PassLaws::all_noted))]
+    pub(crate) fn into_notes(
+        self,
+        alloc: Global,
+        given: &Given<'_>,
+    ) -> Result<Vec<StepNote>, NoMemory>
+        requires { IsAt given.now self }
+        ensures { IfOk result
+            (λ notes. AreNoted (scene_of given.now) [] (history_of given.now) notes.items) }
+    {
+        let mut pass = self;
+        let last = given.steps.len() as u64;
+        pass.reach(alloc, given, last)?;
+        if pass.version != last {
+            return Err(AllocError);
+        }
+        let Pass { notes, .. } = pass;
+        Ok(notes)
     }
 }

@@ -80,19 +80,19 @@ module _ (scene : Scene) (run : Run) (book : Book) (trees : EndsAreOfTrees scene
       leaves : DetachIsDue scene run.steps book sup.detach → may_leave scene book before ≡ true
       leaves (inl stop) =
           let same : places is_answer run.steps ≡ places is_answer before =
-              ap (places is_answer) e ∙ all_before is_answer before (Step.Detach, reply) rest refl (subst (λ h. AllByRecursion (λ k. k < suc (length before)) (places is_answer h)) e (below_detach (places is_answer run.steps) (suc (length before)) o.here sup.answers_between)) in
+          ap (places is_answer) e ∙ all_before is_answer before (Step.Detach, reply) rest refl (subst (λ h. AllByRecursion (λ k. k < suc (length before)) (places is_answer h)) e (below_detach (places is_answer run.steps) (suc (length before)) o.here sup.answers_between)) in
           let reached : is_stop book.stop (length (places is_answer before)) ≡ true = is_stop_of book.stop (length (places is_answer before)) (stop ∙ ap (λ ns. Some (length ns)) same) in
           rw reached refl
       leaves (inr (below, none)) =
           let state = state_before scene run.steps before (Step.Detach, reply) rest e in
           let unasked : first_query (state_after scene before).queries ≡ None = ap (λ s. first_query s.queries) (sym state) ∙ none (length before) (sym o.here) in
           let ended : trees_ended 1 scene.trace before ≡ true =
-              trees_all 1 scene.trace before (λ k tree at.
-                let one = ends (suc k) tree at in
-                let lt = end_lower (suc k) one.0 sup.detach below one.1 in
-                let lower : one.0 < suc (length before) = (let here = o.here in omega (arith, here, lt)) in
-                subst (λ n. has_some (is_end n) before ≡ true) (let same : suc k ≡ 1 + k = omega arith in same)
-                (some_of (is_end (suc k)) before one.0 (is_before (is_end (suc k)) before (Step.Detach, reply) rest one.0 refl (ap (places (is_end (suc k))) (sym e) ∙ one.1) lower))) in
+          trees_all 1 scene.trace before (λ k tree at.
+          let one = ends (suc k) tree at in
+          let lt = end_lower (suc k) one.0 sup.detach below one.1 in
+          let lower : one.0 < suc (length before) = (let here = o.here in omega (arith, here, lt)) in
+          subst (λ n. has_some (is_end n) before ≡ true) (let same : suc k ≡ 1 + k = omega arith in same)
+          (some_of (is_end (suc k)) before one.0 (is_before (is_end (suc k)) before (Step.Detach, reply) rest one.0 refl (ap (places (is_end (suc k))) (sym e) ∙ one.1) lower))) in
           right_of (is_stop book.stop (length (places is_answer before))) _ (all (trees_ended 1 scene.trace before) _ ended (not_true (is_some (first_query (state_after scene before).queries)) (some_there (first_query (state_after scene before).queries) unasked)))
 
   end_may : (before : History) (t : ℕ) (reply : Reply) (rest : History) → run.steps ≡ before ++ (Step.End t, reply) ∷ rest → may_act scene run book before (Step.End t) ≡ true
@@ -131,8 +131,8 @@ module _ (scene : Scene) (run : Run) (book : Book) (trees : EndsAreOfTrees scene
       all (has_some is_attach run.steps) _ (some_of is_attach run.steps sup.attach sup.attached_once)
       (all (has_some is_detach run.steps) (trees_ended 1 scene.trace run.steps) (some_of is_detach run.steps sup.detach sup.detached_once)
       (trees_all 1 scene.trace run.steps (λ k tree at.
-        let one = ends (suc k) tree at in
-        subst (λ n. has_some (is_end n) run.steps ≡ true) (let same : suc k ≡ 1 + k = omega arith in same) (some_of (is_end (suc k)) run.steps one.0 one.1))))
+      let one = ends (suc k) tree at in
+      subst (λ n. has_some (is_end n) run.steps ≡ true) (let same : suc k ≡ 1 + k = omega arith in same) (some_of (is_end (suc k)) run.steps one.0 one.1))))
 
 -- ---- without a book
 

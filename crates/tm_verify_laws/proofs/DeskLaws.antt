@@ -122,11 +122,9 @@ end_is Step.Detach e = absurd cc
 end_is (Step.Edit by file line) e = absurd cc
 end_is (Step.End tree) e = (tree, refl)
 
-
 -- ---- what each kind needs
 
 module _ (scene : Scene) (run : Run) (book : Book) (before : History) where
-
   attach_first : (step : Step) → may_act scene run book before step ≡ true → is_attach step ≡ true → has_some is_attach before ≡ false
   unfolding may_act
   attach_first (Step.Learn d entry) m e = absurd cc
@@ -191,7 +189,6 @@ module _ (scene : Scene) (run : Run) (book : Book) (before : History) where
   unfolding may_act
   answer_so serial code m = (both (has_room book.stop (length (places is_answer before))) _ (both (is_there before) _ m).1).1
 
-
   end_first : (t : ℕ) (step : Step) → may_act scene run book before step ≡ true → is_end t step ≡ true → has_some (is_end t) before ≡ false
   unfolding may_act
   end_first t (Step.Learn d entry) m e = absurd cc
@@ -215,7 +212,6 @@ module _ (scene : Scene) (run : Run) (book : Book) (before : History) where
   end_above t Step.Detach m e = absurd cc
   end_above t (Step.Edit by file line) m e = absurd cc
   end_above t (Step.End tree) m e = subst (λ u. is_above scene run u (suc (length before)) ≡ true) (eqb-true tree t e) (both (not (has_some (is_end tree) before)) _ m).1
-
 
   -- there is one attach before, and no detach
   came_before : is_there before ≡ true → has_some is_attach before ≡ true
@@ -333,15 +329,14 @@ module _ (scene : Scene) (run : Run) (book : Book) (trees : EndsAreOfTrees scene
     first : attach.0 < detach.0
     first =
         let lt : attach.0 < suc (length cut_detach.before) =
-            stands_before is_attach cut_detach.before cut_detach.pair cut_detach.rest attach.0 (detach_no_attach cut_detach.pair.0 cut_detach.passes) (ap (places is_attach) (sym cut_detach.cut) ∙ attach.1)
-            (came_before scene run book cut_detach.before (detach_there scene run book cut_detach.before cut_detach.pair.0 may_detach cut_detach.passes)) in
+        stands_before is_attach cut_detach.before cut_detach.pair cut_detach.rest attach.0 (detach_no_attach cut_detach.pair.0 cut_detach.passes) (ap (places is_attach) (sym cut_detach.cut) ∙ attach.1)
+        (came_before scene run book cut_detach.before (detach_there scene run book cut_detach.before cut_detach.pair.0 may_detach cut_detach.passes)) in
         let same = detach_number in
         omega (arith, lt, same)
 
     answer_between : (before : History) (pair : Step × Reply) (rest : History) → run.steps ≡ before ++ pair ∷ rest → is_answer pair.0 ≡ true → (attach.0 < suc (length before)) × (suc (length before) < detach.0)
     answer_between before pair rest e is =
-        let there = answer_there scene run book before pair.0 (here before pair rest e) is in
-        (
+        let there = answer_there scene run book before pair.0 (here before pair rest e) is in (
           stands_before is_attach before pair rest attach.0 (answer_no_attach pair.0 is) (ap (places is_attach) (sym e) ∙ attach.1) (came_before scene run book before there),
           stands_later is_detach before pair rest detach.0 (answer_no_detach pair.0 is) (ap (places is_detach) (sym e) ∙ detach.1) (not_left scene run book before there),
         )
@@ -356,11 +351,11 @@ module _ (scene : Scene) (run : Run) (book : Book) (trees : EndsAreOfTrees scene
     enough (Some n) e =
         counted (λ k. k ≤ n) is_answer run.steps [] (omega arith)
         (map_after MayAct (λ before (pair : Step × Reply). is_answer pair.0 ≡ true → suc (length (places is_answer before)) ≤ n)
-          (λ before pair m is.
-            let room : has_room (Some n) (length (places is_answer before)) ≡ true = subst (λ o. has_room o (length (places is_answer before)) ≡ true) e (answer_room scene run book before pair.0 m is) in
-            let lt = ltb-true (length (places is_answer before)) n room in
-            omega (arith, lt))
-          [] run.steps acts)
+        (λ before pair m is.
+        let room : has_room (Some n) (length (places is_answer before)) ≡ true = subst (λ o. has_room o (length (places is_answer before)) ≡ true) e (answer_room scene run book before pair.0 m is) in
+        let lt = ltb-true (length (places is_answer before)) n room in
+        omega (arith, lt))
+        [] run.steps acts)
 
     answered : (before : History) (serial code : ℕ) (o : Option Query) → first_query (state_after scene before).queries ≡ o → is_answered_so book o serial code ≡ true
         → (query : Query) × (first_query (state_after scene before).queries ≡ Some query) × (query.serial ≡ serial) × (code_of (book_answer book query) ≡ code)
@@ -395,8 +390,8 @@ module _ (scene : Scene) (run : Run) (book : Book) (trees : EndsAreOfTrees scene
         let tree = some_tree (numbered scene.trace it.0) (trees it.0 (suc (length before)) number) in
         let one = ends it.0 tree.0 tree.1 in
         let lt : one.0 < suc (length cut_detach.before) =
-            stands_before (is_end it.0) cut_detach.before cut_detach.pair cut_detach.rest one.0 (detach_no_end it.0 cut_detach.pair.0 cut_detach.passes) (ap (places (is_end it.0)) (sym cut_detach.cut) ∙ one.1)
-            (tree_ended it.0 scene.trace tree.0 cut_detach.before tree.1 ended) in
+        stands_before (is_end it.0) cut_detach.before cut_detach.pair cut_detach.rest one.0 (detach_no_end it.0 cut_detach.pair.0 cut_detach.passes) (ap (places (is_end it.0)) (sym cut_detach.cut) ∙ one.1)
+        (tree_ended it.0 scene.trace tree.0 cut_detach.before tree.1 ended) in
         let passes : is_end it.0 pair.0 ≡ true = ap (is_end it.0) it.1 ∙ eq-eqb it.0 it.0 refl in
         let o = only (is_end it.0) before pair rest one.0 passes (ap (places (is_end it.0)) (sym e) ∙ one.1) in
         let same = detach_number in
@@ -410,9 +405,9 @@ module _ (scene : Scene) (run : Run) (book : Book) (trees : EndsAreOfTrees scene
             → DetachIsDue scene run.steps book detach.0
         by_reason (inl stop) =
             let answers : AllByRecursion (λ k. k < suc (length cut_detach.before)) (places is_answer (cut_detach.before ++ cut_detach.pair ∷ cut_detach.rest)) =
-                subst (λ h. AllByRecursion (λ k. k < suc (length cut_detach.before)) (places is_answer h)) cut_detach.cut (below (places is_answer run.steps) between) in
+            subst (λ h. AllByRecursion (λ k. k < suc (length cut_detach.before)) (places is_answer h)) cut_detach.cut (below (places is_answer run.steps) between) in
             let same : places is_answer run.steps ≡ places is_answer cut_detach.before =
-                ap (places is_answer) cut_detach.cut ∙ all_before is_answer cut_detach.before cut_detach.pair cut_detach.rest (detach_no_answer cut_detach.pair.0 cut_detach.passes) answers in
+            ap (places is_answer) cut_detach.cut ∙ all_before is_answer cut_detach.before cut_detach.pair cut_detach.rest (detach_no_answer cut_detach.pair.0 cut_detach.passes) answers in
             inl (stop_is book.stop (length (places is_answer cut_detach.before)) stop ∙ ap (λ ns. Some (length ns)) (sym same))
           where
             below : (ns : List ℕ) → AllByRecursion (λ answer. (attach.0 < answer) × (answer < detach.0)) ns → AllByRecursion (λ k. k < suc (length cut_detach.before)) ns
@@ -422,11 +417,11 @@ module _ (scene : Scene) (run : Run) (book : Book) (trees : EndsAreOfTrees scene
             let t = both (trees_ended 1 scene.trace cut_detach.before) _ over_ in
             inr (
               all_places (λ n. n < detach.0) is_some_end run.steps []
-              (of_splits (λ before (pair : Step × Reply). is_some_end pair.0 ≡ true → suc (length before) < detach.0) run.steps [] (λ before pair rest e is. end_below t.0 before pair rest e is)),
+                  (of_splits (λ before (pair : Step × Reply). is_some_end pair.0 ≡ true → suc (length before) < detach.0) run.steps [] (λ before pair rest e is. end_below t.0 before pair rest e is)),
               (λ version is.
-                let same : version ≡ length cut_detach.before = (let d = detach_number in omega (arith, is, d)) in
-                let state : state_at scene run.steps version ≡ state_after scene cut_detach.before = ap (state_at scene run.steps) same ∙ state_before scene run.steps cut_detach.before cut_detach.pair cut_detach.rest cut_detach.cut in
-                rw state (none_is (first_query (state_after scene cut_detach.before).queries) t.1)),
+                  let same : version ≡ length cut_detach.before = (let d = detach_number in omega (arith, is, d)) in
+                  let state : state_at scene run.steps version ≡ state_after scene cut_detach.before = ap (state_at scene run.steps) same ∙ state_before scene run.steps cut_detach.before cut_detach.pair cut_detach.rest cut_detach.cut in
+                  rw state (none_is (first_query (state_after scene cut_detach.before).queries) t.1)),
             )
 
     pub supervised : Supervised scene run.steps book × TreesEnd scene run

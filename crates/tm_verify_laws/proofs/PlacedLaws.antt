@@ -74,13 +74,13 @@ pub placed_of : (scene : Scene) (run : Run) → StepsHavePlaces scene run → Al
 unfolding after
 placed_of scene run h =
     of_splits (IsPlaced scene run) run.steps [] (λ before pair rest e.
-      let reply : RepliesAt scene before pair = at_split (RepliesAt scene) before pair rest [] (subst (AllAfter (RepliesAt scene) []) e (replies_at scene run.steps [] h.replies)) in
-      let number : step_at run.steps (suc (length before)) ≡ Some pair.0 = ap (λ hs. step_at hs (suc (length before))) e ∙ step_here before pair rest in
-      record {
-        own = h.own (suc (length before)) ∙ ap times_owned number;
-        next = next_line scene run h before pair.0 pair.1 rest e reply;
-        reply = reply;
-      })
+    let reply : RepliesAt scene before pair = at_split (RepliesAt scene) before pair rest [] (subst (AllAfter (RepliesAt scene) []) e (replies_at scene run.steps [] h.replies)) in
+    let number : step_at run.steps (suc (length before)) ≡ Some pair.0 = ap (λ hs. step_at hs (suc (length before))) e ∙ step_here before pair rest in
+    record {
+      own = h.own (suc (length before)) ∙ ap times_owned number;
+      next = next_line scene run h before pair.0 pair.1 rest e reply;
+      reply = reply;
+    })
 
 -- ---- from each step to the clause
 

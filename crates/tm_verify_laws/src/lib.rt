@@ -7,6 +7,4 @@ mod broken;
 mod laws;
 
 pub use broken::Broken;
-pub use laws::{
-    broken_runs, looks_decide, steps_decide, takes_decide, unfit_steps_change_nothing,
-};
+pub use laws::{broken_runs, looks_decide, steps_decide, takes_decide, unfit_steps_change_nothing};

@@ -1,4 +1,5 @@
-use Rattle.tm_verify_laws.proofs.TakeLaws.{cases_take, own_are_steps, pairs_decide, rise_is, is_rise}
+use Rattle.tm_legal.proofs.Legality.{cases_take}
+use Rattle.tm_verify_laws.proofs.TakeLaws.{own_are_steps, pairs_decide, rise_is, is_rise}
 use Rattle.tm_verify_laws.proofs.laws.takes_decide.Goals as goal
 
 pub returns : goal.returns
