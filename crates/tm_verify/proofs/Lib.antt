@@ -1,5 +1,2 @@
-pub mod CaseLaws
 pub mod PassLaws
-pub mod NoteLaws
-pub mod EachLaws
-pub mod SumLaws
+pub mod SeenLaws

@@ -17,11 +17,12 @@ use Rattle.tm_legal.proofs.Named.{step_keeps_names}
 use Rattle.tm_verify_laws.specs.Desk.{state_after}
 use Rattle.tm_verify_laws.proofs.Stays.{state_more}
 use Rattle.tm_verify_laws.proofs.Unfit.{unfit_leaves}
-use Rattle.tm_verify.specs.declared.given.Given.{Given}
-use Rattle.tm_verify.specs.declared.pass.StepNote.{StepNote}
+use Rattle.tm_verify_notes.specs.declared.given.Given.{Given}
+use Rattle.tm_verify_notes.specs.declared.steps.StepNote.{StepNote}
 use Rattle.tm_verify.specs.declared.pass.Pass as code
-use Rattle.tm_verify.specs.Given.{scene_of, history_of}
-use Rattle.tm_verify.specs.Passing.{IsNotedIn, IsStepNote, AreNoted, IsAt}
+use Rattle.tm_verify_notes.specs.Given.{scene_of, history_of}
+use Rattle.tm_verify_notes.specs.Stepping.{IsNotedIn, IsStepNote, AreNoted}
+use Rattle.tm_verify.specs.Passing.{IsAt}
 
 -- a step that is passed over has no reply and leaves the state
 pub no_reply : (s : State) (step : Step) → is_some (apply tomoyo_grammar s step).reply ≡ false → None ≡ (apply tomoyo_grammar s step).reply

@@ -19,21 +19,6 @@ use tm_rep::Rep;
 use tm_types::step::{Answered, Heard, Held, Look, Reply};
 use tm_types::verdict::Reason;
 
-/// A look beside the `do` line and the take that it belongs to.
-#[derive(Drop)]
-pub(crate) struct LookOn<'a> {
-    pub(crate) case: &'a DoCase<'a>,
-    pub(crate) look: &'a Look,
-}
-
-impl<'a> Model for LookOn<'a> {
-    ghost use Rattle.tm_verify.specs.Noting.{LookOn};
-
-    ghost Value = { LookOn };
-
-    ghost view = { λ on. (on.case.now, on.look.now) };
-}
-
 /// A look that is due at a version: its place among all looks, and whether it is its answer that is
 /// to be judged.
 #[derive(Clone, Copy)]
@@ -59,26 +44,19 @@ fn judge_seen<R: Rep>(
         return Err(AllocError);
     }
     let before = case.taken.before;
-    match judge(alloc, &pass.machine, before, &case.stand.process, case.request)? {
+    match judge(
+        alloc,
+        &pass.machine,
+        before,
+        &case.stand.process,
+        case.request,
+    )? {
         Some(found) => note_of(alloc, given.steps, before, &case.taken.audit, look, &found),
         None => Ok(VerdictNote {
             shown: false,
             owns: owns_in_order(look),
             audited: true,
         }),
-    }
-}
-
-// The reply of the step of a number, from 1.
-pub(crate) fn reply_at(given: &Given<'_>, number: u64) -> Option<Reply>
-    ensures { result ≡ reply_at (history_of given.now) number }
-{
-    if number == 0 {
-        return None;
-    }
-    match given.steps.get((number - 1) as usize) {
-        Some((_, reply)) => Some(*reply),
-        None => None,
     }
 }
 
@@ -156,11 +134,7 @@ fn hears_ask<R: Rep>(
 }
 
 // Judges what a look has heard, at the version that it names.
-fn judge_heard<R: Rep>(
-    given: &Given<'_>,
-    pass: &Pass<R>,
-    look: &Look,
-) -> Result<bool, NoMemory>
+fn judge_heard<R: Rep>(given: &Given<'_>, pass: &Pass<R>, look: &Look) -> Result<bool, NoMemory>
     requires at { IsAt given.now pass.now }
     ensures { IfOk result (λ hears. (hears ≡ true)
         ↔ LookHears (scene_of given.now) (history_of given.now) look.now) }
@@ -254,38 +228,15 @@ pub(crate) fn judge_all<R: Rep>(
     Ok(())
 }
 
-// Appends the looks of a take.
-fn push_looks<'a>(
-    case: &'a DoCase<'a>,
-    out: &mut Vec<LookOn<'a>>,
-) -> Result<(), NoMemory>
-    ensures { OnOk result (out.new.items ≡ out.old.items ++ looks_on case.now) }
-{
-    for look in case.taken.looks.as_slice() {
-        out.push(LookOn { case, look })?;
-    }
-    Ok(())
-}
-
-/// The looks of all takes, in order.
-pub(crate) fn all_looks<'a>(
-    alloc: Global,
-    cases: &'a [DoCase<'a>],
-) -> Result<Vec<LookOn<'a>>, NoMemory>
-    ensures { IfOk result (λ looks. looks.items ≡ all_looks cases.now) }
-{
-    let mut out = Vec::new(alloc);
-    for case in cases {
-        push_looks(case, &mut out)?;
-    }
-    Ok(out)
-}
-
 // The version at which what a look has heard can be judged; 0 where it needs none.
 fn heard_at(look: &Look, last: u64) -> u64 {
     match look.heard {
         None => 0,
-        Some(heard) => if heard.version <= last { heard.version } else { 0 },
+        Some(heard) => if heard.version <= last {
+            heard.version
+        } else {
+            0
+        },
     }
 }
 
@@ -300,28 +251,18 @@ pub(crate) fn all_dues(
     for on in looks {
         let version = on.look.version;
         let heard = heard_at(on.look, last);
-        dues.push(Due { version, place, hears: false })?;
-        dues.push(Due { version: heard, place, hears: true })?;
+        dues.push(Due {
+            version,
+            place,
+            hears: false,
+        })?;
+        dues.push(Due {
+            version: heard,
+            place,
+            hears: true,
+        })?;
         place += 1;
     }
     dues.sort_by_key(|due| due.version)?;
     Ok(dues)
-}
-
-/// Nothing is noted yet of any look.
-#[tactic(auto, using(crate::proofs::SumLaws::nothing_noted))]
-pub(crate) fn no_parts(
-    alloc: Global,
-    given: &Given<'_>,
-    looks: &[LookOn<'_>],
-) -> Result<Vec<PartNote>, NoMemory>
-    ensures { IfOk result (λ parts.
-        EachWith (IsPartNote (scene_of given.now) (history_of given.now)) looks.now parts.items) }
-{
-    let _ = given;
-    let nothing = PartNote {
-        verdict: None,
-        hears: None,
-    };
-    Vec::from_elem(alloc, nothing, looks.len())
 }

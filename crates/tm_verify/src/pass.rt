@@ -19,14 +19,6 @@ use tm_rep::Rep;
 use tm_script::book_code;
 use tm_types::step::{Book, Editor, Made, Maker, Query, Reply, Step};
 
-/// What is noted of a step: whether its reply is the one that it has at its place, and whether the
-/// first unanswered query before it lets the supervisor make it.
-#[derive(Clone, Copy)]
-pub(crate) struct StepNote {
-    pub(crate) replied: bool,
-    pub(crate) suits: bool,
-}
-
 /// A machine that has made the given steps up to a version, and what it has noted of them. A step
 /// that doesn't fit is passed over.
 #[derive(Drop)]
@@ -34,43 +26,6 @@ pub(crate) struct Pass<R: Rep> {
     pub(crate) machine: Machine<R>,
     pub(crate) version: u64,
     pub(crate) notes: Vec<StepNote>,
-}
-
-// Whether the answer of this code is for that query, and is the book's.
-fn is_answered_so(book: &Book, query: Option<&Query>, serial: u64, code: u64) -> bool
-    ensures { result ≡ is_answered_so book.now (option_copied query.entry) serial code }
-{
-    match query {
-        Some(query) => query.serial == serial && book_code(book, query) == code,
-        None => false,
-    }
-}
-
-// Whether the first unanswered query lets the supervisor of this book make a step.
-fn suits_book(book: &Book, query: Option<&Query>, step: &Step) -> bool
-    ensures { result ≡ suits (Some book.now) (option_copied query.entry) step.now }
-{
-    match step {
-        Step::Answer(serial, code) => is_answered_so(book, query, *serial, *code),
-        Step::Detach => query.is_none(),
-        Step::Learn(_, _)
-        | Step::Make(_, _)
-        | Step::Fail(_)
-        | Step::Ask(_, _, _)
-        | Step::Attach
-        | Step::Edit(_, _, _)
-        | Step::End(_) => true,
-    }
-}
-
-// The same where a supervisor stands; true where none does.
-fn suits(book: Option<&Book>, query: Option<&Query>, step: &Step) -> bool
-    ensures { result ≡ suits (option_copied book.entry) (option_copied query.entry) step.now }
-{
-    match book {
-        Some(book) => suits_book(book, query, step),
-        None => true,
-    }
 }
 
 #[tactic(auto, using(crate::proofs::PassLaws::passed_over, crate::proofs::PassLaws::no_reply))]

@@ -22,7 +22,8 @@ abbrev pub PairsFail : ℕ → List Take → List ℕ → ℕ → Type 0
 PairsFail n [] [] k = ⊥
 PairsFail n (t ∷ takes) [] k = k ≡ n
 PairsFail n [] (pid ∷ pids) k = k ≡ n
-PairsFail n (t ∷ takes) (pid ∷ pids) k = ((k ≡ n) × ¬ Belongs t pid) ⊎ (Belongs t pid × PairsFail (suc n) takes pids k)
+PairsFail n (t ∷ takes) (pid ∷ pids) k =
+    ((k ≡ n) × ¬ Belongs t pid) ⊎ (Belongs t pid × PairsFail (suc n) takes pids k)
 
 -- no look below the floor or above the last version
 abbrev pub TakeRises : Run → Case → Type 0
@@ -60,8 +61,10 @@ Breaks (suc (suc (suc zero))) scene run k = FirstFails (TakeHolds scene run.step
 Breaks (suc (suc (suc (suc zero)))) scene run k = FirstFails (TakeOwns scene run) 1 (cases_of scene run) k
 Breaks (suc (suc (suc (suc (suc zero))))) scene run k = PlacesFail scene run k
 Breaks (suc (suc (suc (suc (suc (suc zero)))))) scene run k = desk_fault scene run ≡ Some k
-Breaks (suc (suc (suc (suc (suc (suc (suc zero))))))) scene run k = FirstFails (TakeHears scene run.steps) 1 run.takes k
-Breaks (suc (suc (suc (suc (suc (suc (suc (suc zero)))))))) scene run k = FirstFails (TakeEnds scene run) 1 (cases_of scene run) k
+Breaks (suc (suc (suc (suc (suc (suc (suc zero))))))) scene run k =
+    FirstFails (TakeHears scene run.steps) 1 run.takes k
+Breaks (suc (suc (suc (suc (suc (suc (suc (suc zero)))))))) scene run k =
+    FirstFails (TakeEnds scene run) 1 (cases_of scene run) k
 Breaks (suc (suc (suc (suc (suc (suc (suc (suc (suc n))))))))) scene run k = ⊥
 
 -- the clauses before hold, and this one fails there
@@ -73,8 +76,12 @@ pub record IsFirstBroken (scene : Scene) (run : Run) (broken : Broken) : Type 0 
 
 -- a run of which a clause breaks first isn't legal
 abbrev pub BrokenIsNotLegal : Type 0
-BrokenIsNotLegal = (scene : Scene) (run : Run) (broken : Broken) → IsFirstBroken scene run broken → ¬ Legal scene run
+BrokenIsNotLegal =
+    (scene : Scene) (run : Run) (broken : Broken) → IsFirstBroken scene run broken
+    → ¬ Legal scene run
 
 -- there is one first
 abbrev pub BrokenOnce : Type 0
-BrokenOnce = (scene : Scene) (run : Run) (one other : Broken) → IsFirstBroken scene run one → IsFirstBroken scene run other → one ≡ other
+BrokenOnce =
+    (scene : Scene) (run : Run) (one other : Broken) → IsFirstBroken scene run one
+    → IsFirstBroken scene run other → one ≡ other

@@ -51,7 +51,9 @@ is_answered_so book (Some query) serial code = query.serial == serial && code_of
 -- the supervisor may leave: after the book's number of answers, or after all trees' ends with no query unanswered
 abbrev pub may_leave : Scene → Book → History → Bool
 may_leave scene book before =
-    is_stop book.stop (length (places is_answer before)) || (trees_ended 1 scene.trace before && not (is_some (first_query (state_after scene before).queries)))
+    is_stop book.stop (length (places is_answer before))
+    || (trees_ended 1 scene.trace before
+    && not (is_some (first_query (state_after scene before).queries)))
 
 -- all that a tree's takes have seen is below this number
 abbrev pub is_above : Scene → Run → ℕ → ℕ → Bool
@@ -61,9 +63,12 @@ is_above scene run t number = list_all (λ version. nat_lt version number) (seen
 unfoldable pub may_act : Scene → Run → Book → History → Step → Bool
 may_act scene run book before Step.Attach = not (has_some is_attach before)
 may_act scene run book before (Step.Answer serial code) =
-    is_there before && (has_room book.stop (length (places is_answer before)) && is_answered_so book (first_query (state_after scene before).queries) serial code)
+    is_there before
+    && (has_room book.stop (length (places is_answer before))
+    && is_answered_so book (first_query (state_after scene before).queries) serial code)
 may_act scene run book before Step.Detach = is_there before && may_leave scene book before
-may_act scene run book before (Step.End t) = not (has_some (is_end t) before) && is_above scene run t (suc (length before))
+may_act scene run book before (Step.End t) =
+    not (has_some (is_end t) before) && is_above scene run t (suc (length before))
 may_act scene run book before (Step.Learn d entry) = true
 may_act scene run book before (Step.Make d name) = true
 may_act scene run book before (Step.Fail d) = true
@@ -72,7 +77,8 @@ may_act scene run book before (Step.Edit e file line) = true
 
 -- nothing is missing: the supervisor has come and left, and each tree has ended
 abbrev pub is_complete : Scene → History → Bool
-is_complete scene history = has_some is_attach history && (has_some is_detach history && trees_ended 1 scene.trace history)
+is_complete scene history =
+    has_some is_attach history && (has_some is_detach history && trees_ended 1 scene.trace history)
 
 -- the least step that the clause of the supervisor can't have after those before it; 0 where only steps are missing
 unfoldable pub desk_fault : Scene → Run → Option ℕ
@@ -81,12 +87,18 @@ desk_fault scene run = go scene.book
     go : Option Book → Option ℕ
     go None = first_failing (λ (pair : Step × Reply). not (is_of_supervisor pair.0)) 1 run.steps
     go (Some book) =
-        option_or (first_failing_after (λ before (pair : Step × Reply). may_act scene run book before pair.0) [] run.steps) (if is_complete scene run.steps then None else Some 0)
+        option_or
+        (first_failing_after
+        (λ before (pair : Step × Reply). may_act scene run book before pair.0) [] run.steps)
+        (if is_complete scene run.steps then None else Some 0)
 
 -- an End names a tree that is there, as each one does that has a reply
 abbrev pub EndsAreOfTrees : Scene → History → Type 0
-EndsAreOfTrees scene history = (t number : ℕ) → step_at history number ≡ Some (Step.End t) → IsSome (numbered scene.trace t)
+EndsAreOfTrees scene history =
+    (t number : ℕ) → step_at history number ≡ Some (Step.End t) → IsSome (numbered scene.trace t)
 
 -- where each reply is right, the clause holds exactly where no step is at fault
 abbrev pub DeskFaultDecides : Type 0
-DeskFaultDecides = (scene : Scene) (run : Run) → Replies scene.grammar (opening_of scene) run.steps → (desk_fault scene run ≡ None) ↔ SupervisorActs scene run
+DeskFaultDecides =
+    (scene : Scene) (run : Run) → Replies scene.grammar (opening_of scene) run.steps
+    → (desk_fault scene run ≡ None) ↔ SupervisorActs scene run

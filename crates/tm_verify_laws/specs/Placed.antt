@@ -25,11 +25,16 @@ pub record IsPlaced (scene : Scene) (run : Run) (before : History) (pair : Step 
 
 -- no editor's line is missing
 abbrev pub NoLineMissing : Scene → History → Type 0
-NoLineMissing scene history = (e : ℕ) (editor : Editor) → numbered scene.editors e ≡ Some editor → lines_of_editor e history ≡ editor.lines
+NoLineMissing scene history =
+    (e : ℕ) (editor : Editor) → numbered scene.editors e ≡ Some editor
+    → lines_of_editor e history ≡ editor.lines
 
 -- the least step without its place; 0 where only lines are missing
 abbrev pub PlacesFail : Scene → Run → ℕ → Type 0
-PlacesFail scene run k = FirstFailsAfter (IsPlaced scene run) [] run.steps k ⊎ ((k ≡ 0) × AllAfter (IsPlaced scene run) [] run.steps × ¬ NoLineMissing scene run.steps)
+PlacesFail scene run k =
+    FirstFailsAfter (IsPlaced scene run) [] run.steps k
+    ⊎ ((k ≡ 0) × AllAfter (IsPlaced scene run) [] run.steps
+    × ¬ NoLineMissing scene run.steps)
 
 -- each own number is that of a step, as it is where the own steps are those that verdicts ask for
 abbrev pub OwnAreSteps : Run → Type 0
@@ -37,4 +42,7 @@ OwnAreSteps run = AllByRecursion (λ number. IsSome (step_at run.steps number)) 
 
 -- where each own number is a step's, steps have their places exactly where each is placed and no line is missing
 abbrev pub PlacesDecide : Type 0
-PlacesDecide = (scene : Scene) (run : Run) → OwnAreSteps run → (AllAfter (IsPlaced scene run) [] run.steps × NoLineMissing scene run.steps) ↔ StepsHavePlaces scene run
+PlacesDecide =
+    (scene : Scene) (run : Run) → OwnAreSteps run
+    → (AllAfter (IsPlaced scene run) [] run.steps × NoLineMissing scene run.steps)
+    ↔ StepsHavePlaces scene run

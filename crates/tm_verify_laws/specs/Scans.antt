@@ -24,23 +24,32 @@ pairs_fault n (t ∷ takes) (pid ∷ pids) = if do_belong t pid then pairs_fault
 -- no look is below the floor or above the last version
 abbrev pub do_rise : ℕ → ℕ → List Look → Bool
 do_rise count floor [] = true
-do_rise count floor (look ∷ looks) = (nat_le floor look.version && nat_le look.version count) && do_rise count (raised floor (seen look)) looks
+do_rise count floor (look ∷ looks) =
+    (nat_le floor look.version && nat_le look.version count)
+    && do_rise count (raised floor (seen look)) looks
 
 -- a scan of takes and `do` lines finds what the clause says
 abbrev pub PairsDecide : Type 0
 PairsDecide =
     (takes : List Take) (pids : List ℕ)
-    → ((pairs_fault 1 takes pids ≡ None) ↔ ((map (λ (t : Take). t.pid) takes ≡ pids) × AllByRecursion (λ (t : Take). 0 < length t.looks) takes))
+    → ((pairs_fault 1 takes pids ≡ None)
+    ↔ ((map (λ (t : Take). t.pid) takes ≡ pids) × AllByRecursion (λ (t : Take). 0 < length t.looks) takes))
     × ((k : ℕ) → pairs_fault 1 takes pids ≡ Some k → PairsFail 1 takes pids k)
 
 -- the test of rising versions is their relation
 abbrev pub RisingDecides : Type 0
-RisingDecides = (history : History) (floor : ℕ) (looks : List Look) → (do_rise (length history) floor looks ≡ true) ↔ LooksRise history floor looks
+RisingDecides =
+    (history : History) (floor : ℕ) (looks : List Look)
+    → (do_rise (length history) floor looks ≡ true) ↔ LooksRise history floor looks
 
 -- where the clauses of takes, verdicts and own steps hold, each own number is a step's
 abbrev pub OwnNumbersAreSteps : Type 0
-OwnNumbersAreSteps = (scene : Scene) (run : Run) → TakesInOrder scene run → VerdictsHold scene run → StepsAreAsked scene run → OwnAreSteps run
+OwnNumbersAreSteps =
+    (scene : Scene) (run : Run) → TakesInOrder scene run → VerdictsHold scene run
+    → StepsAreAsked scene run → OwnAreSteps run
 
 -- where the clause of takes holds, the n-th `do` line has the n-th take
 abbrev pub CasesTakeAll : Type 0
-CasesTakeAll = (scene : Scene) (run : Run) → TakesInOrder scene run → map (λ (c : Case). c.taken) (cases_of scene run) ≡ run.takes
+CasesTakeAll =
+    (scene : Scene) (run : Run) → TakesInOrder scene run
+    → map (λ (c : Case). c.taken) (cases_of scene run) ≡ run.takes
