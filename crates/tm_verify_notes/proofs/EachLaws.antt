@@ -2,7 +2,7 @@
 use Rattle.std.proofs.Common.{◌≡◌, ◌<◌, ◌+◌, ℕ, zero, suc, Bool, true, false, ◌&&◌, List, [], ◌∷◌, ◌++◌, length, take, drop, map, Option, Some, None, refl, sym, ap, ◌∙◌, subst, arith, inl, inr}
 use Rattle.std.proofs.lemmas.List.{take_more}
 use Rattle.std.specs.Prelude.{slice_get, set, get_or, if◌then◌else◌, ◌↔◌}
-use Rattle.std.specs.List.{AllByRecursion, list_all}
+use Rattle.std.specs.List.{AllByRecursion, list_all, slice_index_or}
 use Rattle.tm_verify_laws.specs.First.{FirstFails, first_failing}
 use Rattle.tm_verify_laws.proofs.FirstLaws.{some_is}
 use Rattle.tm_verify_notes.specs.Noting.{EachWith}
@@ -105,3 +105,9 @@ pub each_next : {A B : Type 0} (P : A → B → Type 0) (xs : List A) (ys new : 
 each_next P xs ys new k x y h within e here is =
     subst (λ zs. EachWith P (take (k + 1) xs) zs) (sym is)
     (subst (λ front. EachWith P front (ys ++ y ∷ [])) (sym (take_more xs k x within ∙ ap (λ z. take k xs ++ z ∷ []) (sym e))) (each_push P (take k xs) ys x y h here))
+
+-- what an index gives is at its place
+pub index_at : {A : Type 0} (xs : List A) (k : ℕ) (x : A) → k < length xs → x ≡ slice_index_or xs k x → slice_get xs k ≡ Some x
+index_at [] k x lt is = absurd (omega (arith, lt))
+index_at (y ∷ ys) zero x lt is = ap (λ z. Some z) (sym is)
+index_at (y ∷ ys) (suc k) x lt is = index_at ys k x (omega (arith, lt)) is

@@ -44,30 +44,40 @@ by_fact scene history c notes P t f h =
     (each_mapped (λ (look : Look). (c, look)) (IsLookNote scene history) c.taken.looks notes h))
 
 -- a take by the notes of its looks
-pub take_noted : (scene : Scene) (history : History) (c : Case) (notes : List LookNote) (begins ends follows : Bool)
+pub take_noted : (scene : Scene) (history : History) (c : Case) (notes : List LookNote) (note : TakeNote) (begins follows : Bool)
+    → EachWith (IsLookNote scene history) (looks_on c) notes
     → (begins ≡ true) ↔ (c.now.domain ≡ Some c.taken.before)
     → follows ≡ do_follow history 0 c.taken.looks
-    → (ends ≡ true) ↔ IfSome (last_look c.taken.looks) (EndsWith scene history (subject_of c) c.taken)
-    → EachWith (IsLookNote scene history) (looks_on c) notes
-    → IsTakeNote scene history c (record {
-      holds = begins && list_all (λ (note : LookNote). note.verdict.shown) notes;
-      owns = list_all (λ (note : LookNote). note.verdict.owns) notes;
-      hears = list_all (λ (note : LookNote). note.hears) notes && follows;
-      ends = ends;
-    })
-take_noted scene history c notes begins ends follows b f e h =
-    let shown = by_fact scene history c notes (LookHolds scene history (subject_of c)) (λ (note : LookNote). note.verdict.shown) (λ look note n. n.seen.shown) h in
-    let owns = by_fact scene history c notes (OwnSteps scene history (subject_of c)) (λ (note : LookNote). note.verdict.owns) (λ look note n. n.seen.owns) h in
-    let heard = by_fact scene history c notes (LookHears scene history) (λ (note : LookNote). note.hears) (λ look note n. n.heard) h in
+    → note.holds ≡ (begins && list_all (λ (n : LookNote). n.verdict.shown) notes)
+    → note.owns ≡ list_all (λ (n : LookNote). n.verdict.owns) notes
+    → note.hears ≡ (list_all (λ (n : LookNote). n.hears) notes && follows)
+    → (note.ends ≡ true) ↔ IfSome (last_look c.taken.looks) (EndsWith scene history (subject_of c) c.taken)
+    → IsTakeNote scene history c note
+take_noted scene history c notes note begins follows h b f holds_is owns_is hears_is ends =
+    let shown = by_fact scene history c notes (LookHolds scene history (subject_of c)) (λ (n : LookNote). n.verdict.shown) (λ look n x. x.seen.shown) h in
+    let owns = by_fact scene history c notes (OwnSteps scene history (subject_of c)) (λ (n : LookNote). n.verdict.owns) (λ look n x. x.seen.owns) h in
+    let heard = by_fact scene history c notes (LookHears scene history) (λ (n : LookNote). n.hears) (λ look n x. x.heard) h in
     let follow : (follows ≡ true) ↔ LooksFollow history 0 c.taken.looks = subst (λ t. (t ≡ true) ↔ LooksFollow history 0 c.taken.looks) (sym f) (following history 0 c.taken.looks) in
-    let holds = both_decide begins _ (c.now.domain ≡ Some c.taken.before) (AllByRecursion (LookHolds scene history (subject_of c)) c.taken.looks) b shown in
-    let hears = both_decide (list_all (λ (note : LookNote). note.hears) notes) follows (AllByRecursion (LookHears scene history) c.taken.looks) (LooksFollow history 0 c.taken.looks) heard follow in
+    let holds = both_decide begins (list_all (λ (n : LookNote). n.verdict.shown) notes) (c.now.domain ≡ Some c.taken.before) (AllByRecursion (LookHolds scene history (subject_of c)) c.taken.looks) b shown in
+    let hears = both_decide (list_all (λ (n : LookNote). n.hears) notes) follows (AllByRecursion (LookHears scene history) c.taken.looks) (LooksFollow history 0 c.taken.looks) heard follow in
     record {
-      holds = (λ y. let p = holds.0 y in record { before = p.0; shown = p.1 }, λ t. holds.1 (t.before, t.shown));
-      owns = owns;
-      hears = (λ y. let p = hears.0 y in record { heard = p.0; follow = p.1 }, λ t. hears.1 (t.heard, t.follow));
-      ends = e;
+      holds = (λ y. let p = holds.0 (sym holds_is ∙ y) in record { before = p.0; shown = p.1 }, λ t. holds_is ∙ holds.1 (t.before, t.shown));
+      owns = (λ y. owns.0 (sym owns_is ∙ y), λ t. owns_is ∙ owns.1 t);
+      hears = (λ y. let p = hears.0 (sym hears_is ∙ y) in record { heard = p.0; follow = p.1 }, λ t. hears_is ∙ hears.1 (t.heard, t.follow));
+      ends = ends;
     }
+
+-- the last look stands at the last place
+last_at : (looks : List Look) (k : ℕ) → length looks ≡ suc k → last_look looks ≡ slice_get looks k
+last_at [] k e = absurd (omega (arith, e))
+last_at (look ∷ looks) k e = let same : length looks ≡ k = omega (arith, e) in last_look_at look looks ∙ ap (slice_get (look ∷ looks)) same
+
+-- so the take ends as the look there says
+pub ends_last : (scene : Scene) (history : History) (c : Case) (k : ℕ) (look : Look) (b : Bool) → length c.taken.looks ≡ suc k → slice_get c.taken.looks k ≡ Some look
+    → (b ≡ true) ↔ EndsWith scene history (subject_of c) c.taken look → (b ≡ true) ↔ IfSome (last_look c.taken.looks) (EndsWith scene history (subject_of c) c.taken)
+ends_last scene history c k look b long at h =
+    let last : last_look c.taken.looks ≡ Some look = last_at c.taken.looks k long ∙ at in
+    subst (λ o. (b ≡ true) ↔ IfSome o (EndsWith scene history (subject_of c) c.taken)) (sym last) h
 
 -- of a take with looks
 pub ends_at : (scene : Scene) (history : History) (c : Case) (notes : List LookNote) (k : ℕ) (look : Look) (note : LookNote)

@@ -18,8 +18,5 @@ pub use given::Given;
 pub use looks::{do_follow, reply_at, retry_written, step_at};
 pub use notes::{LookNote, PartNote, VerdictNote, is_shown, look_grants, owns_in_order};
 pub use steps::{StepNote, suits};
-pub use sums::{
-    Flag, TakeNote, all_completed, all_heard, all_own, all_shown, begins, cut_notes, domain_after,
-    ends_with, take_fault,
-};
+pub use sums::{Flag, TakeNote, all_completed, all_takes, take_fault};
 pub use takes::{all_do_pids, do_rise, pairs_fault};

@@ -1,15 +1,16 @@
 //! What the looks of a take come to.
-ghost use Rattle.std.specs.Prelude.{◌≡◌, ◌↔◌, true, Some, IfOk, take, drop};
+ghost use Rattle.std.specs.Prelude.{◌≡◌, ◌↔◌, ◌&&◌, true, Some, IfOk, take, drop};
 ghost use Rattle.std.specs.List.{list_all};
-ghost use Rattle.tm_legal.specs.Legal.{look_grants, subject_of, last_number, made_number, domain_after, EndsWith};
+ghost use Rattle.std.specs.Option.{IfSome};
+ghost use Rattle.tm_legal.specs.Legal.{look_grants, subject_of, last_look, last_number, made_number, domain_after, EndsWith};
 ghost use Rattle.tm_verify_laws.specs.First.{first_failing};
 ghost use Rattle.tm_verify_notes.specs.Given.{scene_of, history_of};
-ghost use Rattle.tm_verify_notes.specs.Noting.{EachWith, IsLookNote};
+ghost use Rattle.tm_verify_notes.specs.Noting.{looks_on, all_looks, EachWith, IsLookNote, IsTakeNote};
 ghost use Rattle.tm_verify_notes.specs.Sums.{Completes, flag};
 
 use crate::cases::DoCase;
 use crate::given::Given;
-use crate::looks::reply_at;
+use crate::looks::{do_follow, reply_at};
 use crate::notes::{LookNote, PartNote, look_grants};
 use std::alloc::{AllocError, Global};
 use tm_list::{NoMemory, Same};
@@ -60,8 +61,8 @@ pub fn all_completed(alloc: Global, parts: &[PartNote]) -> Result<Vec<LookNote>,
     Ok(notes)
 }
 
-/// Whether each look shows what its version says.
-pub fn all_shown(notes: &[LookNote]) -> bool
+// Whether each look shows what its version says.
+fn all_shown(notes: &[LookNote]) -> bool
     ensures { result ≡ list_all (λ note. note.verdict.shown) notes.now }
 {
     for note in notes {
@@ -72,8 +73,8 @@ pub fn all_shown(notes: &[LookNote]) -> bool
     true
 }
 
-/// Whether each look has the own steps that are asked for.
-pub fn all_own(notes: &[LookNote]) -> bool
+// Whether each look has the own steps that are asked for.
+fn all_own(notes: &[LookNote]) -> bool
     ensures { result ≡ list_all (λ note. note.verdict.owns) notes.now }
 {
     for note in notes {
@@ -84,8 +85,8 @@ pub fn all_own(notes: &[LookNote]) -> bool
     true
 }
 
-/// Whether each look has heard what it should.
-pub fn all_heard(notes: &[LookNote]) -> bool
+// Whether each look has heard what it should.
+fn all_heard(notes: &[LookNote]) -> bool
     ensures { result ≡ list_all (λ note. note.hears) notes.now }
 {
     for note in notes {
@@ -130,8 +131,8 @@ fn led_by(given: &Given<'_>, before: u32, look: &Look) -> Option<u32>
     }
 }
 
-/// Where a look leads.
-pub fn domain_after(given: &Given<'_>, before: u32, look: &Look) -> Option<u32>
+// Where a look leads.
+fn domain_after(given: &Given<'_>, before: u32, look: &Look) -> Option<u32>
     ensures { result ≡ domain_after (history_of given.now) before look.now }
 {
     if look_grants(look) {
@@ -141,8 +142,8 @@ pub fn domain_after(given: &Given<'_>, before: u32, look: &Look) -> Option<u32>
     }
 }
 
-/// Whether a take ends as this look says.
-pub fn ends_with(given: &Given<'_>, case: &DoCase<'_>, look: &Look, note: &LookNote) -> bool
+// Whether a take ends as this look says.
+fn ends_with(given: &Given<'_>, case: &DoCase<'_>, look: &Look, note: &LookNote) -> bool
     requires { IsLookNote (scene_of given.now) (history_of given.now) (case.now, look.now) note.now }
     ensures { (result ≡ true) ↔ EndsWith (scene_of given.now) (history_of given.now)
         (subject_of case.now) case.now.taken look.now }
@@ -152,15 +153,62 @@ pub fn ends_with(given: &Given<'_>, case: &DoCase<'_>, look: &Look, note: &LookN
         && note.verdict.audited
 }
 
-/// Whether a take begins where its process is.
-pub fn begins(case: &DoCase<'_>) -> bool
+// Whether a take ends as its last look says. No more memory is told where that look has no note.
+fn ends(given: &Given<'_>, case: &DoCase<'_>, notes: &[LookNote]) -> Result<bool, NoMemory>
+    requires { EachWith (IsLookNote (scene_of given.now) (history_of given.now))
+        (looks_on case.now) notes.now }
+    ensures { IfOk result (λ ends. (ends ≡ true) ↔ IfSome (last_look case.now.taken.looks)
+        (EndsWith (scene_of given.now) (history_of given.now) (subject_of case.now) case.now.taken)) }
+{
+    let looks = case.taken.looks.as_slice();
+    let count = looks.len();
+    if count == 0 {
+        return Ok(true);
+    }
+    match notes.get(count - 1) {
+        Some(note) => Ok(ends_with(given, case, &looks[count - 1], note)),
+        None => Err(AllocError),
+    }
+}
+
+// Whether a take begins where its process is.
+fn begins(case: &DoCase<'_>) -> bool
     ensures { (result ≡ true) ↔ (case.now.now.domain ≡ Some case.now.taken.before) }
 {
     case.stand.domain.same(&Some(case.taken.before))
 }
 
-/// So many notes, and those after them: no more memory is told where there are fewer.
-pub fn cut_notes(notes: &[LookNote], own: usize) -> Result<(&[LookNote], &[LookNote]), NoMemory>
+// Whether both hold.
+fn both(one: bool, other: bool) -> bool
+    ensures { result ≡ (one && other) }
+{
+    one && other
+}
+
+// What the notes of its looks come to.
+fn take_note(given: &Given<'_>, case: &DoCase<'_>, notes: &[LookNote]) -> Result<TakeNote, NoMemory>
+    requires { EachWith (IsLookNote (scene_of given.now) (history_of given.now))
+        (looks_on case.now) notes.now }
+    ensures { IfOk result (IsTakeNote (scene_of given.now) (history_of given.now) case.now) }
+{
+    let follows = do_follow(given.steps, case.taken.looks.as_slice());
+    let ends = ends(given, case, notes)?;
+    let shown = all_shown(notes);
+    let heard = all_heard(notes);
+    let begins = begins(case);
+    let holds = both(begins, shown);
+    let hears = both(heard, follows);
+    let owns = all_own(notes);
+    Ok(TakeNote {
+        holds,
+        owns,
+        hears,
+        ends,
+    })
+}
+
+// So many notes, and those after them: no more memory is told where there are fewer.
+fn cut_notes(notes: &[LookNote], own: usize) -> Result<(&[LookNote], &[LookNote]), NoMemory>
     ensures front { IfOk result (λ cut. cut.0.now ≡ take own notes.now) }
     ensures rest { IfOk result (λ cut. cut.1.now ≡ drop own notes.now) }
 {
@@ -168,6 +216,28 @@ pub fn cut_notes(notes: &[LookNote], own: usize) -> Result<(&[LookNote], &[LookN
         return Err(AllocError);
     }
     Ok((&notes[..own], &notes[own..]))
+}
+
+/// What is noted of each take.
+pub fn all_takes(
+    alloc: Global,
+    given: &Given<'_>,
+    cases: &[DoCase<'_>],
+    notes: &[LookNote],
+) -> Result<Vec<TakeNote>, NoMemory>
+    requires { EachWith (IsLookNote (scene_of given.now) (history_of given.now))
+        (all_looks cases.now) notes.now }
+    ensures { IfOk result (λ takes.
+        EachWith (IsTakeNote (scene_of given.now) (history_of given.now)) cases.now takes.items) }
+{
+    let mut takes = Vec::new(alloc);
+    let mut rest = notes;
+    for case in cases {
+        let (own, others) = cut_notes(rest, case.taken.looks.len())?;
+        takes.push(take_note(given, case, own)?)?;
+        rest = others;
+    }
+    Ok(takes)
 }
 
 // Whether this was noted of a take.
