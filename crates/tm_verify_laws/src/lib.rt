@@ -1,6 +1,6 @@
 //! Which clause a run breaks first, and where: definitions, tests that compute, and their laws.
-//! Stands on tm_legal, whose clauses are judged; no code but functions without a body, on which the laws stand.
-//! Promises that a run of which a clause breaks first isn't legal, and that the tests decide the clauses.
+//! Stands on tm_legal, whose clauses are judged; no code but functions without a body.
+//! Promises that a run which breaks a clause first isn't legal, and that the tests decide clauses.
 #![tactic(auto)]
 
 mod broken;

@@ -1,6 +1,6 @@
-//! What is noted of a given run's takes, looks and steps, and scans that find the first one at fault.
+//! What is noted of a given run's looks and takes, and scans for the first one at fault.
 //! Stands on tm_legal and tm_verify_laws, whose clauses are judged; no machine is made here.
-//! Promises that notes which are right of each look and step decide the clauses, at their least place.
+//! Promises that right notes of all looks give right notes of each take, and their first fault.
 #![tactic(auto)]
 
 mod cases;
