@@ -1,0 +1,10 @@
+pub mod FirstLaws
+pub mod Splits
+pub mod DeskLaws
+pub mod DeskBack
+pub mod Stays
+pub mod PlacedLaws
+pub mod BrokenLaws
+pub mod TakeLaws
+pub mod LookLaws
+pub mod Unfit

@@ -1,0 +1,104 @@
+-- With which step the supervisor's steps and the trees' ends can't go on any more.
+use Rattle.std.specs.Prelude.{◌≡◌, ◌↔◌, ℕ, suc, ◌==◌, ◌&&◌, ◌||◌, not, nat_lt, Bool, true, false, [], ◌∷◌, length, Option, Some, None, IsSome, is_some, if◌then◌else◌}
+use Rattle.std.specs.Option.{option_or}
+use Rattle.std.specs.List.{list_all}
+use Rattle.tm_word.specs.Matching.{is_empty}
+use Rattle.tm_rules.specs.Words.{Trace}
+use Rattle.tm_types.specs.declared.step.Step.{Step}
+use Rattle.tm_types.specs.declared.step.Reply.{Reply}
+use Rattle.tm_types.specs.declared.step.Query.{Query}
+use Rattle.tm_types.specs.declared.step.Book.{Book}
+use Rattle.tm_types.specs.declared.step.Run.{Run}
+use Rattle.tm_rules.specs.Queries.{first_query, numbered}
+use Rattle.tm_rules.specs.Book.{book_answer, code_of}
+use Rattle.tm_legal.specs.Steps.{State, after}
+use Rattle.tm_legal.specs.Run.{History, steps_of, step_at, places}
+use Rattle.tm_legal.specs.Legal.{Scene, opening_of, is_attach, is_detach, is_answer, is_end, is_of_supervisor, seen_by_tree, Replies, SupervisorActs}
+use Rattle.tm_verify_laws.specs.First.{first_failing, first_failing_after}
+
+-- the state after these steps
+abbrev pub state_after : Scene → History → State
+state_after scene before = after scene.grammar (opening_of scene) (steps_of before)
+
+-- some of these steps passes
+abbrev pub has_some : (Step → Bool) → History → Bool
+has_some test before = not (is_empty (places test before))
+
+-- the supervisor has come, and hasn't left
+abbrev pub is_there : History → Bool
+is_there before = has_some is_attach before && not (has_some is_detach before)
+
+-- each tree, of which the first has number t, has ended
+abbrev pub trees_ended : ℕ → Trace → History → Bool
+trees_ended t [] before = true
+trees_ended t (tree ∷ trees) before = has_some (is_end t) before && trees_ended (suc t) trees before
+
+-- the book allows an answer more
+abbrev pub has_room : Option ℕ → ℕ → Bool
+has_room None answers = true
+has_room (Some stop) answers = nat_lt answers stop
+
+-- these are the answers after which the book says that the supervisor leaves
+abbrev pub is_stop : Option ℕ → ℕ → Bool
+is_stop None answers = false
+is_stop (Some stop) answers = stop == answers
+
+-- the answer is for the first unanswered query, and is the book's
+abbrev pub is_answered_so : Book → Option Query → ℕ → ℕ → Bool
+is_answered_so book None serial code = false
+is_answered_so book (Some query) serial code = query.serial == serial && code_of (book_answer book query) == code
+
+-- the supervisor may leave: after the book's number of answers, or after all trees' ends with no query unanswered
+abbrev pub may_leave : Scene → Book → History → Bool
+may_leave scene book before =
+    is_stop book.stop (length (places is_answer before))
+    || (trees_ended 1 scene.trace before
+    && not (is_some (first_query (state_after scene before).queries)))
+
+-- all that a tree's takes have seen is below this number
+abbrev pub is_above : Scene → Run → ℕ → ℕ → Bool
+is_above scene run t number = list_all (λ version. nat_lt version number) (seen_by_tree scene run t)
+
+-- after these steps the step leaves the clause of the supervisor within reach
+unfoldable pub may_act : Scene → Run → Book → History → Step → Bool
+may_act scene run book before Step.Attach = not (has_some is_attach before)
+may_act scene run book before (Step.Answer serial code) =
+    is_there before
+    && (has_room book.stop (length (places is_answer before))
+    && is_answered_so book (first_query (state_after scene before).queries) serial code)
+may_act scene run book before Step.Detach = is_there before && may_leave scene book before
+may_act scene run book before (Step.End t) =
+    not (has_some (is_end t) before) && is_above scene run t (suc (length before))
+may_act scene run book before (Step.Learn d entry) = true
+may_act scene run book before (Step.Make d name) = true
+may_act scene run book before (Step.Fail d) = true
+may_act scene run book before (Step.Ask d retry line) = true
+may_act scene run book before (Step.Edit e file line) = true
+
+-- nothing is missing: the supervisor has come and left, and each tree has ended
+abbrev pub is_complete : Scene → History → Bool
+is_complete scene history =
+    has_some is_attach history && (has_some is_detach history && trees_ended 1 scene.trace history)
+
+-- the least step that the clause of the supervisor can't have after those before it; 0 where only steps are missing
+unfoldable pub desk_fault : Scene → Run → Option ℕ
+desk_fault scene run = go scene.book
+  where
+    go : Option Book → Option ℕ
+    go None = first_failing (λ (pair : Step × Reply). not (is_of_supervisor pair.0)) 1 run.steps
+    go (Some book) =
+        option_or
+        (first_failing_after
+        (λ before (pair : Step × Reply). may_act scene run book before pair.0) [] run.steps)
+        (if is_complete scene run.steps then None else Some 0)
+
+-- an End names a tree that is there, as each one does that has a reply
+abbrev pub EndsAreOfTrees : Scene → History → Type 0
+EndsAreOfTrees scene history =
+    (t number : ℕ) → step_at history number ≡ Some (Step.End t) → IsSome (numbered scene.trace t)
+
+-- where each reply is right, the clause holds exactly where no step is at fault
+abbrev pub DeskFaultDecides : Type 0
+DeskFaultDecides =
+    (scene : Scene) (run : Run) → Replies scene.grammar (opening_of scene) run.steps
+    → (desk_fault scene run ≡ None) ↔ SupervisorActs scene run

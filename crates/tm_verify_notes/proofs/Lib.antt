@@ -1,0 +1,4 @@
+pub mod CaseLaws
+pub mod EachLaws
+pub mod NoteLaws
+pub mod SumLaws

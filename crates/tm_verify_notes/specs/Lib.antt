@@ -1,0 +1,5 @@
+pub mod Given
+pub mod Cases
+pub mod Noting
+pub mod Sums
+pub mod Stepping
