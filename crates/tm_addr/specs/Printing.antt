@@ -28,7 +28,8 @@ run place length = record { place = place; length = length }
 abbrev pub longer : Run → Run → Run
 longer best here = if nat_lt best.length here.length then here else best
 
--- the longest run of zero groups, the first of equal ones: the best before a place, against those that begin from there on
+-- the longest run of zero groups, the first of equal ones: the best before a place, against those
+-- that begin from there on
 unfoldable pub longest : Run → ℕ → List ℕ → Run
 longest best place [] = best
 longest best place (group ∷ rest) = longest (longer best (run place (zeros (group ∷ rest)))) (place + 1) rest

@@ -164,9 +164,9 @@ fn addr_text(alloc: Global, a: &Addr) -> Result<Vec<u8>, NoMemory>
     }
 }
 
-/// Appends an address's printed form: IPv4 as four decimals, IPv6 by RFC 5952, in lower case without leading zeros, with `::` for
-/// the longest run of at least two zero groups, the first of equal ones, and never with a dotted end. After want of memory `out`
-/// is as before.
+/// Appends an address's printed form: IPv4 as four decimals, IPv6 by RFC 5952, in lower case
+/// without leading zeros, with `::` for the longest run of at least two zero groups, the first of
+/// equal ones, and never with a dotted end. After want of memory `out` is as before.
 pub fn write_addr(alloc: Global, a: &Addr, out: &mut Vec<u8>) -> Result<(), NoMemory>
     ensures ok { OnOk result (out.new.items ≡ out.old.items ++ addr_spelling a.now) }
     ensures err { OnErr result (out.new.items ≡ out.old.items) }
@@ -201,8 +201,8 @@ fn range_text(alloc: Global, range: &AddrRange) -> Result<Vec<u8>, NoMemory>
     Ok(text)
 }
 
-/// Appends a range's printed form: one address where both ends are equal, else both with a `-` between them. After want of memory
-/// `out` is as before.
+/// Appends a range's printed form: one address where both ends are equal, else both with a `-`
+/// between them. After want of memory `out` is as before.
 pub fn write_addr_range(alloc: Global, range: &AddrRange, out: &mut Vec<u8>) -> Result<(), NoMemory>
     ensures ok { OnOk result (out.new.items ≡ out.old.items ++ addr_range_spelling range.now) }
     ensures err { OnErr result (out.new.items ≡ out.old.items) }

@@ -248,9 +248,9 @@ fn addr(text: &[u8]) -> Result<Addr, AddrFault>
     }
 }
 
-/// Reads an address, and takes no memory. IPv4 is four plain numbers from 0 to 255 joined by dots. IPv6 is eight groups of one to
-/// four hexadecimal digits joined by colons, or fewer with one `::` that stands for one zero group or more; the last two groups
-/// may be written as an IPv4 address.
+/// Reads an address, and takes no memory. IPv4 is four plain numbers from 0 to 255 joined by dots.
+/// IPv6 is eight groups of one to four hexadecimal digits joined by colons, or fewer with one `::`
+/// that stands for one zero group or more; the last two groups may be written as an IPv4 address.
 ///
 /// Errors: `NotAnAddress` exactly outside this grammar.
 pub fn read_addr(text: &[u8]) -> Result<Addr, AddrFault>
@@ -314,8 +314,8 @@ fn single(found: Result<Addr, AddrFault>) -> Result<AddrRange, AddrFault>
 
 /// Reads a range of addresses: one address, or `low-high`. Takes no memory.
 ///
-/// Errors: `NotAnAddress` exactly where an end is no address, else `Mixed` exactly where the ends are of two families, else
-/// `Backwards` exactly where the low end is above the high one.
+/// Errors: `NotAnAddress` exactly where an end is no address, else `Mixed` exactly where the ends
+/// are of two families, else `Backwards` exactly where the low end is above the high one.
 #[tactic(auto, unfolding(crate::specs::Reading::range_of))]
 pub fn read_addr_range(text: &[u8]) -> Result<AddrRange, AddrFault>
     ensures { result ≡ range_of text.now }
@@ -331,6 +331,8 @@ pub fn round_trip()
     ensures addr { (a : Addr) → IsAddr a → addr_of (addr_spelling a) ≡ Ok a }
     // The run of zero groups that `::` stands for is the longest, and the first of equal ones.
     ensures longest { (gs : List ℕ) (k : ℕ) → zeros (drop k gs) ≤ (longest (run 0 0) 0 gs).length }
-    ensures first { (gs : List ℕ) (k : ℕ) → k < (longest (run 0 0) 0 gs).place → zeros (drop k gs) < (longest (run 0 0) 0 gs).length }
-    ensures range { (r : AddrRange) → IsAddr r.low → IsAddr r.high → addr_le r.low r.high ≡ true → range_of (addr_range_spelling r) ≡ Ok r }
+    ensures first { (gs : List ℕ) (k : ℕ) → k < (longest (run 0 0) 0 gs).place
+        → zeros (drop k gs) < (longest (run 0 0) 0 gs).length }
+    ensures range { (r : AddrRange) → IsAddr r.low → IsAddr r.high → addr_le r.low r.high ≡ true
+        → range_of (addr_range_spelling r) ≡ Ok r }
 {}

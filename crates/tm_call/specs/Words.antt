@@ -1,5 +1,5 @@
 -- The words of the commands.
-use Rattle.std.specs.Prelude.{ℕ, ◌≤◌, ⊤, ◌^◌, List, [], ◌∷◌, Option, Some, None, Result, Ok, Err, codes, if◌then◌else◌, ◌==◌}
+use Rattle.std.specs.Prelude.{ℕ, ◌<◌, ◌≤◌, ⊤, ◌^◌, Bool, true, false, List, [], ◌∷◌, Option, Some, None, Result, Ok, Err, codes, if◌then◌else◌, ◌==◌}
 use Rattle.std.specs.Str.{bytes_eq}
 use Rattle.tm_number.specs.Numbers.{plain_of}
 use Rattle.tm_call.specs.declared.words.Command.{Command}
@@ -23,7 +23,7 @@ alone (Ok command) (word ∷ words) = Err 1
 abbrev pub seed_of : List ℕ → Option ℕ
 seed_of word = plain_of (2 ^ 64) word
 
--- 0 is no size
+-- 0 is no size, and no number of workers
 abbrev pub not_none : Option ℕ → Option ℕ
 not_none None = None
 not_none (Some size) = if size == 0 then None else Some size
@@ -51,12 +51,47 @@ abbrev pub gen_of : List (List ℕ) → Result Command ℕ
 gen_of [] = Err 1
 gen_of (word ∷ words) = with_seed (seed_of word) words
 
--- the command that the words name, or the first place at which no form of a command goes on
+-- the command that the words name, or the first place at which no form of a command goes on; each
+-- of these commands is done without threads
 abbrev pub read_words : List (List ℕ) → Result Command ℕ
 read_words [] = Err 0
 read_words (word ∷ words) = if bytes_eq word (codes "gen") then gen_of words else alone (command_of word) words
 
--- a command that words can name: `gen` has no more trees than 4,096
+-- a number of workers: a plain number from 1 to 16
+abbrev pub workers_of : List ℕ → Option ℕ
+workers_of word = not_none (plain_of 17 word)
+
+-- the words after `replay`, a number of workers and `rerun`: none
+abbrev pub with_rerun : ℕ → List (List ℕ) → Result Command ℕ
+with_rerun workers [] = Ok (Command.ReplayRerun workers)
+with_rerun workers (word ∷ words) = Err 3
+
+-- the words after `replay` and a number of workers: none, or `rerun`
+abbrev pub with_workers : Option ℕ → List (List ℕ) → Result Command ℕ
+with_workers None words = Err 1
+with_workers (Some workers) [] = Ok (Command.Replay workers)
+with_workers (Some workers) (word ∷ words) = if bytes_eq word (codes "rerun") then with_rerun workers words else Err 2
+
+-- the words after `replay`: a number of workers, and `rerun` where its run is rerun
+abbrev pub replay_of : List (List ℕ) → Result Command ℕ
+replay_of [] = Err 1
+replay_of (word ∷ words) = with_workers (workers_of word) words
+
+-- the same where there are threads: the commands are `replay` and those without threads
+abbrev pub run_words : List (List ℕ) → Result Command ℕ
+run_words [] = Err 0
+run_words (word ∷ words) = if bytes_eq word (codes "replay") then replay_of words else read_words (word ∷ words)
+
+-- a command that is done without threads
+abbrev pub is_alone : Command → Bool
+is_alone (Command.Replay workers) = false
+is_alone (Command.ReplayRerun workers) = false
+is_alone _ = true
+
+-- a command that words can name: `gen` has no more trees than 4,096, and `replay` from 1 to 16
+-- workers
 abbrev pub IsSized : Command → Type 0
 IsSized (Command.Gen seed size) = size ≤ 4096
+IsSized (Command.Replay workers) = (0 < workers) × (workers ≤ 16)
+IsSized (Command.ReplayRerun workers) = (0 < workers) × (workers ≤ 16)
 IsSized _ = ⊤

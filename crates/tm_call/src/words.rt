@@ -1,10 +1,12 @@
 //! The words of a call: which command they name, or the first place at which no form goes on.
-ghost use Rattle.std.specs.Prelude.{◌≡◌, ◌≤◌, map, string_bytes, IfOk, IfSome};
-ghost use Rattle.tm_call.specs.Words.{read_words, command_of, alone, seed_of, size_of, sized, gen_of, IsSized};
+ghost use Rattle.std.specs.Prelude.{◌≡◌, ◌<◌, ◌≤◌, true, map, string_bytes, IfOk, IfSome};
+ghost use Rattle.tm_call.specs.Words.{read_words, command_of, alone, seed_of, size_of, sized, gen_of, is_alone, IsSized};
+ghost use Rattle.tm_call.specs.Words.{run_words, workers_of, with_rerun, replay_of};
 
 use tm_number::plain_number;
 
-/// What the words can ask for; of `gen` with its seed and its size.
+/// What the words can ask for; of `gen` with its seed and its size, and of `replay`, without and
+/// with `rerun`, with its number of workers.
 #[derive(Clone, Copy)]
 pub enum Command {
     Print,
@@ -12,12 +14,15 @@ pub enum Command {
     Learn,
     Sort,
     Gen(u64, u32),
+    Replay(u32),
+    ReplayRerun(u32),
 }
 
 // The command of a first word that has no others after it.
 fn named_by(word: &str) -> Result<Command, u64>
     ensures exact { result ≡ command_of word.now }
     ensures sized { IfOk result IsSized }
+    ensures alone { IfOk result (λ command. is_alone command ≡ true) }
 {
     if word == "print" {
         return Ok(Command::Print);
@@ -36,9 +41,11 @@ fn named_by(word: &str) -> Result<Command, u64>
 
 // A command after which no word may come.
 fn alone(named: Result<Command, u64>, others: &[String]) -> Result<Command, u64>
-    requires { IfOk named IsSized }
+    requires sized { IfOk named IsSized }
+    requires alone { IfOk named (λ command. is_alone command ≡ true) }
     ensures exact { result ≡ alone named (map string_bytes others.now) }
     ensures sized { IfOk result IsSized }
+    ensures alone { IfOk result (λ command. is_alone command ≡ true) }
 {
     match named {
         Err(place) => Err(place),
@@ -72,6 +79,7 @@ fn size_of(word: &str) -> Option<u32>
 fn sized(seed: u64, others: &[String]) -> Result<Command, u64>
     ensures exact { result ≡ sized seed (map string_bytes others.now) }
     ensures sized { IfOk result IsSized }
+    ensures alone { IfOk result (λ command. is_alone command ≡ true) }
 {
     match others {
         [] => Err(2),
@@ -90,6 +98,7 @@ fn sized(seed: u64, others: &[String]) -> Result<Command, u64>
 fn gen_of(others: &[String]) -> Result<Command, u64>
     ensures exact { result ≡ gen_of (map string_bytes others.now) }
     ensures sized { IfOk result IsSized }
+    ensures alone { IfOk result (λ command. is_alone command ≡ true) }
 {
     match others {
         [] => Err(1),
@@ -100,10 +109,12 @@ fn gen_of(others: &[String]) -> Result<Command, u64>
     }
 }
 
-/// The command, or the first place at which no form of a command goes on.
+/// The command, which needs no threads, or the first place at which no form of such a command goes
+/// on.
 pub fn read_command(words: &[String]) -> Result<Command, u64>
     ensures exact { result ≡ read_words (map string_bytes words.now) }
     ensures sized { IfOk result IsSized }
+    ensures alone { IfOk result (λ command. is_alone command ≡ true) }
 {
     match words {
         [] => Err(0),
@@ -112,6 +123,78 @@ pub fn read_command(words: &[String]) -> Result<Command, u64>
                 gen_of(others)
             } else {
                 alone(named_by(word), others)
+            }
+        }
+    }
+}
+
+// The number of workers that a word writes.
+#[tactic(auto, using(tm_number::proofs::NumberLaws::plain_small))]
+fn workers_of(word: &str) -> Option<u32>
+    ensures exact { result ≡ workers_of word.now }
+    ensures some { IfSome result (λ workers. 0 < workers) }
+    ensures few { IfSome result (λ workers. workers ≤ 16) }
+{
+    match plain_number(17, word.as_bytes()) {
+        None => None,
+        Some(workers) => {
+            if workers == 0 {
+                None
+            } else {
+                Some(workers as u32)
+            }
+        }
+    }
+}
+
+// The words after `replay`, a number of workers and `rerun`.
+fn with_rerun(workers: u32, others: &[String]) -> Result<Command, u64>
+    requires some { 0 < workers }
+    requires few { workers ≤ 16 }
+    ensures exact { result ≡ with_rerun workers (map string_bytes others.now) }
+    ensures sized { IfOk result IsSized }
+{
+    match others {
+        [] => Ok(Command::ReplayRerun(workers)),
+        [_, ..] => Err(3),
+    }
+}
+
+// The words after `replay`.
+fn replay_of(others: &[String]) -> Result<Command, u64>
+    ensures exact { result ≡ replay_of (map string_bytes others.now) }
+    ensures sized { IfOk result IsSized }
+{
+    match others {
+        [] => Err(1),
+        [word, others @ ..] => match workers_of(word) {
+            None => Err(1),
+            Some(workers) => match others {
+                [] => Ok(Command::Replay(workers)),
+                [word, others @ ..] => {
+                    if word.as_str() == "rerun" {
+                        with_rerun(workers, others)
+                    } else {
+                        Err(2)
+                    }
+                }
+            },
+        },
+    }
+}
+
+/// The command, of all that there are, or the first place at which no form of a command goes on.
+pub fn read_any_command(words: &[String]) -> Result<Command, u64>
+    ensures exact { result ≡ run_words (map string_bytes words.now) }
+    ensures sized { IfOk result IsSized }
+{
+    match words {
+        [] => Err(0),
+        [word, others @ ..] => {
+            if word.as_str() == "replay" {
+                replay_of(others)
+            } else {
+                read_command(words)
             }
         }
     }

@@ -28,7 +28,8 @@ policy_files texts =
       manager = content texts FileName.Manager;
     }
 
--- the policy that the files load to, or the fault of loading them: a line that isn't done, or a domain without its profile
+-- the policy that the files load to, or the fault of loading them: a line that isn't done, or a
+-- domain without its profile
 unfoldable pub policy_of : Texts → Result Policy LoadFault
 policy_of texts = load tomoyo_grammar (policy_files texts)
 

@@ -48,7 +48,8 @@ abbrev pub record_count : Trace → ℕ
 record_count [] = 0
 record_count (tree ∷ trees) = length tree.records + record_count trees
 
--- the first limit that is passed: 200,000 records, 4,096 trees, 10,000 edits, 8 editors, 1,000,000 turns
+-- the first limit that is passed: 200,000 records, 4,096 trees, 10,000 edits, 8 editors, 1,000,000
+-- turns
 abbrev pub excess : Loaded → Option What
 excess loaded =
     if nat_lt 200000 (record_count loaded.trace) then Some What.Records

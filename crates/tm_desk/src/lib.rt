@@ -19,7 +19,8 @@ pub struct Desk<'a, F> {
 impl<'a, F: Fn(&Query) -> u64> Desk<'a, F> {
     ghost use Rattle.tm_desk.specs.Desks.{AnswersBook, desk_book, IsDesk};
 
-    /// A desk of this book. The closure may be called on every query, and answers with the code of the book's answer. Takes no memory.
+    /// A desk of this book. The closure may be called on every query, and answers with the code of
+    /// the book's answer. Takes no memory.
     #[tactic(auto, unfolding(crate::specs::Desks::desk_book, crate::specs::Desks::IsDesk))]
     pub fn new(book: &'a Book, answerer: F) -> Desk<'a, F>
         requires { AnswersBook F.Fn answerer book.now }

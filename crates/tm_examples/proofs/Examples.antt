@@ -109,7 +109,8 @@ process pid = record { pid = pid; ppid = 0; ids = no_ids }
 abbrev pub tree : ℕ → List Request → Tree
 tree pid requests = record { start = «<kernel>»; pid = pid; records = map (λ r. Item.Do pid r) requests }
 
--- Enough of the grammars: file lines with one or more of the permissions, and the lines that the rows' editors give
+-- Enough of the grammars: file lines with one or more of the permissions, and the lines that the
+-- rows' editors give
 
 abbrev pub permission_words : List (ℕ × Text)
 permission_words = (1, codes "execute") ∷ (2, codes "read") ∷ (4, codes "write") ∷ (32, codes "getattr") ∷ []

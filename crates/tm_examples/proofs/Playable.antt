@@ -1,4 +1,5 @@
--- There is a scene that can be played, with a supervisor: the premises of the laws of plays can be met.
+-- There is a scene that can be played, with a supervisor: the premises of the laws of plays can be
+-- met.
 use Rattle.std.proofs.Common.{◌≡◌, ℕ, zero, suc, [], ◌∷◌, true, refl}
 use Rattle.std.specs.Prelude.{Some, None, IsSome}
 use Rattle.tm_types.specs.declared.policy.Domain.{Domain}

@@ -56,7 +56,8 @@ kinds file lines = map (λ text. kind (read_line file text)) lines
 
 -- Namespace words and domain names
 
--- a path in angle brackets is a namespace word, also one with patterns, with brackets of its own, or `/` alone
+-- a path in angle brackets is a namespace word, also one with patterns, with brackets of its own,
+-- or `/` alone
 namespace_words : map (read_line FileKind.Domain) (codes "</\\*>" ∷ codes "</a>b>" ∷ codes "</>" ∷ []) ≡ map (λ name. Ok (PolicyLine.Domain (DomainRule.Choose name))) (codes "</\\*>" ∷ codes "</a>b>" ∷ codes "</>" ∷ [])
 unfolding read
 namespace_words = refl
@@ -73,7 +74,8 @@ no_namespace_of_profiles = refl
 
 -- Groups and aggregators
 
--- the name of a group may begin with `@`, and so may the first name of an aggregator, which is any pattern
+-- the name of a group may begin with `@`, and so may the first name of an aggregator, which is any
+-- pattern
 at_signs : map (read_line FileKind.Exception) (codes "path_group @@odd /a" ∷ codes "aggregator @a /b" ∷ codes "aggregator a /b" ∷ []) ≡ map (λ rule. Ok (PolicyLine.Exception (line false kernel rule))) (ExceptRule.PathGroup (codes "@@odd") (literal (codes "/a")) ∷ ExceptRule.Aggregator (literal (codes "@a")) (codes "/b") ∷ ExceptRule.Aggregator (literal (codes "a")) (codes "/b") ∷ [])
 unfolding read
 at_signs = refl
@@ -85,7 +87,8 @@ no_at_signs = refl
 
 -- Numbers and addresses
 
--- leading zeros of octal and hexadecimal numbers are right and leave no trace; the base stays, also in the two ends of a range
+-- leading zeros of octal and hexadecimal numbers are right and leave no trace; the base stays, also
+-- in the two ends of a range
 abbrev ends : Base → ℕ → Base → ℕ → ExceptRule
 ends low_base low high_base high = ExceptRule.NumberGroup (codes "N") (record { low = record { value = low; base = low_base }; high = record { value = high; base = high_base } })
 
@@ -122,7 +125,8 @@ entry_line args bits = PolicyLine.Domain (DomainRule.Acl false (record { args = 
 abbrev one_or_more : Pattern
 one_or_more = record { repeat = Repeat.Once; first = []; minus = [] } ∷ record { repeat = Repeat.OneOrMore; first = Element.Byte 98 ∷ []; minus = [] } ∷ record { repeat = Repeat.Once; first = []; minus = [] } ∷ []
 
--- a name of the environment may begin with `@`, and may have slashes and repeated components; it has no `=`
+-- a name of the environment may begin with `@`, and may have slashes and repeated components; it
+-- has no `=`
 environment : map (read_line FileKind.Domain) (codes "misc env @A" ∷ codes "misc env /\\{b\\}/" ∷ codes "misc env A=B" ∷ []) ≡ Ok (entry_line (Args.Env (literal (codes "@A"))) 1) ∷ Ok (entry_line (Args.Env one_or_more) 1) ∷ Err LineKind.Name ∷ []
 unfolding read
 environment = refl

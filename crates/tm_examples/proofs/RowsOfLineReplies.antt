@@ -1,4 +1,5 @@
--- What lines do that are read: the order of their replies, what is deleted and shared, cursors, loads.
+-- What lines do that are read: the order of their replies, what is deleted and shared, cursors,
+-- loads.
 use Rattle.std.specs.Prelude.{◌≡◌, ℕ, List, [], ◌∷◌, map, length, Option, Some, None, Result, Ok, Err, codes, refl}
 use Rattle.tm_word.specs.Words.{Text}
 use Rattle.tm_word.specs.Printing.{literal}
@@ -34,7 +35,8 @@ after_lines so_far (text ∷ texts) = after_lines (apply_line lines so_far.polic
 abbrev reply_to : Policy → Cursor → Text → EditReply
 reply_to policy cursor text = (apply_line lines policy FileKind.Domain cursor text).reply
 
--- A bad line comes before a domain that isn't chosen, that before a profile that isn't there, or a line that isn't
+-- A bad line comes before a domain that isn't chosen, that before a profile that isn't there, or a
+-- line that isn't
 
 without_a_domain : map (reply_to (kernel_with []) None) (codes "use_profile 300" ∷ codes "use_profile 9" ∷ codes "delete use_group 9" ∷ codes "delete file read /a" ∷ codes "delete file reed /a" ∷ []) ≡ EditReply.BadLine LineKind.Number ∷ EditReply.NoDomain ∷ EditReply.NoDomain ∷ EditReply.NoDomain ∷ EditReply.BadLine LineKind.Keyword ∷ []
 unfolding computed read
@@ -44,7 +46,8 @@ with_a_domain : map (reply_to (kernel_with []) (Some 0)) (codes "use_profile 300
 unfolding computed read
 with_a_domain = refl
 
--- A deleted ACL line takes away what stands of its permissions, and finds nothing only where none stands
+-- A deleted ACL line takes away what stands of its permissions, and finds nothing only where none
+-- stands
 
 abbrev own_entries : List Domain → List Entry
 own_entries [] = []
@@ -84,7 +87,8 @@ two_domains = policy_of kernel_namespace (domain «<kernel>» 1 [] ∷ domain (c
 abbrev cursor_after : Cursor → Text → Cursor
 cursor_after cursor text = (apply_line lines two_domains FileKind.Domain cursor text).cursor
 
--- deleting a domain empties the cursor, deleting none leaves it; a `select` that finds none empties it too
+-- deleting a domain empties the cursor, deleting none leaves it; a `select` that finds none empties
+-- it too
 cursors : map (cursor_after (Some 1)) (codes "delete <kernel> /a" ∷ codes "delete <kernel> /b" ∷ codes "select <kernel> /b" ∷ codes "select <kernel>" ∷ codes "select <kern" ∷ []) ≡ None ∷ Some 1 ∷ None ∷ Some 0 ∷ Some 1 ∷ []
 unfolding computed read
 cursors = refl
@@ -125,7 +129,8 @@ abbrev load_fault : Result Policy LoadFault → Option LoadFault
 load_fault (Ok policy) = None
 load_fault (Err wrong) = Some wrong
 
--- a profile that isn't there is refused at its line; a domain whose profile isn't there only at the end
+-- a profile that isn't there is refused at its line; a domain whose profile isn't there only at the
+-- end
 loads : map (λ text. load_fault (loaded text)) (codes "<kernel>\nuse_profile 1\n" ∷ codes "</s>\nuse_profile 1\n" ∷ codes "</s>\n<kernel>\n" ∷ codes "</s>\nuse_profile 0\n" ∷ codes "use_profile 0\n" ∷ codes "use_profile 256" ∷ []) ≡ Some (LoadFault.Line FileKind.Domain 2 EditReply.NoProfile) ∷ None ∷ Some (LoadFault.UndefinedProfile 1) ∷ Some (LoadFault.Line FileKind.Domain 2 EditReply.NoProfile) ∷ Some (LoadFault.Line FileKind.Domain 1 EditReply.NoDomain) ∷ Some (LoadFault.Line FileKind.Domain 1 (EditReply.BadLine LineKind.Number)) ∷ []
 unfolding computed read load_lines load
 loads = refl

@@ -1,4 +1,5 @@
--- A name of more than 4,085 bytes is a wrong domain name wherever one stands: in scripts, traces and policy lines.
+-- A name of more than 4,085 bytes is a wrong domain name wherever one stands: in scripts, traces
+-- and policy lines.
 use Rattle.std.specs.Prelude.{◌≡◌, ℕ, ◌==◌, nat_le, Bool, true, false, cond, List, [], ◌∷◌, length, replicate, Option, Some, None, Result, Ok, Err, codes, refl}
 use Rattle.std.specs.List.{slice_split}
 use Rattle.tm_word.specs.Words.{Text}

@@ -102,7 +102,8 @@ too_long : leads (policy_of kernel_namespace (domain «<kernel>» 4 [] ∷ [])) 
 unfolding computed
 too_long = refl
 
--- A group entry with a condition on the uid: the run is clean, but its policy isn't plain, and the rerun ends elsewhere
+-- A group entry with a condition on the uid: the run is clean, but its policy isn't plain, and the
+-- rerun ends elsewhere
 
 abbrev any_of_bin : NameUnion
 any_of_bin = NameUnion.One (record { repeat = Repeat.Once; first = []; minus = [] } ∷ record { repeat = Repeat.Once; first = Element.Byte 98 ∷ Element.Byte 105 ∷ Element.Byte 110 ∷ []; minus = [] } ∷ record { repeat = Repeat.Once; first = Element.Star ∷ []; minus = [] } ∷ [])

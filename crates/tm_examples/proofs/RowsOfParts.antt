@@ -79,7 +79,8 @@ one_blank : matches (empty ∷ plain (bytes (codes "d")) ∷ plain (Element.One 
 unfolding computed
 one_blank = refl
 
--- Groups: the first member that matches, by its place in the whole list; a group without lines has none
+-- Groups: the first member that matches, by its place in the whole list; a group without lines has
+-- none
 
 abbrev groups : Groups
 groups =
@@ -215,7 +216,8 @@ literal_first : map (place_of (lit_a ∷ star ∷ [])) (codes "/a" ∷ codes "/b
 unfolding computed
 literal_first = refl
 
--- An editor whose domain is a manager line and whose uid is 5 is a manager where `manage_by_non_root` stands
+-- An editor whose domain is a manager line and whose uid is 5 is a manager where
+-- `manage_by_non_root` stands
 
 abbrev managed : Bool → Policy
 managed by_non_root = record { namespaces = []; domains = []; by_non_root = by_non_root; managers = «<kernel>» ∷ []; opened = false }

@@ -134,7 +134,8 @@ any_of_bin_run : (audit : Option Text) → Plays any_of_bin [] (record {
 unfolding computed
 any_of_bin_run audit = record { number_of_rounds = 2; over = (refl, (refl, tt)); run_is = refl }
 
--- A full domain: the first line replies `quota` and the flag stands, the second look is granted by it
+-- A full domain: the first line replies `quota` and the flag stands, the second look is granted by
+-- it
 
 abbrev full_profile : Namespace
 full_profile = record kernel_namespace { profiles = (2, record { comment = []; max_audit_log = 1024; max_learning_entry = 3; config = record { mode = Mode.Learning; logs = record { grant = false; reject = false } }; slots = [] }) ∷ [] }
@@ -212,7 +213,8 @@ stranger_run : Plays (overtaken 5) overtaking (record {
 unfolding computed
 stranger_run = record { number_of_rounds = 0; over = (refl, (refl, (refl, tt))); run_is = refl }
 
--- A held query: the book asks for a retry, an edit grants the line meanwhile, and the second look finds it
+-- A held query: the book asks for a retry, an edit grants the line meanwhile, and the second look
+-- finds it
 
 abbrev any_words : ListWords
 any_words = record { patterns = []; any = true }
@@ -286,7 +288,8 @@ left_alone_run : Plays left_alone (Turn.Desk ∷ Turn.Tree 1 ∷ Turn.Tree 1 ∷
 unfolding computed
 left_alone_run = record { number_of_rounds = 3; over = (refl, (refl, (refl, tt))); run_is = refl }
 
--- A deleted domain goes on for the process in it, and a new one of its name is made by another process
+-- A deleted domain goes on for the process in it, and a new one of its name is made by another
+-- process
 
 abbrev deleted : Scene
 deleted =

@@ -1,4 +1,5 @@
--- Scripts whose first wrong word is not their only one, and forms that are right next to wrong ones.
+-- Scripts whose first wrong word is not their only one, and forms that are right next to wrong
+-- ones.
 use Rattle.std.specs.Prelude.{◌≡◌, ℕ, List, [], ◌∷◌, map, Option, Some, None, Result, Ok, Err, codes, refl}
 use Rattle.tm_word.specs.Words.{Text}
 use Rattle.tm_word.specs.Spelling.{words_of, spelled_word, word_of, head_of}
@@ -59,7 +60,8 @@ first_wrong_line : faults answers_of (codes "detach 1\nrule yes : any : any\nrul
 unfolding read
 first_wrong_line = refl
 
--- an edit after an editor is right, whatever its line says; one before it isn't, whatever its line lacks
+-- an edit after an editor is right, whatever its line says; one before it isn't, whatever its line
+-- lacks
 edits_and_editors : faults edits_of (codes "editor 0 0 /a <kernel>\nprofile ::" ∷ codes "profile ::\neditor 0 0 /a <kernel>" ∷ codes "profile\neditor 0 0 /a <kernel>" ∷ []) ≡ None ∷ Some (1, ScriptKind.NoEditor) ∷ Some (1, ScriptKind.NoEditor) ∷ []
 unfolding read
 edits_and_editors = refl
@@ -84,7 +86,8 @@ answered (Err e) asked = None
 abbrev asks : Text → Text → Query
 asks domain line = record { serial = 1; retry = 0; domain = domain; line = line }
 
--- `any` alone matches every list of words, also none; `any` before another word is a word of its own
+-- `any` alone matches every list of words, also none; `any` before another word is a word of its
+-- own
 any_alone : map (answered (answers_of (codes "rule yes : any : any"))) (asks (codes "<kernel> /a") (codes "file read /x") ∷ asks [] [] ∷ []) ≡ Some Answer.Yes ∷ Some Answer.Yes ∷ []
 unfolding read
 any_alone = refl

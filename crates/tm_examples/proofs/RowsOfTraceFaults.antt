@@ -76,7 +76,8 @@ first_wrong_line : fault (trace_of (text ([] ∷ codes "fork 1 2" ∷ codes "do 
 unfolding read
 first_wrong_line = refl
 
--- a wrong word of a tree's domain before those of later lines, and a request before any tree before its own wrong words
+-- a wrong word of a tree's domain before those of later lines, and a request before any tree before
+-- its own wrong words
 no_tree_and_no_domain : map (λ lines. fault (trace_of lines)) (codes "do 0 foo" ∷ codes "tree 1 <kern\ndo 0 foo" ∷ codes "dos" ∷ []) ≡ Some (1, TraceKind.NoTree) ∷ Some (1, TraceKind.NoDomain) ∷ Some (1, TraceKind.Keyword) ∷ []
 unfolding read
 no_tree_and_no_domain = refl
@@ -98,7 +99,8 @@ no_names : faults (codes "do 1 network inet stream bind ::1 80 path1.uid=0" ∷ 
 unfolding read
 no_names = refl
 
--- a word is cut at its first `=`: the word after it may have more of them, the name before it has none
+-- a word is cut at its first `=`: the word after it may have more of them, the name before it has
+-- none
 environment : kept (codes "do 1 file execute /a exec.realpath=\"/a=b\" exec.argv=\"a=b\" exec.envp[\"A\"]=\"b=c\" exec.envp[\"B\"\"]=\"\"\"" ∷ []) ≡ true
 unfolding read
 environment = refl
@@ -107,7 +109,8 @@ environment_names : faults (codes "do 1 file execute /a exec.realpath=\"/a\" exe
 unfolding read
 environment_names = refl
 
--- an argument and an environment name once each, an argument once per argument; a real path and a target once
+-- an argument and an environment name once each, an argument once per argument; a real path and a
+-- target once
 repeated_words : faults (codes "do 1 file execute /a exec.realpath=\"/a\" exec.argv=\"a\" exec.argv=\"a\" exec.envp[\"A\"]=\"b\" exec.envp[\"B\"]=\"b\"" ∷ codes "do 1 file execute /a exec.realpath=\"/a\" exec.argv=\"a\" exec.realpath=\"/b\"" ∷ codes "do 1 file symlink /a symlink.target=\"b\" symlink.target=\"c\"" ∷ []) ≡ None ∷ Some (2, TraceKind.Attribute) ∷ Some (2, TraceKind.Attribute) ∷ []
 unfolding read
 repeated_words = refl
@@ -119,7 +122,8 @@ at_signs : faults (codes "do 1 misc env @A" ∷ codes "do 1 network unix dgram s
 unfolding read
 at_signs = refl
 
--- a manual request takes the words that begin with `/`; the first that doesn't is judged as an attribute
+-- a manual request takes the words that begin with `/`; the first that doesn't is judged as an
+-- attribute
 manual_words : faults (codes "do 1 task manual_domain_transition <kernel> /a /\\*" ∷ codes "do 1 task manual_domain_transition <kern /a" ∷ codes "do 1 task manual_domain_transition <kernel> /a /\\q x" ∷ codes "do 1 task manual_domain_transition <kernel> x /\\q" ∷ []) ≡ None ∷ Some (2, TraceKind.Request) ∷ Some (2, TraceKind.Request) ∷ Some (2, TraceKind.Attribute) ∷ []
 unfolding read
 manual_words = refl

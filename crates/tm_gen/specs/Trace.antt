@@ -1,4 +1,5 @@
--- The generated trace: trees of 40 records, of which each tenth executes a program and the others read, write or look at a file.
+-- The generated trace: trees of 40 records, of which each tenth executes a program and the others
+-- read, write or look at a file.
 use Rattle.std.specs.Prelude.{ℕ, zero, suc, ◌%◌, ◌==◌, if◌then◌else◌, [], ◌++◌, codes, decimal}
 use Rattle.tm_word.specs.Words.{Text}
 use Rattle.tm_gen.specs.Draws.{next_state, drawn}
@@ -24,7 +25,8 @@ access_words access =
 abbrev pub access_line : ℕ → ℕ → ℕ → Text
 access_line tree access file = numbered (codes "do ") tree ++ (numbered (access_words access) file ++ codes "\n")
 
--- the record at a place, from 0, in this state: one draw says which program is executed, or one which access is made and a second one to which file
+-- the record at a place, from 0, in this state: one draw says which program is executed, or one
+-- which access is made and a second one to which file
 abbrev pub record_line : ℕ → ℕ → ℕ → Text
 record_line tree place state =
     if place % 10 == 0 then execute_line tree (drawn 8 state) else access_line tree (drawn 3 state) (drawn 1000 (next_state state))

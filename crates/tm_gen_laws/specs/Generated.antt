@@ -12,6 +12,7 @@ generated_files seed size =
     ∷ (FileName.DomainPolicy, (generated seed size).domain) ∷ (FileName.Manager, (generated seed size).manager)
     ∷ (FileName.Trace, (generated seed size).trace) ∷ []
 
--- nothing of them is refused: they are read, within all limits, and each tree starts in a live domain
+-- nothing of them is refused: they are read, within all limits, and each tree starts in a live
+-- domain
 abbrev pub NeverRefused : Type 0
 NeverRefused = (seed size : ℕ) → size ≤ 4096 → step_refusal (generated_files seed size) ≡ None

@@ -6,7 +6,8 @@ use Rattle.tm_entry.specs.Entries.{entry_words, is_entry}
 use Rattle.tm_policy_line.specs.Reading.{read_line}
 use Rattle.tm_trace.specs.Printing.{request_text, attributes_text}
 
--- policy lines as files write them, entries and requests as lines print them, without the byte that ends a line
+-- policy lines as files write them, entries and requests as lines print them, without the byte that
+-- ends a line
 abbrev pub tomoyo_grammar : Grammar
 tomoyo_grammar =
     record {

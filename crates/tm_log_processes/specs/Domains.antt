@@ -5,7 +5,8 @@ use Rattle.tm_rules.specs.Policy.{namespace_word}
 use Rattle.tm_domain.specs.Names.{parent_of}
 use Rattle.tm_word.specs.Texts.{texts_equal}
 
--- to a namespace word, to the domain with one more word, or to its namespace word with one more word
+-- to a namespace word, to the domain with one more word, or to its namespace word with one more
+-- word
 abbrev pub leads_by : Option DomainName → DomainName → Bool
 leads_by None from = true
 leads_by (Some front) from = texts_equal front from || texts_equal front (namespace_word from)

@@ -75,7 +75,8 @@ new_tree start pid = record { start = start; pid = pid; records = [] }
 unfoldable pub planted : Grown → DomainName → ℕ → Grown × ℕ
 planted s start pid = (record s { trees = s.trees ++ new_tree start pid ∷ []; bytes = sum_of s.bytes (sum_of (length start) (7 + digits pid)) }, length s.trees)
 
--- a record has room whose request has this size: 200,000 lines without five, 4,096 trees without two, 16,777,216 bytes without 9,000
+-- a record has room whose request has this size: 200,000 lines without five, 4,096 trees without
+-- two, 16,777,216 bytes without 9,000
 abbrev pub has_room : Grown → ℕ → Bool
 has_room s size = nat_le s.records 199995 && nat_le (length s.trees) 4094 && nat_le (sum_of s.bytes size) 16768216
 

@@ -8,8 +8,8 @@ use tm_list::NoMemory;
 use tm_types::unions::DomainName;
 use tm_word::{bytes_equal, texts_equal};
 
-/// Whether one reset, child or initialize transition may lead from a domain to another: to a namespace word, to the domain with one
-/// more word, or to its namespace word with one more word.
+/// Whether one reset, child or initialize transition may lead from a domain to another: to a
+/// namespace word, to the domain with one more word, or to its namespace word with one more word.
 #[tactic(auto, unfolding(crate::specs::Domains::leads))]
 pub fn leads(alloc: Global, from: &DomainName, to: &DomainName) -> Result<bool, NoMemory>
     ensures { IfOk result (λ found. found ≡ leads from.now to.now) }

@@ -19,7 +19,8 @@ pub const MAX_TREES: usize = 4_096;
 /// How many bytes.
 pub const MAX_BYTES: usize = 16_777_216;
 
-// The most that a record adds: a parent, its manual transition, a fork, ids and its own request, of which the first two name a domain.
+// The most that a record adds: a parent, its manual transition, a fork, ids and its own request, of
+// which the first two name a domain.
 const MOST_RECORDS: usize = 5;
 
 const MOST_TREES: usize = 2;
@@ -153,7 +154,8 @@ impl Forest {
         self.lines.len()
     }
 
-    /// Whether the lines of a further record have room in a trace: at most five lines and two trees, one of them a request of this size.
+    /// Whether the lines of a further record have room in a trace: at most five lines and two
+    /// trees, one of them a request of this size.
     pub fn has_room(&self, size: usize) -> bool
         ensures { result ≡ has_room self.now size }
     {
@@ -190,7 +192,8 @@ impl Forest {
         Ok(())
     }
 
-    /// A child that the process of a line makes just before it, after those that it made there earlier.
+    /// A child that the process of a line makes just before it, after those that it made there
+    /// earlier.
     #[tactic(auto, unfolding(crate::specs::Forests::forked_before))]
     pub fn fork_before(&mut self, line: usize, child: u32) -> Result<(), NoMemory>
         ensures { OnOk result (self.new ≡ forked_before self.old line child) }

@@ -9,7 +9,8 @@ use tm_list::NoMemory;
 use tm_types::unions::DomainName;
 use tm_word::texts_equal;
 
-/// The places of executes in the order in which they were recorded, each with the domain of its process there.
+/// The places of executes in the order in which they were recorded, each with the domain of its
+/// process there.
 #[derive(Drop)]
 pub struct Places {
     list: Vec<Place>,

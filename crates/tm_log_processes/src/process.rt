@@ -4,7 +4,8 @@ ghost use Rattle.tm_log_processes.specs.Processes.{nobody, born, same_ids, no_id
 
 use tm_types::request::Ids;
 
-/// Who a process is: its number in the trace, the key by which records name it, its parent's pid, and its parent, where they are known.
+/// Who a process is: its number in the trace, the key by which records name it, its parent's pid,
+/// and its parent, where they are known.
 #[derive(Clone, Copy)]
 pub struct Origin {
     pub number: u32,
@@ -13,8 +14,8 @@ pub struct Origin {
     pub parent: Option<usize>,
 }
 
-/// A process: who it is, its tree, its ids, whether an execute was its last move, whether it wrote to `self_domain` since its last
-/// execute, and the place of its last execute.
+/// A process: who it is, its tree, its ids, whether an execute was its last move, whether it wrote
+/// to `self_domain` since its last execute, and the place of its last execute.
 #[derive(Clone, Copy)]
 pub struct Process {
     pub origin: Origin,
@@ -25,7 +26,8 @@ pub struct Process {
     pub last_execute: Option<usize>,
 }
 
-/// A place in the trace just before the line of an execute: the line, the tree, and the ids of the process there.
+/// A place in the trace just before the line of an execute: the line, the tree, and the ids of the
+/// process there.
 #[derive(Clone, Copy)]
 pub struct Place {
     pub line: usize,

@@ -27,8 +27,9 @@ use Rattle.tm_log_trace.specs.declared.maker.Told.{Told}
 use Rattle.tm_log_trace.specs.declared.notes.Note.{Note}
 use Rattle.tm_log_trace.specs.declared.notes.Warning.{Warning}
 
--- the lines, the processes, the places of executes, the process of each key, the domain of the first record of each pid, the last number
--- that was invented, the record that is taken, and the warnings
+-- the lines, the processes, the places of executes, the process of each key, the domain of the
+-- first record of each pid, the last number that was invented, the record that is taken, and the
+-- warnings
 pub record Making : Type 0 where
   pub forest : Grown
   pub list : Listed
@@ -118,7 +119,8 @@ abbrev pub put_by : Option ℕ → Making → Origin → DomainName → Making �
 put_by None s origin domain = put_before (first_left s.places domain) s origin domain
 put_by (Some p) s origin domain = forked s p origin domain
 
--- a process in a domain to which no execute leads: a child of one that is there, or once was, or else a tree
+-- a process in a domain to which no execute leads: a child of one that is there, or once was, or
+-- else a tree
 unfoldable pub put : Making → Origin → DomainName → Making × ℕ
 put s origin domain = put_by (settled_in s.list domain) s origin domain
 
@@ -169,7 +171,8 @@ left_if left (Some i) domain = if is_place_in left i domain then slice_get left.
 abbrev pub left_by : Making → ℕ → DomainName → Option Place
 left_by s q domain = left_if s.places (at s.list q).last_execute domain
 
--- by a place that its parent left, by a manual transition of its parent, or else where nobody can tell
+-- by a place that its parent left, by a manual transition of its parent, or else where nobody can
+-- tell
 abbrev pub child_last : Option Place → Making → ℕ → Origin → DomainName → Making × ℕ
 child_last (Some place) s q origin domain = forked_at s place origin domain
 child_last None s q origin domain =
@@ -224,7 +227,8 @@ abbrev pub differs : Option ℕ → ℕ → Bool
 differs None pid = false
 differs (Some before) pid = not (before == pid)
 
--- a parent that isn't the one that it had: init or one that it comes from takes it over, any other one has a new process
+-- a parent that isn't the one that it had: init or one that it comes from takes it over, any other
+-- one has a new process
 abbrev pub known_with : Making → ℕ → Told → ℕ → Making × ℕ
 known_with s p told ppid =
     if not (differs (at s.list p).origin.ppid ppid) then settled (handed s p ppid) p told else
@@ -246,7 +250,8 @@ process_by (Some p) s told = known s p told
 unfoldable pub process_of : Making → Told → Making × ℕ
 process_of s told = process_by (process_with s told.key) s told
 
--- the pid, where it is the global one or that of a process that may be in the domain; else the global one
+-- the pid, where it is the global one or that of a process that may be in the domain; else the
+-- global one
 abbrev pub key_by : Option ℕ → Making → Record → ℕ
 key_by None s one = one.global_pid
 key_by (Some p) s one = if fits s.list p one.domain then one.process.pid else one.global_pid

@@ -1,6 +1,9 @@
-//! From the records of an audit log to a trace: which process each belongs to, and what was supposed where the log doesn't show it.
-//! Stands on tm_log, which has the records, and on tm_log_processes, which keeps the processes and the lines.
-//! Promises that the trace and the report of a log are the defined ones, and that the text of the trace is one that `read_trace` accepts.
+//! From the records of an audit log to a trace: which process each belongs to, and what was
+//! supposed where the log doesn't show it.
+//! Stands on tm_log, which has the records, and on tm_log_processes, which keeps the processes and
+//! the lines.
+//! Promises that the trace and the report of a log are the defined ones, and that the text of the
+//! trace is one that `read_trace` accepts.
 #![tactic(auto)]
 
 mod made;

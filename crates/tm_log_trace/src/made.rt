@@ -10,7 +10,8 @@ use tm_list::{NoMemory, Seq};
 use tm_log::{LeftOut, Log, Source, Used};
 use tm_types::request::Trace;
 
-/// How many records a log has, how many of them are used, and how many trees and processes the trace has.
+/// How many records a log has, how many of them are used, and how many trees and processes the
+/// trace has.
 #[derive(Clone, Copy)]
 pub struct Counts {
     pub records: u64,
@@ -19,7 +20,8 @@ pub struct Counts {
     pub processes: usize,
 }
 
-/// The trace of a log, the records that are left out, the warnings, and the record at which the trace reached its limits and the log was cut.
+/// The trace of a log, the records that are left out, the warnings, and the record at which the
+/// trace reached its limits and the log was cut.
 #[derive(Drop)]
 pub struct Made {
     pub trace: Trace,
@@ -126,7 +128,8 @@ fn ended(all: TakenAll, records: u64, left_out: Seq<LeftOut>) -> Result<Made, No
     })
 }
 
-/// Makes the trace of a log. It is cut before the first record that has no room in a trace. Errors: want of memory.
+/// Makes the trace of a log. It is cut before the first record that has no room in a trace. Errors:
+/// want of memory.
 #[tactic(auto, unfolding(crate::specs::Made::trace_made))]
 pub fn make_trace(alloc: Global, log: Log) -> Result<Made, NoMemory>
     ensures { IfOk result (λ made. made ≡ trace_made log) }

@@ -22,8 +22,9 @@ use tm_word::bytes_equal;
 /// The greatest pid of Linux: invented numbers are greater.
 const LAST_PID: u32 = 4_194_304;
 
-/// The trace that is being made: its lines, the processes, the places of executes, which process each key means, the domain of the first
-/// record of each pid, the last number that was invented, the record that is taken, and the warnings.
+/// The trace that is being made: its lines, the processes, the places of executes, which process
+/// each key means, the domain of the first record of each pid, the last number that was invented,
+/// the record that is taken, and the warnings.
 #[derive(Drop)]
 pub(crate) struct Maker {
     forest: Forest,
@@ -178,7 +179,8 @@ impl Maker {
         Ok((forest.into_trace()?, warnings))
     }
 
-    /// Notes the domain of a record that is the first with its pid, where the pid is the global one.
+    /// Notes the domain of a record that is the first with its pid, where the pid is the global
+    /// one.
     #[tactic(auto, unfolding(crate::specs::Making::seen))]
     pub(crate) fn see(&mut self, alloc: Global, one: &Record) -> Result<(), NoMemory>
         ensures { OnOk result (self.new ≡ seen self.old one.now) }
@@ -279,7 +281,8 @@ impl Maker {
         self.places.at(self.places.first_in(domain)?)
     }
 
-    // A process in a domain to which no execute leads: a child of one that is there, or once was, or else a tree.
+    // A process in a domain to which no execute leads: a child of one that is there, or once was,
+    // or else a tree.
     #[tactic(auto, unfolding(crate::specs::Making::put))]
     fn put(&mut self, alloc: Global, origin: Origin, domain: DomainName) -> Result<usize, NoMemory>
         ensures { IfOk result (λ q. put self.old origin domain ≡ (self.new, q)) }
@@ -343,7 +346,8 @@ impl Maker {
         Ok(())
     }
 
-    // The domain in which the parent of a record's process is made: that of its own first record, or else the record's.
+    // The domain in which the parent of a record's process is made: that of its own first record,
+    // or else the record's.
     fn start_of(&self, alloc: Global, told: &Told) -> Result<DomainName, NoMemory>
         ensures { IfOk result (λ start. start ≡ start_of self.now told.now) }
     {
@@ -470,7 +474,8 @@ impl Maker {
         Ok(next)
     }
 
-    // A process goes on in the domain of its record: it is there, or goes there, or another one goes on for it.
+    // A process goes on in the domain of its record: it is there, or goes there, or another one
+    // goes on for it.
     #[tactic(auto, unfolding(crate::specs::Making::settled))]
     fn settle(&mut self, alloc: Global, p: usize, told: &Told) -> Result<usize, NoMemory>
         ensures { IfOk result (λ q. settled self.old p told.now ≡ (self.new, q)) }
@@ -562,7 +567,8 @@ impl Maker {
         self.make(alloc, told.key, told)
     }
 
-    // The key of a record: its pid, or its global pid where the pid is one of another pid namespace or of a process that wasn't seen.
+    // The key of a record: its pid, or its global pid where the pid is one of another pid namespace
+    // or of a process that wasn't seen.
     #[tactic(auto, unfolding(crate::specs::Making::key_of))]
     fn key_of(&self, alloc: Global, one: &Record) -> Result<u32, NoMemory>
         ensures { IfOk result (λ key. key ≡ key_of self.now one.now) }

@@ -1,4 +1,5 @@
-//! The report of a log: a line for each record that is left out and for each warning, and the counts.
+//! The report of a log: a line for each record that is left out and for each warning, and the
+//! counts.
 ghost use Rattle.std.specs.Prelude.{◌≡◌, ◌++◌, length, IfOk, OnOk, OnErr};
 ghost use Rattle.std.specs.List.{flat_map};
 ghost use Rattle.tm_log_trace.specs.Made.{plain, numbered, placed, source_text, left_text, tree_said, manual_said, thread_said, handed_said, again_said, goes_on_said, move_said, parent_said, start_said, arguments_said, warning_text, note_text, notes_until, lines_text, cut_text, counts_text, report_text};
@@ -318,8 +319,9 @@ fn report_text(alloc: Global, made: &Made) -> Result<Vec<u8>, NoMemory>
     Ok(text)
 }
 
-/// Appends the report: the lines of the records that are left out and of the warnings, by the number of their record, where the log was
-/// cut, and the counts. After want of memory `out` is as before.
+/// Appends the report: the lines of the records that are left out and of the warnings, by the
+/// number of their record, where the log was cut, and the counts. After want of memory `out` is as
+/// before.
 pub fn print_report(alloc: Global, made: &Made, out: &mut Vec<u8>) -> Result<(), NoMemory>
     ensures ok { OnOk result (out.new.items ≡ out.old.items ++ report_text made.now) }
     ensures err { OnErr result (out.new.items ≡ out.old.items) }

@@ -29,7 +29,8 @@ impl From<AllocError> for TextFault {
     }
 }
 
-/// The printed text of the trace, which `read_trace` accepts. Errors: `Unreadable` exactly where it doesn't; want of memory.
+/// The printed text of the trace, which `read_trace` accepts. Errors: `Unreadable` exactly where it
+/// doesn't; want of memory.
 pub fn trace_text(alloc: Global, made: &Made) -> Result<Vec<u8>, TextFault>
     ensures printed { IfOk result (λ text. text.items ≡ trace_text made.now.trace) }
     ensures readable { IfOk result (λ text. IsOk (trace_of text.items)) }
@@ -51,7 +52,8 @@ pub struct Texts {
     pub report: Vec<u8>,
 }
 
-/// The printed trace of a log, which `read_trace` accepts, and its report. Errors: as of `trace_text`.
+/// The printed trace of a log, which `read_trace` accepts, and its report. Errors: as of
+/// `trace_text`.
 pub fn texts_of(alloc: Global, log: Log) -> Result<Texts, TextFault>
     ensures trace { IfOk result (λ texts. texts.trace.items ≡ trace_text (trace_made log).trace) }
     ensures readable { IfOk result (λ texts. IsOk (trace_of texts.trace.items)) }

@@ -1,6 +1,7 @@
 //! Laws of the trace of an audit log: which line is of which record, process and domain.
 //! Stands on tm_log_trace, whose trace it is; no code but functions without a body.
-//! Promises that each record that is used is one line `do`, in order, of its process, in its domain.
+//! Promises that each record that is used is one line `do`, in order, of its process, in its
+//! domain.
 #![tactic(auto)]
 
 mod laws;

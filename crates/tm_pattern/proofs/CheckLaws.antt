@@ -1,4 +1,5 @@
--- Whether a text is read depends on its tokens alone, and on the stage and the repeat of each state.
+-- Whether a text is read depends on its tokens alone, and on the stage and the repeat of each
+-- state.
 use Rattle.std.specs.Prelude.{map, min}
 use Rattle.std.specs.Result.{is_ok}
 use Rattle.std.proofs.Common.{◌≡◌, ℕ, zero, suc, ◌+◌, ◌-◌, ◌≤◌, ◌==◌, Bool, true, false, cond, ◌&&◌, List, [], ◌∷◌, length, take, drop, get_or, Option, Some, None, Result, Ok, Err, refl, sym, ap, ◌∙◌, arith}

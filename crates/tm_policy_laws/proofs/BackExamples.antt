@@ -93,7 +93,8 @@ written_opened = (loaded_both _ written four_files).0
 pub written_written : IsWritten written
 written_written = (loaded_both _ written four_files).1
 
--- what is printed once the domain `<kernel> /a` is dead: `</s>` comes first by its bytes, and a dead domain prints nothing
+-- what is printed once the domain `<kernel> /a` is dead: `</s>` comes first by its bytes, and a
+-- dead domain prints nothing
 abbrev later : Policy
 later = with (in_kernel ∷ in_s ∷ []) (new_domain kernel 0 [] ∷ in_a false ∷ new_domain (codes "</s>") 1 [] ∷ [])
 
@@ -115,7 +116,8 @@ loaded_again = refl
 pub live_ones : (live_part later).domains ≡ new_domain kernel 0 [] ∷ new_domain (codes "</s>") 1 [] ∷ []
 live_ones = refl
 
--- Why the two premises: a group without entries isn't printed, and a live domain without its profile isn't opened
+-- Why the two premises: a group without entries isn't printed, and a live domain without its
+-- profile isn't opened
 
 abbrev empty_group : Namespace
 empty_group = record in_kernel { acl_groups = (3, []) ∷ [] }

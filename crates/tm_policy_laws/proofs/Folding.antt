@@ -21,7 +21,8 @@ use Rattle.tm_policy_line.specs.Printing.{printed_line}
 use Rattle.tm_policy_line.proofs.TextLines.{joined_line, named_joined}
 use Rattle.tm_grammar.specs.Tomoyo.{tomoyo_grammar}
 
--- whatever stands after it, the text leads from a policy and a cursor to others, each of its lines done
+-- whatever stands after it, the text leads from a policy and a cursor to others, each of its lines
+-- done
 pub record Loads (file : FileKind) (text : Text) (p : Policy) (c : Cursor) (q : Policy) (d : Cursor) : Type 0 where
   pub leads : (rest : Text) (n : ℕ) → (m : ℕ) × (load_lines tomoyo_grammar file n (lines_of (text ++ rest)) p c ≡ load_lines tomoyo_grammar file m (lines_of rest) q d)
 

@@ -41,7 +41,8 @@ added : adding_all [] (file 2 (codes "/a") ∷ file 2 (codes "/b") ∷ file 4 (c
 unfolding adding literal
 added = refl
 
--- `delete file read/execute /a` leaves `file write /a`; a second line that takes it out leaves no entry
+-- `delete file read/execute /a` leaves `file write /a`; a second line that takes it out leaves no
+-- entry
 deleted : deleting (file 3 (codes "/a")) (file 6 (codes "/a") ∷ file 2 (codes "/b") ∷ []) ≡ file 4 (codes "/a") ∷ file 2 (codes "/b") ∷ []
 unfolding deleting literal
 deleted = refl

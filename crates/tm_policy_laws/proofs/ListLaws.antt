@@ -1,4 +1,5 @@
--- Lists without repetition and maps: what they keep as members join and leave, and that they are rebuilt one by one.
+-- Lists without repetition and maps: what they keep as members join and leave, and that they are
+-- rebuilt one by one.
 use Rattle.std.proofs.Common.{◌≡◌, ℕ, zero, suc, ◌==◌, nat_lt, Bool, true, false, cond, ◌||◌, List, [], ◌∷◌, ◌++◌, refl, sym, ap, subst, ◌∙◌}
 use Rattle.std.specs.Prelude.{Some, if◌then◌else◌, not, filter, slice_get}
 use Rattle.std.specs.List.{AllByRecursion, IsDistinct, fold, list_any}

@@ -1,4 +1,5 @@
--- Namespaces by their names: what a text makes of one of them, and that the order of printing never matters.
+-- Namespaces by their names: what a text makes of one of them, and that the order of printing never
+-- matters.
 use Rattle.std.proofs.Common.{◌≡◌, ℕ, zero, suc, ◌<◌, Bool, true, false, List, [], ◌∷◌, ◌++◌, length, if◌then◌else◌, Ok, refl, sym, ap, subst, ◌∙◌, arith}
 use Rattle.std.specs.Prelude.{Option, Some, None, unwrap_or, cond}
 use Rattle.std.specs.List.{AllByRecursion, Contains, IsDistinct, find, flat_map, list_all, slice_index_or}

@@ -1,4 +1,5 @@
--- Every version of a policy that was loaded is opened, one that lines can leave, and loaded again from its printed texts.
+-- Every version of a policy that was loaded is opened, one that lines can leave, and loaded again
+-- from its printed texts.
 use Rattle.std.proofs.Common.{◌≡◌, List, Ok}
 use Rattle.tm_types.specs.declared.policy.Policy.{Policy}
 use Rattle.tm_types.specs.declared.step.PolicyFiles.{PolicyFiles}

@@ -54,7 +54,8 @@ pub record IsAclGroup (group : ℕ × List Entry) : Type 0 where
   pub some : 0 < length group.1
   pub entries : AreEntries group.1
 
--- what lines can leave of a namespace: a name that a line can write, profiles that fit, lists of rules that lines can write, none of them twice, and ACL groups by rising numbers
+-- what lines can leave of a namespace: a name that a line can write, profiles that fit, lists of
+-- rules that lines can write, none of them twice, and ACL groups by rising numbers
 pub record IsWrittenHere (ns : Namespace) : Type 0 where
   pub name : IsNamespaceWord ns.name
   pub profiles : AreProfiles ns.profiles
@@ -70,7 +71,8 @@ pub record IsWrittenHere (ns : Namespace) : Type 0 where
 abbrev pub IsMember : ℕ × Unit {0} → Type 0
 IsMember group = group.0 < 256
 
--- what lines can leave of a domain, live or dead: a right name, numbers below 256, its ACL groups by rising numbers, and entries that lines can write
+-- what lines can leave of a domain, live or dead: a right name, numbers below 256, its ACL groups
+-- by rising numbers, and entries that lines can write
 pub record IsWrittenDomain (domain : Domain) : Type 0 where
   pub name : is_domain_name is_path domain.name ≡ true
   pub profile : domain.profile < 256
@@ -82,7 +84,8 @@ pub record IsWrittenDomain (domain : Domain) : Type 0 where
 abbrev pub same_name : Namespace → Namespace → Bool
 same_name a b = texts_equal a.name b.name
 
--- a policy that lines can leave: one namespace of each name, and managers that lines can write, none of them twice
+-- a policy that lines can leave: one namespace of each name, and managers that lines can write,
+-- none of them twice
 pub record IsWritten (policy : Policy) : Type 0 where
   pub namespaces : AllByRecursion IsWrittenHere policy.namespaces
   pub names : IsDistinct same_name policy.namespaces

@@ -1,4 +1,5 @@
--- The verdict of a later policy whose modes are switched, where the earlier one granted a clean look.
+-- The verdict of a later policy whose modes are switched, where the earlier one granted a clean
+-- look.
 use Rattle.std.proofs.Common.{◌≡◌, ℕ, List, [], Bool, true, false, true≢false, refl, sym, ap, ◌∙◌}
 use Rattle.std.specs.Prelude.{Option, Some, None, ◌&&◌, ◌||◌, not, if◌then◌else◌, is_some}
 use Rattle.tm_word.specs.Words.{Text}

@@ -1,4 +1,5 @@
--- Both runs walk through the same trace: as long as the rerun has seen version 0 alone, each process is in the domain that it was in.
+-- Both runs walk through the same trace: as long as the rerun has seen version 0 alone, each
+-- process is in the domain that it was in.
 use Rattle.std.proofs.Common.{◌≡◌, ◌≤◌, ◌<◌, max, ℕ, zero, suc, List, [], ◌∷◌, ◌++◌, length, map, take, drop, Bool, true, false, refl, sym, ap, ◌∙◌, subst, arith}
 use Rattle.std.specs.Prelude.{Option, Some, None, ◌==◌, if◌then◌else◌, IfSome, flat_map}
 use Rattle.std.specs.List.{AllByRecursion}

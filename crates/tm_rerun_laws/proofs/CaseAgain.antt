@@ -1,4 +1,5 @@
--- Each take of a clean run is granted again by the switched final policy, in the domain that it began in, and ends in the same.
+-- Each take of a clean run is granted again by the switched final policy, in the domain that it
+-- began in, and ends in the same.
 use Rattle.std.proofs.Common.{◌≡◌, ◌≤◌, ◌<◌, ℕ, length, map, Bool, true, refl, sym, ap, ◌∙◌, subst, arith}
 use Rattle.std.specs.Prelude.{Option, Some, not, is_some, IfSome, IsTrue, option_map}
 use Rattle.std.specs.List.{AllByRecursion, list_all}

@@ -1,4 +1,5 @@
--- Over a clean run the line that an execute finds stays, or it is the line that was learned where none was found.
+-- Over a clean run the line that an execute finds stays, or it is the line that was learned where
+-- none was found.
 use Rattle.std.proofs.Common.{◌≡◌, ◌≤◌, ◌<◌, ℕ, zero, suc, List, [], ◌∷◌, length, map, Bool, true, false, true≢false, refl, sym, ap, ◌∙◌, subst, arith, inl, inr, ◌⊎◌}
 use Rattle.std.specs.Prelude.{Some, None, IsTrue, flat_map}
 use Rattle.std.specs.List.{AllByRecursion, list_all}
@@ -118,7 +119,8 @@ module _ (scene : Scene) (run : Run) where
   abbrev policy_at : ℕ → Policy
   policy_at k = (state_at scene run.steps k).policy
 
-  -- what is found in domain d stays from version b to k, or the learned line was found where none was
+  -- what is found in domain d stays from version b to k, or the learned line was found where none
+  -- was
   abbrev pub Stays : ℕ → ℕ → ℕ → Execute → Type 0
   Stays b k d x =
       (execute_found (policy_at k) d x ≡ execute_found (policy_at b) d x)

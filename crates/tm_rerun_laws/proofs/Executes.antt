@@ -1,4 +1,5 @@
--- Which entries grant an execute: a plain entry says the same of every process and of every request with the same three values.
+-- Which entries grant an execute: a plain entry says the same of every process and of every request
+-- with the same three values.
 use Rattle.std.proofs.Common.{◌≡◌, ◌<◌, max, ℕ, zero, suc, List, [], ◌∷◌, Bool, true, false, true≢false, refl, sym, ap, ◌∙◌, arith, inl, inr, ◌⊎◌}
 use Rattle.std.specs.Prelude.{Option, Some, None, ◌&&◌, ◌||◌, ◌==◌, if◌then◌else◌, slice_get, not, bit_or, is_some}
 use Rattle.std.specs.List.{list_all}

@@ -1,4 +1,5 @@
--- What grants a request grants it later: the search finds something where it found something before.
+-- What grants a request grants it later: the search finds something where it found something
+-- before.
 use Rattle.std.proofs.Common.{◌≡◌, ℕ, zero, suc, List, [], ◌∷◌, ◌++◌, Bool, true, false, refl, sym, ◌∙◌}
 use Rattle.std.specs.Prelude.{Option, Some, None, ◌&&◌, ◌||◌, slice_get, is_some, IsSome, unwrap_or, option_map, flat_map}
 use Rattle.std.specs.Option.{option_or}

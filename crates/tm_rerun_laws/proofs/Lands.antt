@@ -1,4 +1,5 @@
--- Where a granted look of a clean run leads: it stays, or it leads into a domain that is live later under the number that the take ends in.
+-- Where a granted look of a clean run leads: it stays, or it leads into a domain that is live later
+-- under the number that the take ends in.
 use Rattle.std.proofs.Common.{◌≡◌, ◌≤◌, ℕ, zero, suc, ◌+◌, List, [], ◌∷◌, ◌++◌, length, map, Bool, true, false, true≢false, refl, sym, ap, ◌∙◌, arith}
 use Rattle.std.specs.Prelude.{Option, Some, None, ◌&&◌, cond, slice_get, option_map, if◌then◌else◌}
 use Rattle.std.specs.Option.{option_and_then, option_map_or}

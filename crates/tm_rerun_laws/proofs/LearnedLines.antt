@@ -1,4 +1,5 @@
--- A line that was learned in a clean run grants its own request at each later version, and in the switched final policy.
+-- A line that was learned in a clean run grants its own request at each later version, and in the
+-- switched final policy.
 use Rattle.std.proofs.Common.{◌≡◌, ◌≤◌, ◌<◌, max, min, ℕ, zero, suc, List, [], ◌∷◌, length, map, Bool, true, false, true≢false, refl, sym, ap, ◌∙◌, subst, arith}
 use Rattle.std.specs.Prelude.{Option, Some, None, ◌&&◌, ◌||◌, ◌==◌, if◌then◌else◌, not, slice_get, option_map, bit_or, bit_and}
 use Rattle.std.specs.List.{AllByRecursion, list_all}

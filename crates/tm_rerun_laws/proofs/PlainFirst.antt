@@ -1,4 +1,5 @@
--- In a plain policy what an execute finds is told by its aggregated name, its real path and its first argument.
+-- In a plain policy what an execute finds is told by its aggregated name, its real path and its
+-- first argument.
 use Rattle.std.proofs.Common.{◌≡◌, [], Option, Some, None, refl}
 use Rattle.std.specs.Prelude.{unwrap_or, slice_get}
 use Rattle.std.proofs.lemmas.Bool.{eqb-true}

@@ -170,7 +170,8 @@ pub is_plain-of : (p : Policy) → Plain p → is_plain p ≡ true
 unfolding is_plain
 is_plain-of p h = and_from (list_all is_plain_domain p.domains) (list_all are_plain_groups p.namespaces) h.domains h.groups
 
--- What a clean step changes: what a quiet line does, or it adds a learned line to a domain, or it makes a domain without entries
+-- What a clean step changes: what a quiet line does, or it adds a learned line to a domain, or it
+-- makes a domain without entries
 pub data Cleanly (step : Step) (p q : Policy) : Type 0 where
   Quiet : Quietly p q → Cleanly step p q
   Learned : (d : ℕ) → (x : Domain) → (entry : Entry) → (learn_is : step ≡ Step.Learn d entry) → (there : domain_at p d ≡ Some x) → (is : q ≡ with_domain p d (record x { entries = adding entry x.entries })) → Cleanly step p q

@@ -113,7 +113,8 @@ line-refuses g p file cursor line = go (g.read_line file line)
     go (Ok (PolicyLine.Domain rule)) = domain-refuses p cursor rule
     go (Ok (PolicyLine.Manager delete rule)) = manager-refuses p cursor delete rule
 
--- What a quiet line changes: no domain and no namespace, or it adds a line without execute to a domain or to an ACL group
+-- What a quiet line changes: no domain and no namespace, or it adds a line without execute to a
+-- domain or to an ACL group
 pub data Quietly (p q : Policy) : Type 0 where
   Others : (domains : q.domains ≡ p.domains) → (namespaces : q.namespaces ≡ p.namespaces) → Quietly p q
   Own : (d : ℕ) → (x : Domain) → (entry : Entry) → (there : domain_at p d ≡ Some x) → (quiet : lets_execute entry ≡ false) → (is : q ≡ with_domain p d (record x { entries = adding entry x.entries })) → Quietly p q

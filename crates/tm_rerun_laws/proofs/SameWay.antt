@@ -1,4 +1,5 @@
--- Where an execute leads is told by the name and the preference of the found entry alone, and a learned line leads where no line does.
+-- Where an execute leads is told by the name and the preference of the found entry alone, and a
+-- learned line leads where no line does.
 use Rattle.std.proofs.Common.{◌≡◌, ℕ, List, [], refl, sym, ap, ◌∙◌, inl, inr, ◌⊎◌}
 use Rattle.std.specs.Prelude.{Option, Some, None, option_map}
 use Rattle.tm_word.specs.Words.{Text}

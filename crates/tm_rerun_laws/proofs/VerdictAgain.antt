@@ -1,4 +1,5 @@
--- What a clean look of the first run was granted, the switched final policy grants again, without a step.
+-- What a clean look of the first run was granted, the switched final policy grants again, without a
+-- step.
 use Rattle.std.proofs.Common.{◌≡◌, ℕ, List, Bool, true, false, refl, sym, ap, ◌∙◌, subst, inl, inr, ◌⊎◌}
 use Rattle.std.specs.Prelude.{Option, Some, None, if◌then◌else◌, is_some, option_map}
 use Rattle.tm_word.specs.Words.{Text}

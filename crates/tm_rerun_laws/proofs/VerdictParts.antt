@@ -1,4 +1,5 @@
--- Of each verdict: its line is one that is learned for the request, and it enters live domains alone.
+-- Of each verdict: its line is one that is learned for the request, and it enters live domains
+-- alone.
 use Rattle.std.proofs.Common.{◌≡◌, ℕ, Bool, true, false, refl, subst}
 use Rattle.std.specs.Prelude.{Option, Some, None, ◌&&◌, ◌||◌, if◌then◌else◌, option_map, not}
 use Rattle.std.specs.Option.{option_and_then, option_map_or}

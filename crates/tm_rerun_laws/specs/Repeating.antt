@@ -42,7 +42,8 @@ PlainFirst =
 abbrev pub switched_profiles : List (ℕ × Profile) → List (ℕ × Profile)
 switched_profiles profiles = map (λ (pair : ℕ × Profile). (pair.0, switched_profile pair.1)) profiles
 
--- a switched policy has the same domains, and of each namespace all but the profiles, which are switched each
+-- a switched policy has the same domains, and of each namespace all but the profiles, which are
+-- switched each
 pub record SwitchedKeeps : Type 0 where
   pub domains : (policy : Policy) → (switched policy).domains ≡ policy.domains
   pub namespaces : (policy : Policy) (name : Text) → namespace_named (switched policy) name ≡ record (namespace_named policy name) { profiles = switched_profiles (namespace_named policy name).profiles }

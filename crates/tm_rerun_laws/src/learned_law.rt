@@ -33,11 +33,13 @@ pub fn switched_domains()
 /// a domain has the same entries, and the first that grants a request is the same.
 pub fn switched_namespaces()
     ensures namespaces { (policy : Policy) (name : Text) →
-        namespace_named (switched policy) name ≡ record (namespace_named policy name) { profiles = (namespace_named (switched policy) name).profiles } }
+        namespace_named (switched policy) name
+        ≡ record (namespace_named policy name) { profiles = (namespace_named (switched policy) name).profiles } }
     ensures entries { (policy : Policy) (domain : Domain) →
         entries_of (namespace_of (switched policy) domain) domain ≡ entries_of (namespace_of policy domain) domain }
     ensures firsts { (policy : Policy) (domain : Domain) (process : Proc) (request : Request) →
-        first (namespace_of (switched policy) domain) domain process request ≡ first (namespace_of policy domain) domain process request }
+        first (namespace_of (switched policy) domain) domain process request
+        ≡ first (namespace_of policy domain) domain process request }
 {}
 
 /// A domain's profile is switched.
@@ -64,10 +66,12 @@ pub fn switched_ways()
     ensures lines { (policy : Policy) (domain : Domain) (request : Request) →
         line_of (namespace_of (switched policy) domain) request ≡ line_of (namespace_of policy domain) request }
     ensures candidates { (policy : Policy) (domain : Domain) (found : Option Granting) (request : Request) →
-        candidate (namespace_of (switched policy) domain) found request ≡ candidate (namespace_of policy domain) found request }
+        candidate (namespace_of (switched policy) domain) found request
+        ≡ candidate (namespace_of policy domain) found request }
     ensures decisions { (policy : Policy) (domain : Domain) (name : DomainName)
         (found : Option Granting) (request : Request) →
-        decision (namespace_of (switched policy) domain) name found request ≡ decision (namespace_of policy domain) name found request }
+        decision (namespace_of (switched policy) domain) name found request
+        ≡ decision (namespace_of policy domain) name found request }
     ensures enters { (is_path : Text → Bool) (policy : Policy) (domain name : DomainName) →
         can_enter is_path (switched policy) domain name ≡ can_enter is_path policy domain name }
     ensures executes { (policy : Policy) (d : ℕ) (x : Execute) →

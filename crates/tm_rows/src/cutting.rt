@@ -4,7 +4,7 @@ ghost use Rattle.std.specs.Prelude.{◌≡◌, IfOk};
 ghost use Rattle.tm_rows.specs.Cutting.{zeroed_byte, zeroed, cut_text};
 
 use crate::answers::readers_answer;
-use crate::calls::play;
+use crate::calls::play_alone;
 use crate::comparing::{Difference, differences};
 use crate::row::{NAMES, Piece, Row, file_of, files_of};
 use std::alloc::Global;
@@ -87,7 +87,7 @@ fn ends_as_read(alloc: Global, call: Row) -> Result<bool, NoMemory> {
     let mut expected = call;
     expected.status = answer.code();
     expected.said = Text::from_bytes(alloc, said.as_bytes())?;
-    let played = play(alloc, &expected)?;
+    let played = play_alone(alloc, &expected)?;
     if expected.status == 0 {
         return Ok(played.status.code() == 0);
     }

@@ -21,6 +21,8 @@ use std::alloc::{AllocError, Global};
 use std::io::Write;
 use std::process::ExitCode;
 use std::rt::Runtime;
+use std::sync::Wait;
+use std::thread::Threads;
 use std::{fs, io};
 
 // The tables' files in the current folder: rows that agree, and rows of which each says something
@@ -39,7 +41,7 @@ enum Ended {
 }
 
 // Reads a table and plays its rows, and appends what is to be said of them.
-fn report<R: Runtime>(
+fn report<R: Runtime + Threads + Wait + Sync>(
     rt: &R,
     alloc: Global,
     table: &str,
@@ -49,13 +51,17 @@ fn report<R: Runtime>(
         return Ok(Ended::Unread);
     };
     match read_rows(alloc, &text) {
-        Ok(rows) => Ok(Ended::Played(judge_rows(alloc, &rows, out)?)),
+        Ok(rows) => Ok(Ended::Played(judge_rows(rt, alloc, &rows, out)?)),
         Err(fault) => Ok(Ended::Wrong(fault)),
     }
 }
 
 // Prints the report of a table, and answers how many of its rows differ; None where it isn't read.
-fn print_report<R: Runtime>(rt: &R, alloc: Global, table: &str) -> io::Result<Option<u64>> {
+fn print_report<R: Runtime + Threads + Wait + Sync>(
+    rt: &R,
+    alloc: Global,
+    table: &str,
+) -> io::Result<Option<u64>> {
     let mut out = Vec::new(alloc);
     let ended = report(rt, alloc, table, &mut out)?;
     io::writer(rt).write_all(&out)?;
@@ -68,7 +74,7 @@ fn print_report<R: Runtime>(rt: &R, alloc: Global, table: &str) -> io::Result<Op
 }
 
 // Prints the reports. The status is 0 where no row of the first table differs and both are read.
-fn run<R: Runtime>(rt: &R, alloc: Global) -> io::Result<ExitCode> {
+fn run<R: Runtime + Threads + Wait + Sync>(rt: &R, alloc: Global) -> io::Result<ExitCode> {
     let rows = print_report(rt, alloc, TABLE)?;
     let wrong_rows = print_report(rt, alloc, WRONG_TABLE)?;
     match (rows, wrong_rows) {

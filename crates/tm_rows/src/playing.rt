@@ -4,14 +4,20 @@ use crate::comparing::{Difference, differences};
 use crate::cutting::cuts_that_differ;
 use crate::row::Row;
 use std::alloc::Global;
+use std::sync::Wait;
+use std::thread::Threads;
 use tm_list::NoMemory;
 
 // How a row differs: its call, or its cuts where it has files to cut.
-fn row_differs(alloc: Global, row: &Row) -> Result<Vec<Difference>, NoMemory> {
+fn row_differs<W: Threads + Wait + Sync>(
+    rt: &W,
+    alloc: Global,
+    row: &Row,
+) -> Result<Vec<Difference>, NoMemory> {
     if !row.cuts.is_empty() {
         return cuts_that_differ(alloc, row);
     }
-    let played = play(alloc, row)?;
+    let played = play(rt, alloc, row)?;
     let put = played.out.bytes();
     differences(alloc, row, played.status, &played.shelf, put)
 }
@@ -34,8 +40,13 @@ fn push_differences(
 }
 
 // Plays a row, says how it differs, and answers whether it agrees.
-fn judge_row(alloc: Global, row: &Row, out: &mut Vec<u8>) -> Result<bool, NoMemory> {
-    let found = row_differs(alloc, row)?;
+fn judge_row<W: Threads + Wait + Sync>(
+    rt: &W,
+    alloc: Global,
+    row: &Row,
+    out: &mut Vec<u8>,
+) -> Result<bool, NoMemory> {
+    let found = row_differs(rt, alloc, row)?;
     if found.is_empty() {
         return Ok(true);
     }
@@ -45,10 +56,15 @@ fn judge_row(alloc: Global, row: &Row, out: &mut Vec<u8>) -> Result<bool, NoMemo
 
 /// Plays rows in their order, appends a line for each that differs and one that counts them, and
 /// answers how many differ.
-pub fn judge_rows(alloc: Global, rows: &[Row], out: &mut Vec<u8>) -> Result<u64, NoMemory> {
+pub fn judge_rows<W: Threads + Wait + Sync>(
+    rt: &W,
+    alloc: Global,
+    rows: &[Row],
+    out: &mut Vec<u8>,
+) -> Result<u64, NoMemory> {
     let mut differ: u64 = 0;
     for row in rows {
-        if !judge_row(alloc, row, out)? {
+        if !judge_row(rt, alloc, row, out)? {
             differ += 1;
         }
     }

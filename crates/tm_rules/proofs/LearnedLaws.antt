@@ -127,7 +127,8 @@ execute-first request e = execute-place request.args request.perm request.attrib
 
 -- Grants
 
--- an entry with the permission, whose condition holds and whose arguments have those of the request, grants it
+-- an entry with the permission, whose condition holds and whose arguments have those of the
+-- request, grants it
 grants-by : (groups : Groups) (process : Proc) (request : Request) (entry : Entry) → has_permission entry.perms.bits request.perm ≡ true → holds entry.cond groups process request ≡ true → IsSome (args_grant groups entry.args request.args) → IsSome (grants groups process request entry)
 unfolding grants
 grants-by groups process request entry may holds_ has = rw (may, holds_) has
@@ -174,7 +175,8 @@ owns is_path groups process ns request is = go (is_execute request) refl
     })
     go false e = rw e (record { perm = refl; cond = words-hold groups process request Attr.Target request.attributes.target refl; args = args-own groups is_path request.args literally })
 
--- whatever has the arguments and the condition of the line that is learned for a request, and its permission, grants it
+-- whatever has the arguments and the condition of the line that is learned for a request, and its
+-- permission, grants it
 pub line-grants : (is_path : Text → Bool) (groups : Groups) (process : Proc) (ns : Namespace) (request : Request) (entry : Entry) → is_request is_path request ≡ true → entry.args ≡ (line_of ns request).args → entry.cond ≡ (line_of ns request).cond → has_permission entry.perms.bits request.perm ≡ true → IsSome (grants groups process (searched ns request) entry)
 line-grants is_path groups process ns request entry is args cond may =
     let own : Owns groups process request (searched ns request) (line_of ns request) = owns is_path groups process ns request is in

@@ -73,7 +73,8 @@ audit_in g policy process request verdict domain logs Mode.Disabled = None
 audit_in g policy process request verdict domain logs mode =
     if is_logged (namespace_of policy domain) domain logs verdict.reason then Some (audit_lines g domain mode process request verdict.reason) else None
 
--- no text for a manual transition and none in mode disabled; else one where the log of its reason says so
+-- no text for a manual transition and none in mode disabled; else one where the log of its reason
+-- says so
 unfoldable pub audit_text : Grammar → Policy → ℕ → Proc → Request → Verdict → Option Text
 audit_text g policy d process request verdict =
     option_and_then

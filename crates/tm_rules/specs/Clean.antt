@@ -84,7 +84,8 @@ abbrev pub without_namespace : List Text → List Text
 without_namespace [] = []
 without_namespace (word ∷ rest) = if begins_with_byte 60 word then rest else word ∷ rest
 
--- an edit that cannot change where an execute leads or what a mode is, by the words of its line alone
+-- an edit that cannot change where an execute leads or what a mode is, by the words of its line
+-- alone
 abbrev pub is_quiet_line : FileKind → List Text → Bool
 is_quiet_line FileKind.Manager line = true
 is_quiet_line FileKind.Domain [] = false

@@ -21,16 +21,17 @@ fn conds_equal(left: &Cond, right: &Cond) -> bool
     left.same(right)
 }
 
-/// Whether two lines share one entry: equal arguments and equal conditions, where equality of numbers includes their base and the
-/// order of conditions counts.
+/// Whether two lines share one entry: equal arguments and equal conditions, where equality of
+/// numbers includes their base and the order of conditions counts.
 pub fn same_line(left: &Entry, right: &Entry) -> bool
     ensures { result ≡ same_line left.now right.now }
 {
     args_equal(&left.args, &right.args) && conds_equal(&left.cond, &right.cond)
 }
 
-/// Two lines share one entry where their arguments are equal and their conditions are equal, and nowhere else: the test of the
-/// definitions is equality.
+/// Two lines share one entry where their arguments are equal and their conditions are equal, and
+/// nowhere else: the test of the definitions is equality.
 pub fn same_line_is_equality()
-    ensures { (left right : Entry) → IsTrue (same_line left right) ↔ ((left.args ≡ right.args) × (left.cond ≡ right.cond)) }
+    ensures { (left right : Entry)
+        → IsTrue (same_line left right) ↔ ((left.args ≡ right.args) × (left.cond ≡ right.cond)) }
 {}

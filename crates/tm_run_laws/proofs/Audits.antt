@@ -1,4 +1,5 @@
--- The audit text of a take can be written as a word: it is made of bytes, and begins with `profile`.
+-- The audit text of a take can be written as a word: it is made of bytes, and begins with
+-- `profile`.
 use Rattle.std.proofs.Common.{◌≡◌, ℕ, ◌<◌, Bool, true, false, cond, List, [], ◌∷◌, ◌++◌, length, take, refl, sym, ap, subst, ◌∙◌, arith}
 use Rattle.std.specs.Prelude.{Option, Some, None, codes, decimal, IfSome}
 use Rattle.std.specs.Option.{option_and_then}

@@ -1,4 +1,5 @@
--- What a step that was replied is: its reply is of its own kind, a learned entry can be written, a name is a right one, and an editor is there.
+-- What a step that was replied is: its reply is of its own kind, a learned entry can be written, a
+-- name is a right one, and an editor is there.
 use Rattle.std.proofs.Common.{◌≡◌, ℕ, zero, suc, ◌==◌, Bool, true, false, cond, ◌&&◌, not, List, [], ◌∷◌, refl, ap, subst, ◌∙◌, eq-eqb}
 use Rattle.std.specs.Prelude.{Option, Some, None, slice_get, unwrap_or, nat_lt, nat_le, count_ones}
 use Rattle.std.specs.Option.{option_map_or}

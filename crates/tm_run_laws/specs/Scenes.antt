@@ -7,7 +7,8 @@ use Rattle.tm_legal.specs.Legal.{Scene}
 use Rattle.tm_legal.specs.Play.{CanPlay}
 use Rattle.tm_grammar.specs.Tomoyo.{tomoyo_grammar}
 
--- the grammar is this language's, the scene can be played, and its trace and its editors are such as texts write
+-- the grammar is this language's, the scene can be played, and its trace and its editors are such
+-- as texts write
 pub record IsReadScene (scene : Scene) : Type 0 where
   pub grammar : scene.grammar ≡ tomoyo_grammar
   pub can_play : CanPlay scene

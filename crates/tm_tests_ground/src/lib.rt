@@ -1,5 +1,7 @@
-//! The tests of lists, words, numbers, addresses, types, patterns and shelves: their calls, compared with answers that come from outside the definitions.
-//! Stands on every crate whose calls it tries, and nothing stands on it. A test of a private item stands in the crate of that item.
+//! The tests of lists, words, numbers, addresses, types, patterns and shelves: their calls,
+//! compared with answers that come from outside the definitions.
+//! Stands on every crate whose calls it tries, and nothing stands on it. A test of a private item
+//! stands in the crate of that item.
 //! Promises nothing; the name of each test says what it shows.
 #![tactic(auto)]
 

@@ -109,7 +109,8 @@ fn ranges_printed_and_held(rt: HostRuntime) -> Result<(), NoMemory> {
     Ok(())
 }
 
-/// The value of digits, where they are of this radix; within it, none where it has more than 64 bits.
+/// The value of digits, where they are of this radix; within it, none where it has more than 64
+/// bits.
 fn value_at(radix: u8, digits: &[u8]) -> Option<Option<u64>> {
     if radix < 2 || radix > 16 || !is_numeral(radix, digits) {
         return None;

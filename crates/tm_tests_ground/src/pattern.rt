@@ -6,7 +6,8 @@ use tm_pattern::{
 };
 use tm_word::{read_word, spelled_word};
 
-/// Whether the pattern so written matches the name so spelled, by both calls; none where one of the two can't be read.
+/// Whether the pattern so written matches the name so spelled, by both calls; none where one of the
+/// two can't be read.
 fn answer(alloc: Global, pattern: &[u8], name: &[u8]) -> Option<bool> {
     let Ok(pattern) = read_pattern(alloc, pattern) else {
         return None;

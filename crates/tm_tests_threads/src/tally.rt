@@ -4,8 +4,9 @@ use tm_list::NoMemory;
 use tm_office::{Hall, Office};
 use tm_types::step::Answered;
 
-/// A start, and the numbers counted since. A step is replied itself. Query 1 has its answer once there
-/// is a step; the start is asked for while there are one or two; once there are three nothing is.
+/// A start, and the numbers counted since. A step is replied itself. Query 1 has its answer once
+/// there is a step; the start is asked for while there are one or two; once there are three nothing
+/// is.
 #[derive(Drop)]
 pub struct Tally {
     pub start: u64,

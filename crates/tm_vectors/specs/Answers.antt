@@ -1,4 +1,5 @@
--- What our crates answer to the question of a row, by the definitions of readers, printers, patterns and controls.
+-- What our crates answer to the question of a row, by the definitions of readers, printers,
+-- patterns and controls.
 use Rattle.std.specs.Prelude.{Bool, true, false, List, [], ◌∷◌, codes, Option, Some, None, is_some, option_map, option_and_then, unwrap_or}
 use Rattle.std.specs.Result.{result_ok}
 use Rattle.tm_word.specs.Words.{Text}
@@ -37,7 +38,8 @@ added_entry _ = None
 abbrev pub added_text : PolicyLine → Option Text
 added_text said = option_map (λ entry. joined (entry_words entry)) (added_entry said)
 
--- the printed text of the entry that a line of the domain policy adds; none where it is refused or adds no entry
+-- the printed text of the entry that a line of the domain policy adds; none where it is refused or
+-- adds no entry
 abbrev pub entry_text : Text → Option Text
 entry_text line = option_and_then added_text (said_by FileKind.Domain line)
 
@@ -92,7 +94,8 @@ bar_lines (b ∷ text) = pieces 124 (b ∷ text)
 abbrev pub kernel_with : List Control → Namespace
 kernel_with controls = record { name = codes "<kernel>"; profiles = []; groups = record { paths = []; numbers = []; addrs = [] }; aggregators = []; controls = controls; acl_groups = [] }
 
--- the domain to which an execute of a program leads under these controls; none where no domain can have that name
+-- the domain to which an execute of a program leads under these controls; none where no domain can
+-- have that name
 abbrev pub domain_under : DomainName → Text → List Control → Option DomainName
 domain_under domain program controls =
     result_ok (domain_of (unwrap_or (target_name domain program (By_control (control_kind (kernel_with controls) domain program))) domain))

@@ -65,7 +65,8 @@ line_place table number = table_name table ++ (codes " line " ++ (decimal number
 abbrev pub both_answers : Text → Text → Text
 both_answers wanted answered = codes ": wanted " ++ (wanted ++ (codes ", got " ++ (answered ++ codes "\n")))
 
--- the line that is said of a row that differs: where it stands, its question, what was recorded and what we answer
+-- the line that is said of a row that differs: where it stands, its question, what was recorded and
+-- what we answer
 abbrev pub difference : Table → ℕ → List Text → Text → Text
 difference table number fields answered = line_place table number ++ (joined (question fields) ++ both_answers (recorded fields) answered)
 

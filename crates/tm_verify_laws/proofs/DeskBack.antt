@@ -1,4 +1,5 @@
--- Where the clause of the supervisor holds, each step leaves it within reach and nothing is missing; and the least step is found.
+-- Where the clause of the supervisor holds, each step leaves it within reach and nothing is
+-- missing; and the least step is found.
 use Rattle.std.proofs.Common.{◌≡◌, ◌≤◌, ◌<◌, ℕ, suc, ◌+◌, ◌==◌, Bool, true, false, not, List, [], ◌∷◌, ◌++◌, length, Option, Some, None, refl, sym, ap, ◌∙◌, subst, arith, inl, inr, eq-eqb}
 use Rattle.std.specs.Prelude.{if◌then◌else◌, is_some}
 use Rattle.std.specs.Option.{option_or, IfSome}

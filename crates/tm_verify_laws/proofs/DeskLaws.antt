@@ -1,4 +1,5 @@
--- The supervisor's clause holds exactly where each of its steps leaves it within reach and nothing is missing.
+-- The supervisor's clause holds exactly where each of its steps leaves it within reach and nothing
+-- is missing.
 use Rattle.std.proofs.Common.{◌≡◌, ◌≤◌, ◌<◌, ℕ, zero, suc, ◌+◌, ◌==◌, nat_lt, Bool, true, false, ◌&&◌, ◌||◌, not, List, [], ◌∷◌, ◌++◌, length, Option, Some, None, refl, sym, ap, ◌∙◌, subst, arith, inl, inr, ◌⊎◌, eq-eqb, eqb-true}
 use Rattle.std.specs.Prelude.{if◌then◌else◌, IsSome, is_some, slice_get}
 use Rattle.std.specs.Option.{IfSome}

@@ -1,4 +1,5 @@
--- No step changes who edits and how many trees there are; so what has a reply is of an editor or a tree that is there.
+-- No step changes who edits and how many trees there are; so what has a reply is of an editor or a
+-- tree that is there.
 use Rattle.std.proofs.Common.{◌≡◌, ◌<◌, ℕ, zero, suc, Bool, true, false, ◌&&◌, not, nat_lt, nat_le, List, [], ◌∷◌, ◌++◌, length, Option, Some, None, refl, sym, ap, ◌∙◌, subst, arith}
 use Rattle.std.specs.Prelude.{if◌then◌else◌, IsSome, slice_get, slice_set, unwrap_or}
 use Rattle.std.specs.Option.{option_map_or}

@@ -48,7 +48,8 @@ abbrev pub is_answered_so : Book → Option Query → ℕ → ℕ → Bool
 is_answered_so book None serial code = false
 is_answered_so book (Some query) serial code = query.serial == serial && code_of (book_answer book query) == code
 
--- the supervisor may leave: after the book's number of answers, or after all trees' ends with no query unanswered
+-- the supervisor may leave: after the book's number of answers, or after all trees' ends with no
+-- query unanswered
 abbrev pub may_leave : Scene → Book → History → Bool
 may_leave scene book before =
     is_stop book.stop (length (places is_answer before))
@@ -80,7 +81,8 @@ abbrev pub is_complete : Scene → History → Bool
 is_complete scene history =
     has_some is_attach history && (has_some is_detach history && trees_ended 1 scene.trace history)
 
--- the least step that the clause of the supervisor can't have after those before it; 0 where only steps are missing
+-- the least step that the clause of the supervisor can't have after those before it; 0 where only
+-- steps are missing
 unfoldable pub desk_fault : Scene → Run → Option ℕ
 desk_fault scene run = go scene.book
   where

@@ -17,7 +17,8 @@ abbrev pub IsNextLine : Scene → History → Step → Type 0
 IsNextLine scene before (Step.Edit e file line) = (editor : Editor) × (numbered scene.editors e ≡ Some editor) × (slice_get editor.lines (length (lines_of_editor e before)) ≡ Some (file, line))
 IsNextLine scene before _ = ⊤
 
--- owned as often as its kind asks, the next line of its editor, and with the reply that it has there
+-- owned as often as its kind asks, the next line of its editor, and with the reply that it has
+-- there
 pub record IsPlaced (scene : Scene) (run : Run) (before : History) (pair : Step × Reply) : Type 0 where
   pub own : times (suc (length before)) (own_numbers run.takes) ≡ times_owned (Some pair.0)
   pub next : IsNextLine scene before pair.0
@@ -40,7 +41,8 @@ PlacesFail scene run k =
 abbrev pub OwnAreSteps : Run → Type 0
 OwnAreSteps run = AllByRecursion (λ number. IsSome (step_at run.steps number)) (own_numbers run.takes)
 
--- where each own number is a step's, steps have their places exactly where each is placed and no line is missing
+-- where each own number is a step's, steps have their places exactly where each is placed and no
+-- line is missing
 abbrev pub PlacesDecide : Type 0
 PlacesDecide =
     (scene : Scene) (run : Run) → OwnAreSteps run

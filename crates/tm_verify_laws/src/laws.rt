@@ -9,22 +9,23 @@ ghost use Rattle.tm_verify_laws.specs.Looks.{OwnOrderDecides, FollowingDecides};
 ghost use Rattle.tm_verify_laws.specs.Placed.{PlacesDecide};
 ghost use Rattle.tm_verify_laws.specs.Scans.{PairsDecide, RisingDecides, CasesTakeAll, OwnNumbersAreSteps};
 
-/// Laws, nothing to run: a run of which a clause breaks first isn't legal, and there is one such clause and place.
+/// Laws, nothing to run: a run of which a clause breaks first isn't legal, and there is one such
+/// clause and place.
 pub fn broken_runs()
     ensures illegal { BrokenIsNotLegal }
     ensures once { BrokenOnce }
 {}
 
-/// Laws, nothing to run: where each reply is right, the supervisor's clause holds exactly where no step is at fault;
-/// and where each own number is a step's, steps have their places exactly where each is placed and no line is
-/// missing.
+/// Laws, nothing to run: where each reply is right, the supervisor's clause holds exactly where no
+/// step is at fault; and where each own number is a step's, steps have their places exactly where
+/// each is placed and no line is missing.
 pub fn steps_decide()
     ensures supervisor { DeskFaultDecides }
     ensures places { PlacesDecide }
 {}
 
-/// Laws, nothing to run: the scans of takes and of versions find what the clauses say; where the first clauses hold,
-/// each `do` line has the take of its number, and each own number is a step's.
+/// Laws, nothing to run: the scans of takes and of versions find what the clauses say; where the
+/// first clauses hold, each `do` line has the take of its number, and each own number is a step's.
 pub fn takes_decide()
     ensures pairs { PairsDecide }
     ensures rising { RisingDecides }
@@ -32,8 +33,8 @@ pub fn takes_decide()
     ensures own { OwnNumbersAreSteps }
 {}
 
-/// Laws, nothing to run: the tests of the order of own steps, and of looks that follow each other, are their
-/// relations.
+/// Laws, nothing to run: the tests of the order of own steps, and of looks that follow each other,
+/// are their relations.
 pub fn looks_decide()
     ensures own { OwnOrderDecides }
     ensures follow { FollowingDecides }

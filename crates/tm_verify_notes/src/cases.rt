@@ -1,4 +1,5 @@
-//! The `do` lines with their takes, each with the situation of its process: one walk over the trace.
+//! The `do` lines with their takes, each with the situation of its process: one walk over the
+//! trace.
 ghost use Rattle.std.specs.Prelude.{◌≡◌, ◌++◌, ◌+◌, ◌<◌, ◌^◌, length, take, drop, OnOk, IfOk};
 ghost use Rattle.tm_rules.specs.Few.{IsFew};
 ghost use Rattle.std.specs.List.{flat_map};
@@ -14,7 +15,8 @@ use tm_rep::Rep;
 use tm_types::request::{Ids, Item, Proc, Request, Tree};
 use tm_types::step::{Look, Take};
 
-/// A process, the number of the domain that it is in, and the version that no later look of it may fall below.
+/// A process, the number of the domain that it is in, and the version that no later look of it may
+/// fall below.
 #[derive(Clone, Copy)]
 pub struct Stand {
     pub process: Proc,
@@ -22,8 +24,8 @@ pub struct Stand {
     pub floor: u64,
 }
 
-/// The processes of a tree. One that no line has changed yet stands in the tree's first domain, without ids, parent
-/// and floor.
+/// The processes of a tree. One that no line has changed yet stands in the tree's first domain,
+/// without ids, parent and floor.
 #[derive(Drop)]
 struct Stands {
     home: Option<u32>,
@@ -115,7 +117,8 @@ impl Stands {
 
     /// An `ids` line.
     fn set_ids(&mut self, pid: u32, ids: Ids) -> Result<(), NoMemory>
-        ensures { OnOk result (stands self.new ≡ with_situation (stands self.old) pid (with_ids (stands self.old pid) ids)) }
+        ensures { OnOk result (stands self.new
+            ≡ with_situation (stands self.old) pid (with_ids (stands self.old pid) ids)) }
     {
         let Stand {
             process,
@@ -135,7 +138,8 @@ impl Stands {
 
     /// A `fork` line.
     fn fork(&mut self, pid: u32, child: u32) -> Result<(), NoMemory>
-        ensures { OnOk result (stands self.new ≡ with_situation (stands self.old) child (forked (stands self.old pid) child)) }
+        ensures { OnOk result (stands self.new
+            ≡ with_situation (stands self.old) child (forked (stands self.old pid) child)) }
     {
         let Stand {
             process,
@@ -157,9 +161,11 @@ impl Stands {
         )
     }
 
-    /// A take: the process is in the domain after, and its floor is above all that the take has seen.
+    /// A take: the process is in the domain after, and its floor is above all that the take has
+    /// seen.
     fn take(&mut self, pid: u32, taken: &Take) -> Result<(), NoMemory>
-        ensures { OnOk result (stands self.new ≡ with_situation (stands self.old) pid (after_take (stands self.old pid) taken.now)) }
+        ensures { OnOk result (stands self.new
+            ≡ with_situation (stands self.old) pid (after_take (stands self.old pid) taken.now)) }
     {
         let Stand { process, floor, .. } = self.at(pid);
         let domain = Some(taken.after);
@@ -240,8 +246,8 @@ fn cut(takes: &[Take], own: usize) -> (&[Take], &[Take])
     }
 }
 
-/// The `do` lines of the whole trace, each with its take; a tree begins in the live domain of its name in this
-/// policy.
+/// The `do` lines of the whole trace, each with its take; a tree begins in the live domain of its
+/// name in this policy.
 #[tactic(auto, unfolding(tm_legal::specs::Run::cases_from))]
 pub fn all_cases<'a, R: Rep>(
     alloc: Global,

@@ -159,7 +159,8 @@ fn goes_on(steps: &[(Step, Reply)], retry: u64, more: &[Look], look: &Look) -> b
     asks_so(look.reason, retry_written(steps, look), retry) && is_followed(more, look.heard)
 }
 
-/// Whether another look follows after `retry`, and only then, each Ask with the retry number one higher.
+/// Whether another look follows after `retry`, and only then, each Ask with the retry number one
+/// higher.
 pub fn do_follow(steps: &[(Step, Reply)], looks: &[Look]) -> bool
     ensures { result ≡ do_follow steps.now 0 looks.now }
 {

@@ -39,7 +39,8 @@ fn do_belong(take: &Take, pid: u32) -> bool
     take.pid == pid && !take.looks.is_empty()
 }
 
-/// The first number, from 1, at which a take and a `do` line don't belong together, or only one of the two is there.
+/// The first number, from 1, at which a take and a `do` line don't belong together, or only one of
+/// the two is there.
 pub fn pairs_fault(takes: &[Take], pids: &[u32]) -> Option<u64>
     ensures { result ≡ pairs_fault 1 takes.now pids.now }
 {

@@ -108,3 +108,5 @@ gen-ends Command.Step old new status cause = tt
 gen-ends Command.Learn old new status cause = tt
 gen-ends Command.Print old new status cause = tt
 gen-ends Command.Sort old new status cause = tt
+gen-ends (Command.Replay workers) old new status cause = tt
+gen-ends (Command.ReplayRerun workers) old new status cause = tt

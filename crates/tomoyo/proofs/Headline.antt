@@ -11,6 +11,7 @@ use Rattle.tm_io.specs.Bytes.{then_bytes}
 use Rattle.tm_call.specs.declared.status.Status.{Status}
 use Rattle.tm_call.specs.declared.status.OutName.{OutName}
 use Rattle.tm_call.specs.declared.carry.Outcome.{Outcome}
+use Rattle.tomoyo.specs.declared.way.Way.{Way}
 use Rattle.tomoyo.specs.declared.play.Played.{Played}
 use Rattle.tomoyo.specs.declared.learn.RerunTexts.{RerunTexts}
 use Rattle.tomoyo.specs.declared.learn.Learned.{Learned}
@@ -25,7 +26,7 @@ use Rattle.tm_call_input.specs.Policies.{policy_of}
 use Rattle.tomoyo.specs.Rerun.{Learns}
 use Rattle.tomoyo.specs.Print.{printed_policy}
 use Rattle.tomoyo.specs.Sort.{part_store, sort_reading}
-use Rattle.tomoyo.specs.Call.{wants_of, stored_by, step_stores, rerun_stores, learn_stores, with_stores, policy_stores, Refuses, Allows, IsPlayed, IsLearned, IsGenerated, IsShown, IsSorted, HasDone}
+use Rattle.tomoyo.specs.Call.{wants_of, stored_by, step_stores, rerun_stores, learn_stores, with_stores, policy_stores, MakesPlayed, MakesLearned, Refuses, Allows, IsPlayed, IsLearned, IsGenerated, IsShown, IsSorted, HasDone}
 use Rattle.tomoyo.proofs.Refusals.{refusal-kind}
 use Rattle.tomoyo.proofs.Named.{names-allowed, unnamed-by}
 use Rattle.tm_call.proofs.Others.{changed-other, not-first, not-later, stored-other, leaves-other, cut-other, first-other, self-same}
@@ -95,21 +96,22 @@ all-hold before (store ∷ after) old new tells leaves once =
       all-hold (before ++ store ∷ []) after old new tells (subst (λ (stores : Texts). Leaves stores old new) (sym (append_assoc before (store ∷ []) after)) leaves) parts.1,
     )
 
--- a step that is done
-step-done : (old new : Outside) → Ends (wants_of Command.Step) (Refuses Command.Step) (Allows Command.Step) old new Status.Done → TellsAll old.files → IsPlayed old new
-step-done old new (Ends.Not_fetched stops untouched) tells = absurd stops.cause
-step-done old new (Ends.Refused texts given refused untouched) tells = absurd (refusal-kind Command.Step texts Status.Done refused)
-step-done old new (Ends.Made texts outcome given allowed carried) tells =
-    let played : Played = allowed.1.0 in
-    let leaves : Leaves (step_stores played) old.files new.files = subst (λ (o : Outcome). Leaves o.stores old.files new.files) allowed.1.2 carried.0 in
+-- a play that is done
+played-done : (way : Way) (command : Command) (old new : Outside) → ((texts : Texts) (outcome : Outcome) → Allows command texts outcome → MakesPlayed way texts outcome)
+    → Ends (wants_of command) (Refuses command) (Allows command) old new Status.Done → TellsAll old.files → IsPlayed way (wants_of command) old new
+played-done way command old new makes (Ends.Not_fetched stops untouched) tells = absurd stops.cause
+played-done way command old new makes (Ends.Refused texts given refused untouched) tells = absurd (refusal-kind command texts Status.Done refused)
+played-done way command old new makes (Ends.Made texts outcome given allowed carried) tells =
+    let (played, plays, is) = makes texts outcome allowed in
+    let leaves : Leaves (step_stores played) old.files new.files = subst (λ (o : Outcome). Leaves o.stores old.files new.files) is carried.0 in
     record {
       played = played;
-      plays = subst (λ (ts : Texts). Plays ts played) (texts-told old.files (wants_of Command.Step) texts tells given) allowed.1.1;
+      plays = subst (λ (ts : Texts). Plays way ts played) (texts-told old.files (wants_of command) texts tells given) plays;
       stored = all-hold [] (step_stores played) old.files new.files tells leaves refl;
-      summary = carried.1 ∙ ap (λ (o : Outcome). then_bytes o.line old.written) allowed.1.2;
+      summary = carried.1 ∙ ap (λ (o : Outcome). then_bytes o.line old.written) is;
     }
 
--- what a learn that is done has stored, without its rerun and with it
+-- what a play that is done has stored, without its rerun and with it
 learn-holds : (played : Played) (rerun : Option RerunTexts) (old new : Files) → TellsAll old → Leaves (step_stores played ++ rerun_stores rerun) old new
     → AllByRecursion (λ (store : FileName × List ℕ). new store.0 ≡ FileState.Holds store.1) (step_stores played ++ rerun_stores rerun)
 learn-holds played None old new tells leaves = all-hold [] (step_stores played ++ rerun_stores None) old new tells leaves refl
@@ -122,19 +124,20 @@ learn-keeps learned old new leaves none =
     let left : Leaves stores old new = subst (λ (rerun : Option RerunTexts). Leaves (step_stores learned.played ++ rerun_stores rerun) old new) none leaves in
     (leaves-other stores old new FileName.Run2 left refl, leaves-other stores old new FileName.Audit2 left refl)
 
--- a learn that is done
-learn-done : (old new : Outside) → Ends (wants_of Command.Learn) (Refuses Command.Learn) (Allows Command.Learn) old new Status.Done → TellsAll old.files → IsLearned old new
-learn-done old new (Ends.Not_fetched stops untouched) tells = absurd stops.cause
-learn-done old new (Ends.Refused texts given refused untouched) tells = absurd (refusal-kind Command.Learn texts Status.Done refused)
-learn-done old new (Ends.Made texts outcome given allowed carried) tells =
-    let learned : Learned = allowed.1.0 in
-    let leaves : Leaves (learn_stores learned) old.files new.files = subst (λ (o : Outcome). Leaves o.stores old.files new.files) allowed.1.2 carried.0 in
+-- a play with a rerun that is done
+learned-done : (way : Way) (command : Command) (old new : Outside) → ((texts : Texts) (outcome : Outcome) → Allows command texts outcome → MakesLearned way texts outcome)
+    → Ends (wants_of command) (Refuses command) (Allows command) old new Status.Done → TellsAll old.files → IsLearned way (wants_of command) old new
+learned-done way command old new makes (Ends.Not_fetched stops untouched) tells = absurd stops.cause
+learned-done way command old new makes (Ends.Refused texts given refused untouched) tells = absurd (refusal-kind command texts Status.Done refused)
+learned-done way command old new makes (Ends.Made texts outcome given allowed carried) tells =
+    let (learned, learns, is) = makes texts outcome allowed in
+    let leaves : Leaves (learn_stores learned) old.files new.files = subst (λ (o : Outcome). Leaves o.stores old.files new.files) is carried.0 in
     record {
       learned = learned;
-      learns = subst (λ (ts : Texts). Learns ts learned) (texts-told old.files (wants_of Command.Learn) texts tells given) allowed.1.1;
+      learns = subst (λ (ts : Texts). Learns way ts learned) (texts-told old.files (wants_of command) texts tells given) learns;
       stored = learn-holds learned.played learned.rerun old.files new.files tells leaves;
       kept = learn-keeps learned old.files new.files leaves;
-      summary = carried.1 ∙ ap (λ (o : Outcome). then_bytes o.line old.written) allowed.1.2;
+      summary = carried.1 ∙ ap (λ (o : Outcome). then_bytes o.line old.written) is;
     }
 
 -- a gen that is done
@@ -216,14 +219,22 @@ print-done old new (Ends.Made texts outcome given allowed carried) tells =
       counts = carried.1 ∙ ap (λ (o : Outcome). then_bytes o.line old.written) allowed.1.2;
     }
 
+-- how a call that is done ends
+done-ends : (command : Command) (old new : Outside) (status : Status) → Ends (wants_of command) (Refuses command) (Allows command) old new status → status ≡ Status.Done → Ends (wants_of command) (Refuses command) (Allows command) old new Status.Done
+done-ends command old new status ends is = subst (λ (s : Status). Ends (wants_of command) (Refuses command) (Allows command) old new s) is ends
+
 pub headline-of : (command : Command) (old new : Outside) (status : Status) → Ends (wants_of command) (Refuses command) (Allows command) old new status → HasDone (Ok command) old new status
 headline-of Command.Step old new status ends = λ tells is.
-    step-done old new (subst (λ (s : Status). Ends (wants_of Command.Step) (Refuses Command.Step) (Allows Command.Step) old new s) is ends) tells
+    played-done Way.ByTurns Command.Step old new (λ texts outcome allowed. allowed.1) (done-ends Command.Step old new status ends is) tells
 headline-of Command.Learn old new status ends = λ tells is.
-    learn-done old new (subst (λ (s : Status). Ends (wants_of Command.Learn) (Refuses Command.Learn) (Allows Command.Learn) old new s) is ends) tells
+    learned-done Way.ByTurns Command.Learn old new (λ texts outcome allowed. allowed.1) (done-ends Command.Learn old new status ends is) tells
 headline-of (Command.Gen seed size) old new status ends = λ tells is.
-    gen-done seed size old new (subst (λ (s : Status). Ends (wants_of (Command.Gen seed size)) (Refuses (Command.Gen seed size)) (Allows (Command.Gen seed size)) old new s) is ends) tells
+    gen-done seed size old new (done-ends (Command.Gen seed size) old new status ends is) tells
 headline-of Command.Sort old new status ends = λ tells is.
-    sort-done old new (subst (λ (s : Status). Ends (wants_of Command.Sort) (Refuses Command.Sort) (Allows Command.Sort) old new s) is ends) tells
+    sort-done old new (done-ends Command.Sort old new status ends is) tells
 headline-of Command.Print old new status ends = λ tells is.
-    print-done old new (subst (λ (s : Status). Ends (wants_of Command.Print) (Refuses Command.Print) (Allows Command.Print) old new s) is ends) tells
+    print-done old new (done-ends Command.Print old new status ends is) tells
+headline-of (Command.Replay workers) old new status ends = λ tells is.
+    played-done Way.OnThreads (Command.Replay workers) old new (λ texts outcome allowed. allowed.1) (done-ends (Command.Replay workers) old new status ends is) tells
+headline-of (Command.ReplayRerun workers) old new status ends = λ tells is.
+    learned-done Way.OnThreads (Command.ReplayRerun workers) old new (λ texts outcome allowed. allowed.1) (done-ends (Command.ReplayRerun workers) old new status ends is) tells

@@ -8,3 +8,4 @@ pub mod Headline
 pub mod ReadBack
 pub mod Playing
 pub mod Rerunning
+pub mod WayLaws

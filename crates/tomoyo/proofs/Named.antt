@@ -17,17 +17,24 @@ use Rattle.tm_call.specs.declared.words.Command.{Command}
 use Rattle.tm_call.specs.Fetches.{Texts}
 use Rattle.tm_call.specs.Stores.{names_of, is_named}
 use Rattle.tm_call.specs.Calls.{Names, StoresOf}
-use Rattle.tomoyo.specs.Call.{stored_by, step_stores, rerun_stores, learn_stores, Allows, StoresBy}
+use Rattle.tomoyo.specs.Call.{run_files, rerun_files, stored_by, step_stores, rerun_stores, learn_stores, Allows, StoresWithRerun, StoresBy}
 
--- the names of an outcome's stores; those of `learn` are those of `step` where it leaves out the rerun
+-- the names of the stores of a run and of its rerun, or of the run alone where the rerun is left
+-- out
+abbrev pub AreWithRerun : List FileName → Type 0
+AreWithRerun names = (names ≡ run_files ++ rerun_files) ⊎ (names ≡ run_files)
+
+-- the names of an outcome's stores
 abbrev pub AreStored : Command → List FileName → Type 0
 AreStored Command.Step names = names ≡ stored_by Command.Step
 AreStored Command.Print names = names ≡ stored_by Command.Print
 AreStored (Command.Gen seed size) names = names ≡ stored_by (Command.Gen seed size)
 AreStored Command.Sort names = (rules : List Rule) × (names ≡ map FileName.AuditPart (named_numbers rules))
-AreStored Command.Learn names = (names ≡ stored_by Command.Learn) ⊎ (names ≡ stored_by Command.Step)
+AreStored Command.Learn names = AreWithRerun names
+AreStored (Command.Replay workers) names = names ≡ stored_by (Command.Replay workers)
+AreStored (Command.ReplayRerun workers) names = AreWithRerun names
 
-learned-names : (learned : Learned) (rerun : Option RerunTexts) → learned.rerun ≡ rerun → AreStored Command.Learn (names_of (learn_stores learned))
+learned-names : (learned : Learned) (rerun : Option RerunTexts) → learned.rerun ≡ rerun → AreWithRerun (names_of (learn_stores learned))
 learned-names learned None e = inr (ap (λ (r : Option RerunTexts). names_of (step_stores learned.played ++ rerun_stores r)) e)
 learned-names learned (Some rerun) e = inl (ap (λ (r : Option RerunTexts). names_of (step_stores learned.played ++ rerun_stores r)) e)
 
@@ -46,7 +53,9 @@ names-allowed Command.Step texts outcome allowed = ap (λ (o : Outcome). names_o
 names-allowed Command.Print texts outcome allowed = ap (λ (o : Outcome). names_of o.stores) allowed.1.2
 names-allowed (Command.Gen seed size) texts outcome allowed = ap (λ (o : Outcome). names_of o.stores) allowed.1.2
 names-allowed Command.Sort texts outcome allowed = (allowed.1.0.rules, ap (λ (o : Outcome). names_of o.stores) allowed.1.2 ∙ sorted-names allowed.1.0)
-names-allowed Command.Learn texts outcome allowed = subst (λ (o : Outcome). AreStored Command.Learn (names_of o.stores)) (sym allowed.1.2) (learned-names allowed.1.0 allowed.1.0.rerun refl)
+names-allowed Command.Learn texts outcome allowed = subst (λ (o : Outcome). AreWithRerun (names_of o.stores)) (sym allowed.1.2) (learned-names allowed.1.0 allowed.1.0.rerun refl)
+names-allowed (Command.Replay workers) texts outcome allowed = ap (λ (o : Outcome). names_of o.stores) allowed.1.2
+names-allowed (Command.ReplayRerun workers) texts outcome allowed = subst (λ (o : Outcome). AreWithRerun (names_of o.stores)) (sym allowed.1.2) (learned-names allowed.1.0 allowed.1.0.rerun refl)
 
 -- Names of the first files among all
 
@@ -89,14 +98,24 @@ part-unnamed p numbers name e = go (is_named (map FileName.AuditPart (filter p n
     go false h = refl
     go true h = sym (part-named p numbers name h) ∙ e
 
+-- the same of a run with its rerun
+with-rerun-named : (names : List FileName) (name : FileName) → AreWithRerun names → is_named names name ≡ true → is_named (run_files ++ rerun_files) name ≡ true
+with-rerun-named names name (inl is) e = ap (λ (ns : List FileName). is_named ns name) (sym is) ∙ e
+with-rerun-named names name (inr is) e = front-named run_files rerun_files name (ap (λ (ns : List FileName). is_named ns name) (sym is) ∙ e)
+
+with-rerun-unnamed : (names : List FileName) (name : FileName) → AreWithRerun names → is_named (run_files ++ rerun_files) name ≡ false → is_named names name ≡ false
+with-rerun-unnamed names name (inl is) e = ap (λ (ns : List FileName). is_named ns name) is ∙ e
+with-rerun-unnamed names name (inr is) e = ap (λ (ns : List FileName). is_named ns name) is ∙ front-unnamed run_files rerun_files name e
+
 -- a name of the stores is one of the command's files
 pub named-by : (command : Command) (names : List FileName) (name : FileName) → AreStored command names → is_named names name ≡ true → is_named (stored_by command) name ≡ true
 named-by Command.Step names name is e = ap (λ (ns : List FileName). is_named ns name) (sym is) ∙ e
 named-by Command.Print names name is e = ap (λ (ns : List FileName). is_named ns name) (sym is) ∙ e
 named-by (Command.Gen seed size) names name is e = ap (λ (ns : List FileName). is_named ns name) (sym is) ∙ e
 named-by Command.Sort names name (rules, is) e = part-named (is_part rules) part_numbers name (ap (λ (ns : List FileName). is_named ns name) (sym is) ∙ e)
-named-by Command.Learn names name (inl is) e = ap (λ (ns : List FileName). is_named ns name) (sym is) ∙ e
-named-by Command.Learn names name (inr is) e = front-named (stored_by Command.Step) (FileName.Run2 ∷ FileName.Audit2 ∷ []) name (ap (λ (ns : List FileName). is_named ns name) (sym is) ∙ e)
+named-by Command.Learn names name is e = with-rerun-named names name is e
+named-by (Command.Replay workers) names name is e = ap (λ (ns : List FileName). is_named ns name) (sym is) ∙ e
+named-by (Command.ReplayRerun workers) names name is e = with-rerun-named names name is e
 
 -- and one that is none of these isn't stored
 pub unnamed-by : (command : Command) (names : List FileName) (name : FileName) → AreStored command names → is_named (stored_by command) name ≡ false → is_named names name ≡ false
@@ -104,10 +123,15 @@ unnamed-by Command.Step names name is e = ap (λ (ns : List FileName). is_named 
 unnamed-by Command.Print names name is e = ap (λ (ns : List FileName). is_named ns name) is ∙ e
 unnamed-by (Command.Gen seed size) names name is e = ap (λ (ns : List FileName). is_named ns name) is ∙ e
 unnamed-by Command.Sort names name (rules, is) e = ap (λ (ns : List FileName). is_named ns name) is ∙ part-unnamed (is_part rules) part_numbers name e
-unnamed-by Command.Learn names name (inl is) e = ap (λ (ns : List FileName). is_named ns name) is ∙ e
-unnamed-by Command.Learn names name (inr is) e = ap (λ (ns : List FileName). is_named ns name) is ∙ front-unnamed (stored_by Command.Step) (FileName.Run2 ∷ FileName.Audit2 ∷ []) name e
+unnamed-by Command.Learn names name is e = with-rerun-unnamed names name is e
+unnamed-by (Command.Replay workers) names name is e = ap (λ (ns : List FileName). is_named ns name) is ∙ e
+unnamed-by (Command.ReplayRerun workers) names name is e = with-rerun-unnamed names name is e
 
 -- Calls
+
+stores-with-rerun : (names : List FileName) (status : Status) (a b : Names) → AreWithRerun names → StoresOf names status a b → StoresWithRerun status a b
+stores-with-rerun names status a b (inl is) h = inl (subst (λ (ns : List FileName). StoresOf ns status a b) is h)
+stores-with-rerun names status a b (inr is) h = inr (subst (λ (ns : List FileName). StoresOf ns status a b) is h)
 
 -- the stores of an outcome are those of the command
 pub stores-by : (command : Command) (names : List FileName) (status : Status) (a b : Names) → AreStored command names → StoresOf names status a b → StoresBy command status a b
@@ -115,8 +139,9 @@ stores-by Command.Step names status a b is h = subst (λ (ns : List FileName). S
 stores-by Command.Print names status a b is h = subst (λ (ns : List FileName). StoresOf ns status a b) is h
 stores-by (Command.Gen seed size) names status a b is h = subst (λ (ns : List FileName). StoresOf ns status a b) is h
 stores-by Command.Sort names status a b (rules, is) h = (rules, subst (λ (ns : List FileName). StoresOf ns status a b) is h)
-stores-by Command.Learn names status a b (inl is) h = inl (subst (λ (ns : List FileName). StoresOf ns status a b) is h)
-stores-by Command.Learn names status a b (inr is) h = inr (subst (λ (ns : List FileName). StoresOf ns status a b) is h)
+stores-by Command.Learn names status a b is h = stores-with-rerun names status a b is h
+stores-by (Command.Replay workers) names status a b is h = subst (λ (ns : List FileName). StoresOf ns status a b) is h
+stores-by (Command.ReplayRerun workers) names status a b is h = stores-with-rerun names status a b is h
 
 -- the stores of a call that ends before them, whatever the files are
 pub stores-whichever : (command : Command) (status : Status) (a b : Names) → ((files : List FileName) → StoresOf files status a b) → StoresBy command status a b
@@ -125,3 +150,5 @@ stores-whichever Command.Print status a b h = h (stored_by Command.Print)
 stores-whichever (Command.Gen seed size) status a b h = h (stored_by (Command.Gen seed size))
 stores-whichever Command.Sort status a b h = ([], h (map FileName.AuditPart (named_numbers [])))
 stores-whichever Command.Learn status a b h = inl (h (stored_by Command.Learn))
+stores-whichever (Command.Replay workers) status a b h = h (stored_by (Command.Replay workers))
+stores-whichever (Command.ReplayRerun workers) status a b h = inl (h (stored_by (Command.ReplayRerun workers)))

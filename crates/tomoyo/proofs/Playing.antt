@@ -6,12 +6,13 @@ use Rattle.tm_types.specs.declared.step.Book.{Book}
 use Rattle.tm_types.specs.declared.step.Run.{Run}
 use Rattle.tm_types.specs.declared.step.Start.{Start}
 use Rattle.tm_types.specs.declared.step.Turn.{Turn}
-use Rattle.tm_legal.specs.Legal.{Legal, final_policy}
+use Rattle.tm_legal.specs.Legal.{Scene, Legal, NoLookBeforeAttach, final_policy}
 use Rattle.tm_legal.specs.Play.{Player, CanPlay, turns, run_of}
 use Rattle.tm_legal.specs.Play as core
 use Rattle.tm_machine.specs.Machine.{Course}
 use Rattle.tm_core.specs.Scenes.{IsReached}
 use Rattle.tm_core.specs.Scenes as scenes
+use Rattle.tomoyo.specs.declared.way.Way.{Way}
 use Rattle.tomoyo.specs.declared.play.Played.{Played}
 use Rattle.tm_call_input.specs.declared.reading.Loaded.{Loaded}
 use Rattle.tm_call_input.specs.Reading.{start_of, scene_of}
@@ -23,30 +24,48 @@ pub reached : (loaded : Loaded) (book : Book) (course : Course) (player : Player
 unfolding turns
 reached loaded book course player same by can starts = record { trees = rw same refl; can = rw (same, by) can; schedule = []; led = starts }
 
+-- what holds of the scene of a machine and a desk that were made of what was read
+moved : (P : Scene → Type 0) (loaded : Loaded) (start : Start) (book : Book) → start ≡ start_of loaded → book ≡ loaded.book → P (scenes.scene_of start loaded.trace book) → P (scene_of loaded)
+moved P loaded start book same by h =
+    subst (λ (b : Book). P (scenes.scene_of (start_of loaded) loaded.trace b)) by (subst (λ (s : Start). P (scenes.scene_of s loaded.trace book)) same h)
+
 -- the run of a player that was played out from its start
 pub play-of : {E : Type 0} (loaded : Loaded) (start : Start) (book : Book) (schedule : List Turn) (player : Player) (course : Course) (result : Result (Run × Start × Policy) E) → start ≡ start_of loaded → book ≡ loaded.book → schedule ≡ loaded.schedule
     → core.Plays (scenes.scene_of start loaded.trace book) schedule (run_of player) → Legal (scenes.scene_of start loaded.trace book) (run_of player) → final_policy (scenes.scene_of start loaded.trace book) (run_of player) ≡ course.state.policy
-    → IfOk result (λ ended. ended.0 ≡ run_of player) → IfOk result (λ ended. ended.2 ≡ course.state.policy) → IfOk result (λ ended. IsPlayOf loaded ended.0 ended.2)
+    → IfOk result (λ ended. ended.0 ≡ run_of player) → IfOk result (λ ended. ended.2 ≡ course.state.policy) → IfOk result (λ ended. IsPlayOf Way.ByTurns loaded ended.0 ended.2)
 play-of loaded start book schedule player course (Ok ended) same by turned plays legal ends run_is policy_is =
-    record { plays = rw run_is (move_plays plays); is_legal = rw run_is (move_legal legal); ends = rw (run_is, policy_is) (move_ends ends) }
-  where
-    move_plays : core.Plays (scenes.scene_of start loaded.trace book) schedule (run_of player) → core.Plays (scene_of loaded) loaded.schedule (run_of player)
-    move_plays h = subst (λ (s : List Turn). core.Plays (scene_of loaded) s (run_of player)) turned (subst (λ (b : Book). core.Plays (scenes.scene_of (start_of loaded) loaded.trace b) schedule (run_of player)) by (subst (λ (s : Start). core.Plays (scenes.scene_of s loaded.trace book) schedule (run_of player)) same h))
-
-    move_legal : Legal (scenes.scene_of start loaded.trace book) (run_of player) → Legal (scene_of loaded) (run_of player)
-    move_legal h = subst (λ (b : Book). Legal (scenes.scene_of (start_of loaded) loaded.trace b) (run_of player)) by (subst (λ (s : Start). Legal (scenes.scene_of s loaded.trace book) (run_of player)) same h)
-
-    move_ends : final_policy (scenes.scene_of start loaded.trace book) (run_of player) ≡ course.state.policy → final_policy (scene_of loaded) (run_of player) ≡ course.state.policy
-    move_ends h = subst (λ (b : Book). final_policy (scenes.scene_of (start_of loaded) loaded.trace b) (run_of player) ≡ course.state.policy) by (subst (λ (s : Start). final_policy (scenes.scene_of s loaded.trace book) (run_of player) ≡ course.state.policy) same h)
+    let played : core.Plays (scene_of loaded) schedule (run_of player) = moved (λ (scene : Scene). core.Plays scene schedule (run_of player)) loaded start book same by plays in
+    let by_schedule : core.Plays (scene_of loaded) loaded.schedule (run_of player) = subst (λ (s : List Turn). core.Plays (scene_of loaded) s (run_of player)) turned played in
+    record {
+      came = subst (λ (run : Run). core.Plays (scene_of loaded) loaded.schedule run) (sym run_is) by_schedule;
+      is_legal = rw run_is (moved (λ (scene : Scene). Legal scene (run_of player)) loaded start book same by legal);
+      ends = rw (run_is, policy_is) (moved (λ (scene : Scene). final_policy scene (run_of player) ≡ course.state.policy) loaded start book same by ends);
+    }
 play-of loaded start book schedule player course (Err error) same by turned plays legal ends run_is policy_is = tt
 
--- the texts of a run that what was read plays
-pub printed-so : {E : Type 0} (loaded : Loaded) (run : Run) (last opening : Policy) (result : Result Played E) → IsPlayOf loaded run last → opening ≡ loaded.policy → IfOk result (IsPrinted run opening last) → IfOk result (PlaysLoaded loaded)
-printed-so loaded run last opening (Ok played) h same texts =
+-- the run that threads have made of what was read
+pub threads-of : {E : Type 0} (loaded : Loaded) (start : Start) (book : Book) (result : Result (Run × Start × Policy) E) → start ≡ start_of loaded → book ≡ loaded.book
+    → IfOk result (λ ended. Legal (scenes.scene_of start loaded.trace book) ended.0) → IfOk result (λ ended. NoLookBeforeAttach ended.0) → IfOk result (λ ended. final_policy (scenes.scene_of start loaded.trace book) ended.0 ≡ ended.2)
+    → IfOk result (λ ended. IsPlayOf Way.OnThreads loaded ended.0 ended.2)
+threads-of loaded start book (Ok ended) same by legal first ends =
+    record {
+      came = first;
+      is_legal = moved (λ (scene : Scene). Legal scene ended.0) loaded start book same by legal;
+      ends = moved (λ (scene : Scene). final_policy scene ended.0 ≡ ended.2) loaded start book same by ends;
+    }
+threads-of loaded start book (Err error) same by legal first ends = tt
+
+-- it can be played from the machine and the desk
+pub can-threads : (loaded : Loaded) (start : Start) (book : Book) → start ≡ start_of loaded → book ≡ loaded.book → CanPlay (scene_of loaded) → CanPlay (scenes.scene_of start loaded.trace book)
+can-threads loaded start book same by can = rw (same, by) can
+
+-- the texts of a run of what was read
+pub printed-so : {E : Type 0} (way : Way) (loaded : Loaded) (run : Run) (last opening : Policy) (result : Result Played E) → IsPlayOf way loaded run last → opening ≡ loaded.policy → IfOk result (IsPrinted run opening last) → IfOk result (PlaysLoaded way loaded)
+printed-so way loaded run last opening (Ok played) h same texts =
     record {
       run = run;
-      plays = h.plays;
+      came = h.came;
       is_legal = h.is_legal;
       printed = subst (λ (l : Policy). IsPrinted run loaded.policy l played) (sym h.ends) (subst (λ (o : Policy). IsPrinted run o last played) same texts);
     }
-printed-so loaded run last opening (Err error) h same texts = tt
+printed-so way loaded run last opening (Err error) h same texts = tt

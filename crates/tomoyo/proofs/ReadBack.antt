@@ -1,5 +1,5 @@
 -- What is stored of a run is read back as that run.
-use Rattle.std.proofs.Common.{◌≡◌, ◌∙◌, [], refl, ap}
+use Rattle.std.proofs.Common.{◌≡◌, ◌∙◌, refl, ap}
 use Rattle.std.specs.Prelude.{true, Ok, Option, Some, None}
 use Rattle.tm_word.specs.Words.{Text}
 use Rattle.tm_rules.specs.Words.{DomainName}
@@ -12,13 +12,13 @@ use Rattle.tm_script.proofs.ReadLaws.{editors_right}
 use Rattle.tm_legal.specs.Clean.{switched}
 use Rattle.tm_legal.specs.Legal.{Legal, final_policy}
 use Rattle.tm_legal.specs.Play.{IsOpened}
-use Rattle.tm_legal.specs.Play as core
 use Rattle.tm_run.specs.RunText.{run_text}
 use Rattle.tm_run.specs.Reading.{run_of}
 use Rattle.tm_run.specs.Typed.{is_typed}
 use Rattle.tm_run_laws.specs.Scenes.{IsReadScene}
-use Rattle.tm_run_laws.proofs.Runs.{play_read}
+use Rattle.tm_run_laws.proofs.Runs.{legal_read}
 use Rattle.tm_call_input.specs.declared.reading.Loaded.{Loaded}
+use Rattle.tomoyo.specs.declared.way.Way.{Way}
 use Rattle.tomoyo.specs.declared.learn.Learned.{Learned}
 use Rattle.tomoyo.specs.declared.learn.RerunTexts.{RerunTexts}
 use Rattle.tm_call.specs.Fetches.{Texts, content}
@@ -27,7 +27,8 @@ use Rattle.tomoyo.specs.Rerun.{again, CanRerun, Reruns, LearnsLoaded, IsReadBack
 use Rattle.tm_call_input.proofs.Readings.{AreRead, can-play}
 use Rattle.tomoyo.proofs.Rerunning.{rerun-needs, can-rerun}
 
--- what a switched policy keeps: it is opened where the policy is, and has its domains, which are found at the same numbers
+-- what a switched policy keeps: it is opened where the policy is, and has its domains, which are
+-- found at the same numbers
 abbrev pub StaysOpened : Type 0
 StaysOpened = (policy : Policy) → IsOpened policy → IsOpened (switched policy)
 
@@ -48,16 +49,17 @@ read-scene texts loaded read =
     }
 
 -- a stored text is read back as the run that it is the text of
-pub read-back : (texts : Texts) (loaded : Loaded) (run : Run) (text : Text) → AreRead texts loaded → core.Plays (scene_of loaded) loaded.schedule run → is_typed run ≡ true → text ≡ run_text run → run_of text ≡ Ok run
-read-back texts loaded run text e plays typed is = ap run_of is ∙ play_read (scene_of loaded) loaded.schedule run (read-scene texts loaded e) plays typed
+pub read-back : (texts : Texts) (loaded : Loaded) (run : Run) (text : Text) → AreRead texts loaded → Legal (scene_of loaded) run → is_typed run ≡ true → text ≡ run_text run → run_of text ≡ Ok run
+read-back texts loaded run text e legal typed is = ap run_of is ∙ legal_read (scene_of loaded) run (read-scene texts loaded e) legal typed
 
--- what a rerun plays is a scene as the readers give it: its trace is the one that was read, and its opening the switched final policy
-rerun-scene : (texts : Texts) (loaded : Loaded) (run : Run) → StaysOpened → KeepsDomains → FindsDomains → AreRead texts loaded → core.Plays (scene_of loaded) loaded.schedule run → Legal (scene_of loaded) run
-    → homeless (final_policy (scene_of loaded) run) loaded.trace ≡ None → IsReadScene (again (final_policy (scene_of loaded) run) loaded.trace)
-rerun-scene texts loaded run opened domains live e plays legal homes =
+-- the scene of a rerun is one as the readers give it: its trace is the one that was read, and its
+-- opening the switched final policy
+rerun-scene : (texts : Texts) (loaded : Loaded) (run : Run) → StaysOpened → KeepsDomains → FindsDomains → AreRead texts loaded → homeless (final_policy (scene_of loaded) run) loaded.trace ≡ None
+    → IsReadScene (again (final_policy (scene_of loaded) run) loaded.trace)
+rerun-scene texts loaded run opened domains live e homes =
     let first : IsReadScene (scene_of loaded) = read-scene texts loaded e in
     let last : Policy = final_policy (scene_of loaded) run in
-    let needs : CanRerun last loaded.trace = rerun-needs loaded run last first.can_play (record { plays = plays; is_legal = legal; ends = refl }) in
+    let needs : CanRerun last loaded.trace = rerun-needs loaded run last first.can_play refl in
     record {
       grammar = refl;
       can_play = can-rerun last loaded.trace opened domains live needs homes;
@@ -65,13 +67,13 @@ rerun-scene texts loaded run opened domains live e plays legal homes =
       editors = refl;
     }
 
--- the stored text of a rerun is read back as the run that the trace plays again
-pub rerun-read-back : (texts : Texts) (loaded : Loaded) (learned : Learned) → StaysOpened → KeepsDomains → FindsDomains → AreRead texts loaded → (h : LearnsLoaded loaded learned)
-    → IsReadBack (final_policy (scene_of loaded) h.run) loaded.trace h.run learned.rerun h.rerun
-rerun-read-back texts loaded learned opened domains live e h = go learned.rerun h.rerun
+-- the stored text of a rerun is read back as its run
+pub rerun-read-back : (way : Way) (texts : Texts) (loaded : Loaded) (learned : Learned) → StaysOpened → KeepsDomains → FindsDomains → AreRead texts loaded → (h : LearnsLoaded way loaded learned)
+    → IsReadBack way (final_policy (scene_of loaded) h.run) loaded.trace h.run learned.rerun h.rerun
+rerun-read-back way texts loaded learned opened domains live e h = go learned.rerun h.rerun
   where
-    go : (rerun : Option RerunTexts) (played : Reruns (final_policy (scene_of loaded) h.run) loaded.trace h.run rerun) → IsReadBack (final_policy (scene_of loaded) h.run) loaded.trace h.run rerun played
+    go : (rerun : Option RerunTexts) (played : Reruns way (final_policy (scene_of loaded) h.run) loaded.trace h.run rerun) → IsReadBack way (final_policy (scene_of loaded) h.run) loaded.trace h.run rerun played
     go None left = tt
     go (Some rerun) played =
-        let scene : IsReadScene (again (final_policy (scene_of loaded) h.run) loaded.trace) = rerun-scene texts loaded h.run opened domains live e h.plays h.is_legal played.0 in
-        ap run_of played.1.printed.run_is ∙ play_read (again (final_policy (scene_of loaded) h.run) loaded.trace) [] played.1.run2 scene played.1.plays played.1.printed.is_in_range
+        let scene : IsReadScene (again (final_policy (scene_of loaded) h.run) loaded.trace) = rerun-scene texts loaded h.run opened domains live e played.0 in
+        ap run_of played.1.printed.run_is ∙ legal_read (again (final_policy (scene_of loaded) h.run) loaded.trace) played.1.run2 scene played.1.is_legal played.1.printed.is_in_range

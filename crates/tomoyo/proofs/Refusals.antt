@@ -18,10 +18,10 @@ use Rattle.tm_call.specs.declared.fetches.Want.{Want}
 use Rattle.tm_call.specs.Fetches.{Texts, AllGiven, content}
 use Rattle.tm_call_input.specs.Policies.{policy_of}
 use Rattle.tm_call_input.specs.Reading.{refused}
-use Rattle.tm_call_input.proofs.Refusals.{IsLater, failed, was-refused, step-refused, load-refused, step-kind, HasFault, early, fault-line, fault-undefined, fault-early, IsRefusal}
+use Rattle.tm_call_input.proofs.Refusals.{IsLater, failed, was-refused, step-refused, scene-refused, load-refused, step-kind, HasFault, early, fault-line, fault-undefined, fault-early, IsRefusal}
 use Rattle.tomoyo.specs.declared.sort.Sorting.{Sorting}
 use Rattle.tomoyo.specs.Sort.{of_audit, of_rules, few_rules, sort_reading}
-use Rattle.tomoyo.specs.Call.{wants_of, refusal_of, IsLoadFault, IsStepFault, IsSortFault}
+use Rattle.tomoyo.specs.Call.{scene_wants, wants_of, refusal_of, IsLoadFault, IsStepFault, IsSortFault}
 
 -- What `sort` refuses
 
@@ -102,6 +102,8 @@ pub refusal-kind : (command : Command) (texts : Texts) (status : Status) → ref
 refusal-kind Command.Step texts status e = of-reading status (step-kind texts status (step-refused texts status e))
 refusal-kind Command.Learn texts status e = of-reading status (step-kind texts status (step-refused texts status e))
 refusal-kind (Command.Gen seed size) texts status e = absurd cc
+refusal-kind (Command.Replay workers) texts status e = of-reading status (step-kind texts status (scene-refused texts status e))
+refusal-kind (Command.ReplayRerun workers) texts status e = of-reading status (step-kind texts status (scene-refused texts status e))
 refusal-kind Command.Sort texts status e = of-sorting status (sort-refused texts status e)
 refusal-kind Command.Print texts status e = of-reading status (step-kind texts status (inl (load-refused (policy_of texts) status e)))
 
@@ -123,6 +125,10 @@ bad-policy Command.Print files texts file line reply given e =
     line-fault (wants_of Command.Print) files texts file line reply given (load-refused (policy_of texts) (Status.BadPolicy file line reply) e)
 bad-policy Command.Sort files texts file line reply given e = absurd (sort-refused texts (Status.BadPolicy file line reply) e)
 bad-policy (Command.Gen seed size) files texts file line reply given e = absurd cc
+bad-policy (Command.Replay workers) files texts file line reply given e =
+    line-fault scene_wants files texts file line reply given (early texts (Status.BadPolicy file line reply) (λ h. h) (scene-refused texts (Status.BadPolicy file line reply) e))
+bad-policy (Command.ReplayRerun workers) files texts file line reply given e =
+    line-fault scene_wants files texts file line reply given (early texts (Status.BadPolicy file line reply) (λ h. h) (scene-refused texts (Status.BadPolicy file line reply) e))
 
 -- a live domain without its profile
 domain-fault : (wants : List Want) (files : Files) (texts : Texts) (domain : ℕ) → AllGiven files wants texts → HasFault texts (Status.UndefinedProfile domain)
@@ -140,6 +146,10 @@ undefined-profile Command.Print files texts domain given e =
     domain-fault (wants_of Command.Print) files texts domain given (load-refused (policy_of texts) (Status.UndefinedProfile domain) e)
 undefined-profile Command.Sort files texts domain given e = absurd (sort-refused texts (Status.UndefinedProfile domain) e)
 undefined-profile (Command.Gen seed size) files texts domain given e = absurd cc
+undefined-profile (Command.Replay workers) files texts domain given e =
+    domain-fault scene_wants files texts domain given (early texts (Status.UndefinedProfile domain) (λ h. h) (scene-refused texts (Status.UndefinedProfile domain) e))
+undefined-profile (Command.ReplayRerun workers) files texts domain given e =
+    domain-fault scene_wants files texts domain given (early texts (Status.UndefinedProfile domain) (λ h. h) (scene-refused texts (Status.UndefinedProfile domain) e))
 
 -- `print` has no fault beside the policy
 print-early : (texts : Texts) (status : Status) → IsLater status → refusal_of Command.Print texts ≡ Some status → ⊥
@@ -152,6 +162,8 @@ bad-trace Command.Learn files texts line kind given e = (texts, given, e)
 bad-trace Command.Print files texts line kind given e = print-early texts (Status.BadTrace line kind) tt e
 bad-trace Command.Sort files texts line kind given e = sort-refused texts (Status.BadTrace line kind) e
 bad-trace (Command.Gen seed size) files texts line kind given e = absurd cc
+bad-trace (Command.Replay workers) files texts line kind given e = (texts, given, e)
+bad-trace (Command.ReplayRerun workers) files texts line kind given e = (texts, given, e)
 
 pub bad-script : (command : Command) (files : Files) (texts : Texts) (name : FileName) (line : ℕ) (kind : ScriptKind) → AllGiven files (wants_of command) texts → refusal_of command texts ≡ Some (Status.BadScript name line kind)
     → IsStepFault command files (Status.BadScript name line kind)
@@ -160,6 +172,8 @@ bad-script Command.Learn files texts name line kind given e = (texts, given, e)
 bad-script Command.Print files texts name line kind given e = print-early texts (Status.BadScript name line kind) tt e
 bad-script Command.Sort files texts name line kind given e = sort-refused texts (Status.BadScript name line kind) e
 bad-script (Command.Gen seed size) files texts name line kind given e = absurd cc
+bad-script (Command.Replay workers) files texts name line kind given e = (texts, given, e)
+bad-script (Command.ReplayRerun workers) files texts name line kind given e = (texts, given, e)
 
 pub too-many : (command : Command) (files : Files) (texts : Texts) (what : What) → AllGiven files (wants_of command) texts → refusal_of command texts ≡ Some (Status.TooMany what)
     → IsStepFault command files (Status.TooMany what) ⊎ IsSortFault command files (Status.TooMany what)
@@ -168,6 +182,8 @@ too-many Command.Learn files texts what given e = inl (texts, given, e)
 too-many Command.Print files texts what given e = absurd (print-early texts (Status.TooMany what) tt e)
 too-many Command.Sort files texts what given e = inr (texts, given, e)
 too-many (Command.Gen seed size) files texts what given e = absurd cc
+too-many (Command.Replay workers) files texts what given e = inl (texts, given, e)
+too-many (Command.ReplayRerun workers) files texts what given e = inl (texts, given, e)
 
 pub bad-rules : (command : Command) (files : Files) (texts : Texts) (line : ℕ) (kind : ScriptKind) → AllGiven files (wants_of command) texts → refusal_of command texts ≡ Some (Status.BadRules line kind) → IsSortFault command files (Status.BadRules line kind)
 bad-rules Command.Step files texts line kind given e = step-kind texts (Status.BadRules line kind) (step-refused texts (Status.BadRules line kind) e)
@@ -175,6 +191,8 @@ bad-rules Command.Learn files texts line kind given e = step-kind texts (Status.
 bad-rules Command.Print files texts line kind given e = step-kind texts (Status.BadRules line kind) (inl (load-refused (policy_of texts) (Status.BadRules line kind) e))
 bad-rules Command.Sort files texts line kind given e = (texts, given, e)
 bad-rules (Command.Gen seed size) files texts line kind given e = absurd cc
+bad-rules (Command.Replay workers) files texts line kind given e = step-kind texts (Status.BadRules line kind) (scene-refused texts (Status.BadRules line kind) e)
+bad-rules (Command.ReplayRerun workers) files texts line kind given e = step-kind texts (Status.BadRules line kind) (scene-refused texts (Status.BadRules line kind) e)
 
 pub bad-audit : (command : Command) (files : Files) (texts : Texts) (line : ℕ) → AllGiven files (wants_of command) texts → refusal_of command texts ≡ Some (Status.BadAudit line) → IsSortFault command files (Status.BadAudit line)
 bad-audit Command.Step files texts line given e = step-kind texts (Status.BadAudit line) (step-refused texts (Status.BadAudit line) e)
@@ -182,3 +200,5 @@ bad-audit Command.Learn files texts line given e = step-kind texts (Status.BadAu
 bad-audit Command.Print files texts line given e = step-kind texts (Status.BadAudit line) (inl (load-refused (policy_of texts) (Status.BadAudit line) e))
 bad-audit Command.Sort files texts line given e = (texts, given, e)
 bad-audit (Command.Gen seed size) files texts line given e = absurd cc
+bad-audit (Command.Replay workers) files texts line given e = step-kind texts (Status.BadAudit line) (scene-refused texts (Status.BadAudit line) e)
+bad-audit (Command.ReplayRerun workers) files texts line given e = step-kind texts (Status.BadAudit line) (scene-refused texts (Status.BadAudit line) e)

@@ -1,5 +1,6 @@
--- A run is played again: what its rerun needs, what it gives, and why a clean run from a plain opening is repeated.
-use Rattle.std.proofs.Common.{◌≡◌, ◌∙◌, ◌≤◌, ℕ, ◌+◌, true, not, ◌&&◌, List, [], ◌∷◌, length, refl, sym, ap, subst, arith}
+-- A run is played again: what its rerun needs, what it gives, and why a clean run from a plain
+-- opening is repeated.
+use Rattle.std.proofs.Common.{◌≡◌, ◌∙◌, ◌≤◌, ℕ, ◌+◌, true, false, not, ◌&&◌, List, [], ◌∷◌, length, refl, sym, ap, subst, arith}
 use Rattle.std.specs.Prelude.{map, Option, Some, None, IsSome, IsTrue, is_some}
 use Rattle.std.specs.List.{AllByRecursion, position_from}
 use Rattle.tm_word.specs.Texts.{texts_equal}
@@ -25,6 +26,7 @@ use Rattle.tm_legal.proofs.Opened.{position-none, final_is_opened}
 use Rattle.tm_legal.proofs.Named.{final_is_named}
 use Rattle.tm_legal.proofs.Histories.{state_at-newest}
 use Rattle.tm_rerun.specs.Rerun.{rerun_text}
+use Rattle.tomoyo.specs.declared.way.Way.{Way}
 use Rattle.tomoyo.specs.declared.play.Played.{Played}
 use Rattle.tm_call_input.specs.declared.reading.Loaded.{Loaded}
 use Rattle.tomoyo.specs.declared.learn.RerunTexts.{RerunTexts}
@@ -57,6 +59,11 @@ homes-same one other n (tree ∷ trees) same = rw (same tree.start, homes-same o
 pub homes-kept : (last enforcing : Policy) (trace : Trace) → ((policy : Policy) (name : DomainName) → live_domain (switched policy) name ≡ live_domain policy name) → enforcing ≡ switched last → homeless enforcing trace ≡ homeless last trace
 homes-kept last enforcing trace live is = ap (λ (p : Policy). homeless p trace) is ∙ homes-same last (switched last) 0 trace (live last)
 
+-- no place of a tree without a home was found
+pub all-at-home : (policy : Policy) (trace looked : Trace) (place : Option ℕ) → place ≡ homeless policy looked → looked ≡ trace → is_some place ≡ false → homeless policy trace ≡ None
+all-at-home policy trace looked None found same none = ap (homeless policy) (sym same) ∙ sym found
+all-at-home policy trace looked (Some n) found same none = absurd cc
+
 -- the trace can be played again under the switched policy
 pub can-rerun : (last : Policy) (trace : Trace) → ((policy : Policy) → IsOpened policy → IsOpened (switched policy)) → ((policy : Policy) → (switched policy).domains ≡ policy.domains)
     → ((policy : Policy) (name : DomainName) → live_domain (switched policy) name ≡ live_domain policy name) → CanRerun last trace → homeless last trace ≡ None → CanPlay (again last trace)
@@ -70,32 +77,33 @@ can-rerun last trace opened domains live h homes =
       answers = refl;
     }
 
--- after a run that what was read plays
-pub rerun-needs : (loaded : Loaded) (run : Run) (last : Policy) → CanPlay (scene_of loaded) → IsPlayOf loaded run last → CanRerun last loaded.trace
-rerun-needs loaded run last can plays =
+-- after any run of what was read
+pub rerun-needs : (loaded : Loaded) (run : Run) (last : Policy) → CanPlay (scene_of loaded) → final_policy (scene_of loaded) run ≡ last → CanRerun last loaded.trace
+rerun-needs loaded run last can ends =
     record {
-      opened = subst IsOpened plays.ends (final_is_opened (scene_of loaded) run can);
-      named = subst (IsNamed tomoyo_grammar.is_path) plays.ends (final_is_named (scene_of loaded) run can);
+      opened = subst IsOpened ends (final_is_opened (scene_of loaded) run can);
+      named = subst (IsNamed tomoyo_grammar.is_path) ends (final_is_named (scene_of loaded) run can);
       requests = can.requests;
     }
 
 -- What a rerun gives
 
 -- what is played with nobody else is played alone
-pub alone-so : (policy : Policy) (trace : Trace) (loaded : Loaded) (run : Run) (last : Policy) → loaded ≡ nobody_else policy trace → IsPlayOf loaded run last → IsPlayAlone (alone tomoyo_grammar policy trace) run last
-alone-so policy trace loaded run last is h =
-    let plays : IsPlayOf (nobody_else policy trace) run last = subst (λ (l : Loaded). IsPlayOf l run last) is h in
-    record { plays = plays.plays; is_legal = plays.is_legal; ends = plays.ends }
+pub alone-so : (way : Way) (policy : Policy) (trace : Trace) (loaded : Loaded) (run : Run) (last : Policy) → loaded ≡ nobody_else policy trace → IsPlayOf way loaded run last → IsPlayAlone way (alone tomoyo_grammar policy trace) run last
+alone-so way policy trace loaded run last is h =
+    let plays : IsPlayOf way (nobody_else policy trace) run last = subst (λ (l : Loaded). IsPlayOf way l run last) is h in
+    record { came = plays.came; is_legal = plays.is_legal; ends = plays.ends }
 
 pub can-alone : (policy : Policy) (trace : Trace) (loaded : Loaded) → loaded ≡ nobody_else policy trace → CanPlay (alone tomoyo_grammar policy trace) → CanPlay (scene_of loaded)
 can-alone policy trace loaded is can = subst (λ (l : Loaded). CanPlay (scene_of l)) (sym is) can
 
-pub rerun-so : (last : Policy) (trace : Trace) (run run2 : Run) (last2 : Policy) (rerun : RerunTexts) → homeless last trace ≡ None → IsPlayAlone (again last trace) run2 last2 → IsRerunPrinted last run last2 run2 rerun → Reruns last trace run (Some rerun)
-rerun-so last trace run run2 last2 rerun homes plays printed = (
+pub rerun-so : (way : Way) (last : Policy) (trace : Trace) (run run2 : Run) (last2 : Policy) (rerun : RerunTexts) → homeless last trace ≡ None → IsPlayAlone way (again last trace) run2 last2 → IsRerunPrinted last run last2 run2 rerun
+    → Reruns way last trace run (Some rerun)
+rerun-so way last trace run run2 last2 rerun homes plays printed = (
   homes,
   record {
     run2 = run2;
-    plays = plays.plays;
+    came = plays.came;
     is_legal = plays.is_legal;
     printed = subst (λ (p : Policy). IsRerunPrinted last run p run2 rerun) (sym plays.ends) printed;
   },
@@ -130,30 +138,30 @@ clean-homes growing scene run can legal clean =
     let grows : Grows scene.policy (state_at scene run.steps (length run.steps)).policy = growing scene run can.grammar legal clean 0 (length run.steps) least most in
     homes-stay scene.policy (final_policy scene run) 0 scene.trace (subst (λ s. Grows scene.policy s.policy) (state_at-newest scene run.steps) grows) can.starts
 
-repeated-so : (loaded : Loaded) (run : Run) (rerun : Option RerunTexts) → CleanRunGrows → LearnedRunRepeats → CanPlay (scene_of loaded) → Legal (scene_of loaded) run → Reruns (final_policy (scene_of loaded) run) loaded.trace run rerun → IsTrue (is_plain loaded.policy) → IsTrue (is_clean run)
+repeated-so : (way : Way) (loaded : Loaded) (run : Run) (rerun : Option RerunTexts) → CleanRunGrows → LearnedRunRepeats → CanPlay (scene_of loaded) → Legal (scene_of loaded) run → Reruns way (final_policy (scene_of loaded) run) loaded.trace run rerun → IsTrue (is_plain loaded.policy) → IsTrue (is_clean run)
     → IsRepeated (scene_of loaded) run rerun
-repeated-so loaded run None growing repeats can legal left plain clean =
+repeated-so way loaded run None growing repeats can legal left plain clean =
     let homes : homeless (final_policy (scene_of loaded) run) loaded.trace ≡ None = clean-homes growing (scene_of loaded) run can legal clean in
     absurd (none-there (homeless (final_policy (scene_of loaded) run) loaded.trace) homes left)
   where
     none-there : (o : Option ℕ) → o ≡ None → IsSome o → ⊥
     none-there None e there = absurd cc
     none-there (Some n) e there = absurd cc
-repeated-so loaded run (Some rerun) growing repeats can legal played plain clean =
+repeated-so way loaded run (Some rerun) growing repeats can legal played plain clean =
     let h = played.1 in
     let repeated = repeats (scene_of loaded) run h.run2 can plain legal clean h.is_legal in
     (h.run2, h.printed.run_is, h.printed.line_is ∙ ap (rerun_text h.run2) (h.printed.is_same.1 repeated.same), repeated)
 
 -- what was read is played and played again
-pub learned-so : (loaded : Loaded) (run : Run) (last opening : Policy) (played : Played) (rerun : Option RerunTexts) → CleanRunGrows → LearnedRunRepeats → CanPlay (scene_of loaded) → IsPlayOf loaded run last → opening ≡ loaded.policy → IsPrinted run opening last played → Reruns last loaded.trace run rerun
-    → LearnsLoaded loaded (record { played = played; rerun = rerun })
-learned-so loaded run last opening played rerun growing repeats can h same texts reruns =
-    let left : Reruns (final_policy (scene_of loaded) run) loaded.trace run rerun = subst (λ (p : Policy). Reruns p loaded.trace run rerun) (sym h.ends) reruns in
+pub learned-so : (way : Way) (loaded : Loaded) (run : Run) (last opening : Policy) (played : Played) (rerun : Option RerunTexts) → CleanRunGrows → LearnedRunRepeats → CanPlay (scene_of loaded) → IsPlayOf way loaded run last → opening ≡ loaded.policy
+    → IsPrinted run opening last played → Reruns way last loaded.trace run rerun → LearnsLoaded way loaded (record { played = played; rerun = rerun })
+learned-so way loaded run last opening played rerun growing repeats can h same texts reruns =
+    let left : Reruns way (final_policy (scene_of loaded) run) loaded.trace run rerun = subst (λ (p : Policy). Reruns way p loaded.trace run rerun) (sym h.ends) reruns in
     record {
       run = run;
-      plays = h.plays;
+      came = h.came;
       is_legal = h.is_legal;
       printed = subst (λ (l : Policy). IsPrinted run loaded.policy l played) (sym h.ends) (subst (λ (o : Policy). IsPrinted run o last played) same texts);
       rerun = left;
-      repeated = repeated-so loaded run rerun growing repeats can h.is_legal left;
+      repeated = repeated-so way loaded run rerun growing repeats can h.is_legal left;
     }

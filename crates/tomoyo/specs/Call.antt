@@ -21,13 +21,14 @@ use Rattle.tomoyo.specs.declared.play.Printed.{Printed}
 use Rattle.tomoyo.specs.declared.play.Played.{Played}
 use Rattle.tomoyo.specs.declared.learn.RerunTexts.{RerunTexts}
 use Rattle.tomoyo.specs.declared.learn.Learned.{Learned}
+use Rattle.tomoyo.specs.declared.way.Way.{Way}
 use Rattle.tm_call.specs.declared.words.Command.{Command}
 use Rattle.tm_call.specs.Fetches.{want, Texts, AllGiven, FetchStops, TellsAll, told_texts, or_else, first_unread}
 use Rattle.tm_call.specs.Stores.{is_named}
 use Rattle.tm_io.specs.Notes.{Noted}
 use Rattle.tm_call.specs.Calls.{Names, wanted, FetchesOf, StoresOf}
 use Rattle.tm_call.specs.Ends.{Outside, Untouched, Ends}
-use Rattle.tm_call_input.specs.Reading.{refused, step_refusal, RefusedBy}
+use Rattle.tm_call_input.specs.Reading.{refused, scene_reading, step_refusal, RefusedBy}
 use Rattle.tomoyo.specs.Play.{Plays}
 use Rattle.tomoyo.specs.Rerun.{Learns}
 use Rattle.tm_call_input.specs.Policies.{policy_of, policy_refusal}
@@ -38,6 +39,12 @@ use Rattle.tm_sort.specs.Parts.{part_numbers, is_part, named_numbers, parts_of, 
 use Rattle.tomoyo.specs.declared.sort.Sorting.{Sorting}
 use Rattle.tomoyo.specs.Print.{counts_text, printed_policy}
 use Rattle.tomoyo.specs.Sort.{sort_reading, sort_outcome}
+
+-- what is played on threads, in order: there is no schedule
+abbrev pub scene_wants : List Want
+scene_wants =
+    want FileName.Profile true ∷ want FileName.ExceptionPolicy false ∷ want FileName.DomainPolicy true ∷ want FileName.Manager false
+    ∷ want FileName.Trace true ∷ want FileName.Edits false ∷ want FileName.Answers false ∷ []
 
 -- what a command reads, in order, and whether it has to be there
 abbrev pub wants_of : Command → List Want
@@ -51,22 +58,31 @@ wants_of Command.Learn =
     ∷ want FileName.Trace true ∷ want FileName.Edits false ∷ want FileName.Answers false ∷ want FileName.Schedule false ∷ []
 wants_of Command.Sort = want FileName.Audit true ∷ want FileName.Sorter true ∷ []
 wants_of (Command.Gen seed size) = []
+wants_of (Command.Replay workers) = scene_wants
+wants_of (Command.ReplayRerun workers) = scene_wants
 
 -- the files that a command reads, in order
 abbrev pub read_by : Command → List FileName
 read_by command = wanted (wants_of command)
 
--- the files that a command stores, in order; `learn` leaves the last two out where it leaves out the
--- rerun, and `sort` all but the first that its rules don't name
+-- the files of a run and of its rerun, in order
+abbrev pub run_files : List FileName
+run_files = FileName.Run ∷ FileName.Audit ∷ FileName.ProfileNew ∷ FileName.ExceptionPolicyNew ∷ FileName.DomainPolicyNew ∷ FileName.ManagerNew ∷ []
+
+abbrev pub rerun_files : List FileName
+rerun_files = FileName.Run2 ∷ FileName.Audit2 ∷ []
+
+-- the files that a command stores, in order; a rerun that is left out leaves out its two, and
+-- `sort` all but the first that its rules don't name
 abbrev pub stored_by : Command → List FileName
-stored_by Command.Step = FileName.Run ∷ FileName.Audit ∷ FileName.ProfileNew ∷ FileName.ExceptionPolicyNew ∷ FileName.DomainPolicyNew ∷ FileName.ManagerNew ∷ []
+stored_by Command.Step = run_files
 stored_by Command.Print = FileName.ProfileNew ∷ FileName.ExceptionPolicyNew ∷ FileName.DomainPolicyNew ∷ FileName.ManagerNew ∷ []
-stored_by Command.Learn =
-    FileName.Run ∷ FileName.Audit ∷ FileName.ProfileNew ∷ FileName.ExceptionPolicyNew ∷ FileName.DomainPolicyNew ∷ FileName.ManagerNew ∷ FileName.Run2 ∷ FileName.Audit2 ∷ []
+stored_by Command.Learn = run_files ++ rerun_files
 stored_by Command.Sort = map FileName.AuditPart part_numbers
 stored_by (Command.Gen seed size) =
-    FileName.Profile ∷ FileName.ExceptionPolicy ∷ FileName.DomainPolicy ∷ FileName.Manager ∷ FileName.Trace
-    ∷ FileName.Run ∷ FileName.Audit ∷ FileName.ProfileNew ∷ FileName.ExceptionPolicyNew ∷ FileName.DomainPolicyNew ∷ FileName.ManagerNew ∷ []
+    FileName.Profile ∷ FileName.ExceptionPolicy ∷ FileName.DomainPolicy ∷ FileName.Manager ∷ FileName.Trace ∷ run_files
+stored_by (Command.Replay workers) = run_files
+stored_by (Command.ReplayRerun workers) = run_files ++ rerun_files
 
 -- a printed policy as files, in order
 abbrev pub policy_stores : Printed → Texts
@@ -119,13 +135,24 @@ with_files files played = record { stores = with_stores files played; line = pla
 abbrev pub print_outcome : Policy → Outcome
 print_outcome policy = record { stores = policy_stores (printed_policy policy); line = counts_text policy }
 
+-- what a play makes of what was read
+abbrev pub MakesPlayed : Way → Texts → Outcome → Type 0
+MakesPlayed way texts outcome = (played : Played) × Plays way texts played × (outcome ≡ step_outcome played)
+
+-- what a play and a rerun make of it
+abbrev pub MakesLearned : Way → Texts → Outcome → Type 0
+MakesLearned way texts outcome = (learned : Learned) × Learns way texts learned × (outcome ≡ learn_outcome learned)
+
 -- what a command makes of what was read
 abbrev pub Makes : Command → Texts → Outcome → Type 0
-Makes Command.Step texts outcome = (played : Played) × Plays texts played × (outcome ≡ step_outcome played)
+Makes Command.Step texts outcome = MakesPlayed Way.ByTurns texts outcome
 Makes Command.Print texts outcome = (policy : Policy) × (policy_of texts ≡ Ok policy) × (outcome ≡ print_outcome policy)
-Makes Command.Learn texts outcome = (learned : Learned) × Learns texts learned × (outcome ≡ learn_outcome learned)
+Makes Command.Learn texts outcome = MakesLearned Way.ByTurns texts outcome
 Makes Command.Sort texts outcome = (sorting : Sorting) × (sort_reading texts ≡ Ok sorting) × (outcome ≡ sort_outcome sorting)
-Makes (Command.Gen seed size) texts outcome = (played : Played) × Plays (generated_files seed size) played × (outcome ≡ with_files (generated_files seed size) played)
+Makes (Command.Gen seed size) texts outcome =
+    (played : Played) × Plays Way.ByTurns (generated_files seed size) played × (outcome ≡ with_files (generated_files seed size) played)
+Makes (Command.Replay workers) texts outcome = MakesPlayed Way.OnThreads texts outcome
+Makes (Command.ReplayRerun workers) texts outcome = MakesLearned Way.OnThreads texts outcome
 
 -- the refusal of what a command reads; what `gen` generates is never refused
 abbrev pub refusal_of : Command → Texts → Option Status
@@ -134,6 +161,8 @@ refusal_of Command.Print texts = policy_refusal texts
 refusal_of Command.Learn texts = step_refusal texts
 refusal_of Command.Sort texts = refused (sort_reading texts)
 refusal_of (Command.Gen seed size) texts = None
+refusal_of (Command.Replay workers) texts = refused (scene_reading texts)
+refusal_of (Command.ReplayRerun workers) texts = refused (scene_reading texts)
 
 -- a refusal of what was read; want of memory is free
 abbrev pub Refuses : Command → Texts → Status → Type 0
@@ -154,13 +183,19 @@ IsLoadFault Command.Sort files fault = ⊥
 IsLoadFault (Command.Gen seed size) files fault = ⊥
 IsLoadFault command files fault = (texts : Texts) × AllGiven files (wants_of command) texts × (policy_of texts ≡ Err fault)
 
--- a refusal of what `step` and `learn` read beside the policy
+-- a refusal of what is played on threads, beside the policy
+abbrev pub IsSceneFault : Files → Status → Type 0
+IsSceneFault files status = (texts : Texts) × AllGiven files scene_wants texts × (refused (scene_reading texts) ≡ Some status)
+
+-- a refusal of what `step`, `learn` and `replay` read beside the policy
 abbrev pub IsStepFault : Command → Files → Status → Type 0
 IsStepFault Command.Step files status = (texts : Texts) × AllGiven files (wants_of Command.Step) texts × (step_refusal texts ≡ Some status)
 IsStepFault Command.Print files status = ⊥
 IsStepFault Command.Learn files status = (texts : Texts) × AllGiven files (wants_of Command.Learn) texts × (step_refusal texts ≡ Some status)
 IsStepFault Command.Sort files status = ⊥
 IsStepFault (Command.Gen seed size) files status = ⊥
+IsStepFault (Command.Replay workers) files status = IsSceneFault files status
+IsStepFault (Command.ReplayRerun workers) files status = IsSceneFault files status
 
 -- a refusal of what `sort` reads
 abbrev pub IsSortFault : Command → Files → Status → Type 0
@@ -201,11 +236,13 @@ abbrev pub or_done : Option Status → Status
 or_done None = Status.Done
 or_done (Some status) = status
 
--- the status of a command on told files, by the files alone: the first fetch that ends it, else the refusal of what they hold, else Done
+-- the status of a command on told files, by the files alone: the first fetch that ends it, else the
+-- refusal of what they hold, else Done
 abbrev pub answer_of : Command → Files → Status
 answer_of command files = or_done (or_else (first_unread (wants_of command) files) (refusal_of command (told_texts (wants_of command) files)))
 
--- a status that no fault and no want of memory has caused is the answer; a store is begun only where the answer is Done
+-- a status that no fault and no want of memory has caused is the answer; a store is begun only
+-- where the answer is Done
 abbrev pub Answers : Status → Status → Type 0
 Answers answer (Status.ReadFault name) = ⊤
 Answers answer Status.OutOfMemory = ⊤
@@ -228,21 +265,28 @@ abbrev pub KeepsOthers : Result Command ℕ → Files → Files → Type 0
 KeepsOthers (Err place) old new = SameFiles old new
 KeepsOthers (Ok command) old new = (name : FileName) → is_named (stored_by command) name ≡ false → new name ≡ old name
 
--- the files are fetched in their order, each once, and nothing after the fetch that decides; at faulty words nothing is fetched
+-- the files are fetched in their order, each once, and nothing after the fetch that decides; at
+-- faulty words nothing is fetched
 abbrev pub FetchesInOrder : Result Command ℕ → Status → Names → Names → Type 0
 FetchesInOrder (Err place) status old new = Noted [] old new
 FetchesInOrder (Ok command) status old new = FetchesOf (read_by command) status old new
 
--- the stores of a command; those of `learn` are those of `step` where it leaves out the rerun, and
--- those of `sort` the parts that some rules name, by rising number
+-- the stores of a run and of its rerun, or of the run alone where the rerun is left out
+abbrev pub StoresWithRerun : Status → Names → Names → Type 0
+StoresWithRerun status old new = StoresOf (run_files ++ rerun_files) status old new ⊎ StoresOf run_files status old new
+
+-- the stores of a command; those of `sort` are the parts that some rules name, by rising number
 abbrev pub StoresBy : Command → Status → Names → Names → Type 0
 StoresBy Command.Step status old new = StoresOf (stored_by Command.Step) status old new
 StoresBy Command.Print status old new = StoresOf (stored_by Command.Print) status old new
-StoresBy Command.Learn status old new = StoresOf (stored_by Command.Learn) status old new ⊎ StoresOf (stored_by Command.Step) status old new
+StoresBy Command.Learn status old new = StoresWithRerun status old new
 StoresBy Command.Sort status old new = (rules : List Rule) × StoresOf (map FileName.AuditPart (named_numbers rules)) status old new
 StoresBy (Command.Gen seed size) status old new = StoresOf (stored_by (Command.Gen seed size)) status old new
+StoresBy (Command.Replay workers) status old new = StoresOf (stored_by (Command.Replay workers)) status old new
+StoresBy (Command.ReplayRerun workers) status old new = StoresWithRerun status old new
 
--- the files are stored in their order, each once, and nothing after the store that fails; at faulty words nothing is stored
+-- the files are stored in their order, each once, and nothing after the store that fails; at faulty
+-- words nothing is stored
 abbrev pub StoresInOrder : Result Command ℕ → Status → Names → Names → Type 0
 StoresInOrder (Err place) status old new = Noted [] old new
 StoresInOrder (Ok command) status old new = StoresBy command status old new
@@ -252,18 +296,20 @@ abbrev pub StoresLast : Result Command ℕ → Names → Names → Names → Nam
 StoresLast (Err place) fetched_old fetched_new stored_old stored_new = ⊤
 StoresLast (Ok command) fetched_old fetched_new stored_old stored_new = Noted [] stored_old stored_new ⊎ Noted (read_by command) fetched_old fetched_new
 
--- what a `step` that is done has stored and put: the text of a run that the told files allow, its audit texts, its final policy, and its summary
-pub record IsPlayed (old new : Outside) : Type 0 where
+-- what a play of told files that is done has stored and put: the text of a run that they allow, its
+-- audit texts, its final policy, and its summary
+pub record IsPlayed (way : Way) (wants : List Want) (old new : Outside) : Type 0 where
   pub played : Played
-  pub plays : Plays (told_texts (wants_of Command.Step) old.files) played
+  pub plays : Plays way (told_texts wants old.files) played
   pub stored : AllByRecursion (λ (store : FileName × List ℕ). new.files store.0 ≡ FileState.Holds store.1) (step_stores played)
   pub summary : new.written ≡ then_bytes played.summary old.written
 
--- what a `learn` that is done has stored and put: what a `step` has, with the text of the rerun and its audit texts, and its line after the
--- summary; where the rerun is left out, its files are as they were
-pub record IsLearned (old new : Outside) : Type 0 where
+-- what a play with a rerun that is done has stored and put: what a play has, with the text of the
+-- rerun and its audit texts, and its line after the summary; where the rerun is left out, its files
+-- are as they were
+pub record IsLearned (way : Way) (wants : List Want) (old new : Outside) : Type 0 where
   pub learned : Learned
-  pub learns : Learns (told_texts (wants_of Command.Learn) old.files) learned
+  pub learns : Learns way (told_texts wants old.files) learned
   pub stored : AllByRecursion (λ (store : FileName × List ℕ). new.files store.0 ≡ FileState.Holds store.1) (learn_stores learned)
   pub kept : learned.rerun ≡ None → (new.files FileName.Run2 ≡ old.files FileName.Run2) × (new.files FileName.Audit2 ≡ old.files FileName.Audit2)
   pub summary : new.written ≡ then_bytes (learn_line learned) old.written
@@ -271,11 +317,12 @@ pub record IsLearned (old new : Outside) : Type 0 where
 -- what a `gen` that is done has stored and put: the generated files, and what a `step` on them has
 pub record IsGenerated (seed size : ℕ) (old new : Outside) : Type 0 where
   pub played : Played
-  pub plays : Plays (generated_files seed size) played
+  pub plays : Plays Way.ByTurns (generated_files seed size) played
   pub stored : AllByRecursion (λ (store : FileName × List ℕ). new.files store.0 ≡ FileState.Holds store.1) (with_stores (generated_files seed size) played)
   pub summary : new.written ≡ then_bytes played.summary old.written
 
--- what a `print` that is done has stored and put: the printed texts of the policy that the told files load to, and the line of its counts
+-- what a `print` that is done has stored and put: the printed texts of the policy that the told
+-- files load to, and the line of its counts
 pub record IsShown (old new : Outside) : Type 0 where
   pub policy : Policy
   pub loads : policy_of (told_texts (wants_of Command.Print) old.files) ≡ Ok policy
@@ -286,8 +333,8 @@ pub record IsShown (old new : Outside) : Type 0 where
   pub counts : new.written ≡ then_bytes (counts_text policy) old.written
 
 -- what a `sort` that is done has stored and put: in the file of each part that is named the records
--- that its rules send there, in order, with as many records in all parts as there are; the file of no
--- other part has changed, and what was put are the counts
+-- that its rules send there, in order, with as many records in all parts as there are; the file of
+-- no other part has changed, and what was put are the counts
 pub record IsSorted (old new : Outside) : Type 0 where
   pub sorting : Sorting
   pub reads : sort_reading (told_texts (wants_of Command.Sort) old.files) ≡ Ok sorting
@@ -296,18 +343,20 @@ pub record IsSorted (old new : Outside) : Type 0 where
   pub kept : (number : ℕ) → is_part sorting.rules number ≡ false → new.files (FileName.AuditPart number) ≡ old.files (FileName.AuditPart number)
   pub counts : new.written ≡ then_bytes (sort_outcome sorting).line old.written
 
--- the headline: on told files, a call that is done has printed or played them, or learned from them and played them again, or has played files
--- that it generated
+-- the headline: on told files, a call that is done has printed, sorted or played them, by turns or
+-- on threads, or learned from them and played them again, or has played files that it generated
 abbrev pub HasDone : Result Command ℕ → Outside → Outside → Status → Type 0
 HasDone (Err place) old new status = ¬ (status ≡ Status.Done)
-HasDone (Ok Command.Step) old new status = TellsAll old.files → status ≡ Status.Done → IsPlayed old new
+HasDone (Ok Command.Step) old new status = TellsAll old.files → status ≡ Status.Done → IsPlayed Way.ByTurns (wants_of Command.Step) old new
 HasDone (Ok Command.Print) old new status = TellsAll old.files → status ≡ Status.Done → IsShown old new
-HasDone (Ok Command.Learn) old new status = TellsAll old.files → status ≡ Status.Done → IsLearned old new
+HasDone (Ok Command.Learn) old new status = TellsAll old.files → status ≡ Status.Done → IsLearned Way.ByTurns (wants_of Command.Learn) old new
 HasDone (Ok Command.Sort) old new status = TellsAll old.files → status ≡ Status.Done → IsSorted old new
 HasDone (Ok (Command.Gen seed size)) old new status = TellsAll old.files → status ≡ Status.Done → IsGenerated seed size old new
+HasDone (Ok (Command.Replay workers)) old new status = TellsAll old.files → status ≡ Status.Done → IsPlayed Way.OnThreads scene_wants old new
+HasDone (Ok (Command.ReplayRerun workers)) old new status = TellsAll old.files → status ≡ Status.Done → IsLearned Way.OnThreads scene_wants old new
 
--- whatever the files hold, a `gen` is done, wants memory, or ends by a counted fault of a store or of
--- the sink
+-- whatever the files hold, a `gen` is done, wants memory, or ends by a counted fault of a store or
+-- of the sink
 abbrev pub IsGenEnd : Outside → Outside → Status → Type 0
 IsGenEnd old new Status.Done = ⊤
 IsGenEnd old new Status.OutOfMemory = ⊤

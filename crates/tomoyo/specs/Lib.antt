@@ -3,3 +3,4 @@ pub mod Sort
 pub mod Play
 pub mod Rerun
 pub mod Call
+pub mod Closures

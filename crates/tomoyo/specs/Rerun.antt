@@ -1,4 +1,5 @@
--- The rerun of a run: the same trace under the run's final policy with its profiles enforcing, and nobody else.
+-- The rerun of a run: the same trace under the run's final policy with its profiles enforcing, and
+-- nobody else.
 use Rattle.std.specs.Prelude.{◌≡◌, ◌↔◌, Bool, true, [], Option, Some, None, IsSome, IsTrue, Ok, ⊤}
 use Rattle.std.specs.List.{AllByRecursion, list_all}
 use Rattle.tm_rules.specs.Words.{Trace}
@@ -11,7 +12,6 @@ use Rattle.tm_grammar.specs.Tomoyo.{tomoyo_grammar}
 use Rattle.tm_legal.specs.Clean.{switched, SameDomains}
 use Rattle.tm_legal.specs.Legal.{Scene, Legal, final_policy}
 use Rattle.tm_legal.specs.Play.{IsOpened, IsNamed}
-use Rattle.tm_legal.specs.Play as core
 use Rattle.tm_legal.specs.Replay.{alone, Repeats}
 use Rattle.tm_run.specs.Reading.{run_of}
 use Rattle.tm_run.specs.RunText.{run_text}
@@ -19,10 +19,11 @@ use Rattle.tm_run.specs.Typed.{is_typed}
 use Rattle.tm_rerun.specs.Rerun.{rerun_text}
 use Rattle.tomoyo.specs.declared.learn.RerunTexts.{RerunTexts}
 use Rattle.tomoyo.specs.declared.learn.Learned.{Learned}
+use Rattle.tomoyo.specs.declared.way.Way.{Way}
 use Rattle.tm_call_input.specs.declared.reading.Loaded.{Loaded}
 use Rattle.tm_call.specs.Fetches.{Texts}
-use Rattle.tm_call_input.specs.Reading.{homeless, step_reading, scene_of}
-use Rattle.tomoyo.specs.Play.{audits_of, IsPrinted}
+use Rattle.tm_call_input.specs.Reading.{homeless, scene_of}
+use Rattle.tomoyo.specs.Play.{reading_of, Came, audits_of, IsPrinted}
 
 -- the trace under a policy with its profiles enforcing: no editors, and no supervisor
 abbrev pub again : Policy → Trace → Scene
@@ -38,13 +39,15 @@ pub record CanRerun (last : Policy) (trace : Trace) : Type 0 where
   pub named : IsNamed tomoyo_grammar.is_path last
   pub requests : AllByRecursion (λ (tree : Tree). IsTrue (list_all (item_is_request tomoyo_grammar.is_path) tree.records)) trace
 
--- the run that a trace plays alone in the default order, it is legal, and it ends with this policy
-pub record IsPlayAlone (scene : Scene) (run : Run) (last : Policy) : Type 0 where
-  pub plays : core.Plays scene [] run
+-- a run of a scene of a trace alone: it came this way, without a schedule, it is legal, and it ends
+-- with this policy
+pub record IsPlayAlone (way : Way) (scene : Scene) (run : Run) (last : Policy) : Type 0 where
+  pub came : Came way scene [] run
   pub is_legal : Legal scene run
   pub ends : final_policy scene run ≡ last
 
--- the texts of a rerun; its numbers are those that the types have, and its line says whether its processes are in the domains that they were in
+-- the texts of a rerun; its numbers are those that the types have, and its line says whether its
+-- processes are in the domains that they were in
 pub record IsRerunPrinted (last1 : Policy) (run1 : Run) (last2 : Policy) (run2 : Run) (rerun : RerunTexts) : Type 0 where
   pub run_is : rerun.run ≡ run_text run2
   pub is_in_range : is_typed run2 ≡ true
@@ -53,42 +56,45 @@ pub record IsRerunPrinted (last1 : Policy) (run1 : Run) (last2 : Policy) (run2 :
   pub is_same : IsTrue same ↔ SameDomains last1 run1 last2 run2
   pub line_is : rerun.line ≡ rerun_text run2 same
 
--- a rerun of a run with this final policy: what is stored and put of it are the texts of the run that the trace plays again
-pub record IsRerun (last : Policy) (trace : Trace) (run : Run) (rerun : RerunTexts) : Type 0 where
+-- a rerun of a run with this final policy: what is stored and put of it are the texts of a run of
+-- the trace again, which came the same way
+pub record IsRerun (way : Way) (last : Policy) (trace : Trace) (run : Run) (rerun : RerunTexts) : Type 0 where
   pub run2 : Run
-  pub plays : core.Plays (again last trace) [] run2
+  pub came : Came way (again last trace) [] run2
   pub is_legal : Legal (again last trace) run2
   pub printed : IsRerunPrinted last run (final_policy (again last trace) run2) run2 rerun
 
 -- a rerun is left out exactly where some tree's domain isn't live in the final policy
-abbrev pub Reruns : Policy → Trace → Run → Option RerunTexts → Type 0
-Reruns last trace run None = IsSome (homeless last trace)
-Reruns last trace run (Some rerun) = (homeless last trace ≡ None) × IsRerun last trace run rerun
+abbrev pub Reruns : Way → Policy → Trace → Run → Option RerunTexts → Type 0
+Reruns way last trace run None = IsSome (homeless last trace)
+Reruns way last trace run (Some rerun) = (homeless last trace ≡ None) × IsRerun way last trace run rerun
 
--- the text of a rerun is read back as the run that the trace plays again
-abbrev pub IsReadBack : (last : Policy) (trace : Trace) (run : Run) (rerun : Option RerunTexts) → Reruns last trace run rerun → Type 0
-IsReadBack last trace run None left = ⊤
-IsReadBack last trace run (Some rerun) played = run_of rerun.run ≡ Ok played.1.run2
+-- the text of a rerun is read back as its run
+abbrev pub IsReadBack : (way : Way) (last : Policy) (trace : Trace) (run : Run) (rerun : Option RerunTexts) → Reruns way last trace run rerun → Type 0
+IsReadBack way last trace run None left = ⊤
+IsReadBack way last trace run (Some rerun) played = run_of rerun.run ≡ Ok played.1.run2
 
--- the rerun isn't left out; it makes no step and grants every take, in domains of the same names, and its line says that they are the same
+-- the rerun isn't left out; it makes no step and grants every take, in domains of the same names,
+-- and its line says that they are the same
 abbrev pub IsRepeated : Scene → Run → Option RerunTexts → Type 0
 IsRepeated scene run None = ⊥
 IsRepeated scene run (Some rerun) = (run2 : Run) × (rerun.run ≡ run_text run2) × (rerun.line ≡ rerun_text run2 true) × Repeats scene run run2
 
--- what was learned are the texts of the run that what was read plays, and of its rerun; a clean run from a plain opening is repeated
-pub record LearnsLoaded (loaded : Loaded) (learned : Learned) : Type 0 where
+-- what was learned are the texts of a run of what was read, and of its rerun; a clean run from a
+-- plain opening is repeated
+pub record LearnsLoaded (way : Way) (loaded : Loaded) (learned : Learned) : Type 0 where
   pub run : Run
-  pub plays : core.Plays (scene_of loaded) loaded.schedule run
+  pub came : Came way (scene_of loaded) loaded.schedule run
   pub is_legal : Legal (scene_of loaded) run
   pub printed : IsPrinted run loaded.policy (final_policy (scene_of loaded) run) learned.played
-  pub rerun : Reruns (final_policy (scene_of loaded) run) loaded.trace run learned.rerun
+  pub rerun : Reruns way (final_policy (scene_of loaded) run) loaded.trace run learned.rerun
   pub repeated : IsTrue (is_plain loaded.policy) → IsTrue (is_clean run) → IsRepeated (scene_of loaded) run learned.rerun
 
--- the files are read, and what was learned are the texts of the run that what was read plays, and of its rerun; the text of each of the two
--- is read back as that run
-pub record Learns (texts : Texts) (learned : Learned) : Type 0 where
+-- the files are read, and what was learned are the texts of a run of what was read, and of its
+-- rerun; the text of each of the two is read back as that run
+pub record Learns (way : Way) (texts : Texts) (learned : Learned) : Type 0 where
   pub loaded : Loaded
-  pub read : step_reading texts ≡ Ok loaded
-  pub learns : LearnsLoaded loaded learned
+  pub read : reading_of way texts ≡ Ok loaded
+  pub learns : LearnsLoaded way loaded learned
   pub read_back : run_of learned.played.run ≡ Ok learns.run
-  pub rerun_read_back : IsReadBack (final_policy (scene_of loaded) learns.run) loaded.trace learns.run learned.rerun learns.rerun
+  pub rerun_read_back : IsReadBack way (final_policy (scene_of loaded) learns.run) loaded.trace learns.run learned.rerun learns.rerun

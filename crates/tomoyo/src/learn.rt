@@ -4,13 +4,18 @@ ghost use Rattle.tm_rules.specs.Few.{IsFew};
 ghost use Rattle.tm_grammar.specs.Tomoyo.{tomoyo_grammar};
 ghost use Rattle.tm_legal.specs.Play.{CanPlay};
 ghost use Rattle.tm_legal.specs.Replay.{alone};
-ghost use Rattle.tm_call_input.specs.Reading.{scene_of, step_refusal, RefusedBy};
+ghost use Rattle.tm_trace.specs.Written.{IsTrace};
+ghost use Rattle.tm_call_input.specs.Reading.{RefusedBy};
+ghost use Rattle.tomoyo.specs.Play.{refusal_by};
+ghost use Rattle.tomoyo.specs.Closures.{IsPlayable, PlaysSo};
 ghost use Rattle.tomoyo.specs.Rerun.{nobody_else, CanRerun, IsPlayAlone, IsRerunPrinted, Reruns, LearnsLoaded, Learns};
 
-use crate::play::{Played, audits_of, run_of, texts_of};
+use crate::play::{Played, audits_of, texts_of};
+use crate::way::Way;
+use crate::ways::{Ended, Playing, run_by_turns};
 use std::alloc::Global;
 use tm_call::Status;
-use tm_call_input::{Loaded, homeless, read_step};
+use tm_call_input::{Loaded, homeless};
 use tm_indexed::Indexed;
 use tm_io::FileList;
 use tm_list::{Copied, NoMemory, Seq};
@@ -33,8 +38,8 @@ pub struct RerunTexts {
     pub line: Text,
 }
 
-/// What `learn` gives: what the play of the files gives, and the rerun of its run where that isn't
-/// left out.
+/// What a play with a rerun gives: what the play of the files gives, and the rerun of its run where
+/// that isn't left out.
 #[derive(Drop)]
 pub struct Learned {
     pub played: Played,
@@ -64,10 +69,11 @@ fn nobody_else(alloc: Global, policy: Indexed, trace: Trace) -> Loaded
 pub fn rerun(alloc: Global, policy: Indexed, trace: Trace) -> Result<(Run, Policy), NoMemory>
     requires few { IsFew policy }
     requires can { CanPlay (alone tomoyo_grammar policy trace) }
-    ensures { IfOk result (λ ended. IsPlayAlone (alone tomoyo_grammar policy trace) ended.0 ended.1) }
+    ensures { IfOk result (λ ended.
+        IsPlayAlone Way.ByTurns (alone tomoyo_grammar policy trace) ended.0 ended.1) }
 {
     let loaded = nobody_else(alloc, policy, trace);
-    let (run, _, last) = run_of(alloc, loaded)?;
+    let (run, _, last) = run_by_turns(alloc, loaded)?;
     Ok((run, last))
 }
 
@@ -93,17 +99,39 @@ fn print_rerun(
     })
 }
 
+// Plays a trace under a policy with nobody else.
+fn play_alone<P: Fn(Loaded) -> Ended>(
+    alloc: Global,
+    playing: &Playing<P>,
+    policy: Indexed,
+    trace: Trace,
+) -> Result<(Run, Policy), NoMemory>
+    requires so { PlaysSo P.Fn playing.now.way playing.now.play }
+    requires few { IsFew policy }
+    requires can { CanPlay (alone tomoyo_grammar policy trace) }
+    requires written { IsTrace trace }
+    ensures { IfOk result (λ ended.
+        IsPlayAlone playing.now.way (alone tomoyo_grammar policy trace) ended.0 ended.1) }
+{
+    let loaded = nobody_else(alloc, policy, trace);
+    let (run, _, last) = playing.play(loaded)?;
+    Ok((run, last))
+}
+
 // The rerun of a run that has led to this policy; None where some tree has no live domain to start
 // in. The domains of the switched policy are those of this one.
-fn rerun_of(
+fn rerun_of<P: Fn(Loaded) -> Ended>(
     alloc: Global,
+    playing: &Playing<P>,
     run: &Run,
     last: &Policy,
     trace: Trace,
 ) -> Result<Option<RerunTexts>, NoMemory>
+    requires so { PlaysSo P.Fn playing.now.way playing.now.play }
     requires few { IsFew last.now }
     requires can { CanRerun last.now trace }
-    ensures { IfOk result (Reruns last.now trace run.now) }
+    requires written { IsTrace trace }
+    ensures { IfOk result (Reruns playing.now.way last.now trace run.now) }
 {
     switched_domains();
     switched_stays_opened();
@@ -112,41 +140,51 @@ fn rerun_of(
     if homeless(&enforcing, trace.as_slice()).is_some() {
         return Ok(None);
     }
-    let (again, ended) = rerun(alloc, enforcing, trace)?;
+    let (again, ended) = play_alone(alloc, playing, enforcing, trace)?;
     let texts = print_rerun(alloc, last, run, &ended, &again)?;
     Ok(Some(texts))
 }
 
 // Plays what was read, and then its trace again.
-fn learn_loaded(alloc: Global, loaded: Loaded) -> Result<Learned, NoMemory>
-    requires few { IsFew loaded.policy }
-    requires can { CanPlay (scene_of loaded) }
-    ensures { IfOk result (LearnsLoaded loaded) }
+fn learn_loaded<P: Fn(Loaded) -> Ended>(
+    alloc: Global,
+    playing: &Playing<P>,
+    loaded: Loaded,
+) -> Result<Learned, NoMemory>
+    requires so { PlaysSo P.Fn playing.now.way playing.now.play }
+    requires playable { IsPlayable loaded }
+    ensures { IfOk result (LearnsLoaded playing.now.way loaded) }
 {
     clean_runs_grow();
     learned_runs_repeat();
     // A play takes its trace apart, tree by tree, so that the second play has a copy: its text
     // isn't read again.
     let trace = loaded.trace.copy(alloc)?;
-    let (run, opening, last) = run_of(alloc, loaded)?;
+    let (run, opening, last) = playing.play(loaded)?;
     let played = texts_of(alloc, &run, &opening.policy, &last)?;
-    let rerun = rerun_of(alloc, &run, &last, trace)?;
+    let rerun = rerun_of(alloc, playing, &run, &last, trace)?;
     Ok(Learned { played, rerun })
 }
 
 /// Plays what the files hold, and then its trace again under the final policy with its profiles
 /// enforcing, or refuses it.
-pub fn learn_of(alloc: Global, texts: FileList) -> Result<Learned, Status>
-    ensures learned { IfOk result (λ learned. (step_refusal texts ≡ None) × Learns texts learned) }
-    ensures refused { IfErr result (RefusedBy (step_refusal texts)) }
+pub fn learn_of<P: Fn(Loaded) -> Ended>(
+    alloc: Global,
+    playing: &Playing<P>,
+    texts: FileList,
+) -> Result<Learned, Status>
+    requires so { PlaysSo P.Fn playing.now.way playing.now.play }
+    ensures learned { IfOk result (λ learned.
+        (refusal_by playing.now.way texts ≡ None) × Learns playing.now.way texts learned) }
+    ensures refused { IfErr result (RefusedBy (refusal_by playing.now.way texts)) }
 {
     switched_domains();
     switched_stays_opened();
-    let loaded = match read_step(alloc, texts) {
+    let loaded = match playing.read(alloc, texts) {
         Ok(loaded) => loaded,
         Err(status) => return Err(status),
     };
-    match learn_loaded(alloc, loaded) {
+    match learn_loaded(alloc, playing, loaded) {
         Ok(learned) => Ok(learned),
         Err(_) => Err(Status::OutOfMemory),
     }

@@ -1,15 +1,19 @@
 //! The top call: it fetches the files that the words ask for, does the command, stores and prints.
-//! Stands on tm_call, tm_core and every crate that reads, plays or prints what a command needs.
+//! Stands on tm_call, tm_core, tm_replay and the crates that read and print what a command needs.
 //! Promises of each status its cause, what a call that is done has stored, and that no more
 //! changes.
 #![tactic(auto)]
 
 mod learn;
+mod making;
+mod outcome;
 mod play;
 mod print;
 mod sort;
 mod top;
+mod way;
+mod ways;
 
 pub use learn::rerun;
 pub use tm_call::{OutName, Status, What};
-pub use top::run_alone;
+pub use top::{run, run_alone};

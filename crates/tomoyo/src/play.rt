@@ -1,31 +1,26 @@
 //! The play of the files: what they hold is read and played, and the run is printed and summed up.
 ghost use Rattle.std.specs.Prelude.{◌≡◌, ◌++◌, IfOk, IfErr, OnOk, None};
-ghost use Rattle.tm_rules.specs.Few.{IsFew};
 ghost use Rattle.tm_run.specs.RunText.{run_text};
 ghost use Rattle.tm_rerun.specs.Summary.{summary_text};
 ghost use Rattle.tm_text.specs.DomainText.{domain_text};
 ghost use Rattle.tm_text.specs.ExceptionText.{exception_text};
 ghost use Rattle.tm_text.specs.ManagerText.{manager_text};
 ghost use Rattle.tm_text.specs.ProfileText.{profile_text};
-ghost use Rattle.tm_legal.specs.Play.{CanPlay};
-ghost use Rattle.tm_call_input.specs.Reading.{start_of, scene_of, step_refusal, RefusedBy};
-ghost use Rattle.tomoyo.specs.Play.{PlaysLoaded, Plays, audit_word, audits_of, IsPlayOf, IsPrinted, IsPolicyPrinted};
+ghost use Rattle.tm_call_input.specs.Reading.{RefusedBy};
+ghost use Rattle.tomoyo.specs.Play.{refusal_by, PlaysLoaded, Plays, audit_word, audits_of, IsPrinted, IsPolicyPrinted};
+ghost use Rattle.tomoyo.specs.Closures.{IsPlayable, PlaysSo};
 
-use std::alloc::{AllocError, Global};
+use crate::ways::{Ended, Playing};
+use std::alloc::Global;
 use tm_call::Status;
-use tm_call_input::{Loaded, read_step};
-use tm_core::{into_run, play_out, start_play};
-use tm_desk::{Desk, book_code};
-use tm_indexed::Indexed;
+use tm_call_input::Loaded;
 use tm_io::FileList;
 use tm_list::NoMemory;
-use tm_machine::Machine;
 use tm_rerun::summary_line;
 use tm_run::print_run;
-use tm_script::has_supervisor;
 use tm_text::{print_domain, print_exception, print_manager, print_profile};
 use tm_types::policy::Policy;
-use tm_types::step::{Query, Run, Start, Take};
+use tm_types::step::{Run, Take};
 use tm_word::Text;
 
 /// The printed files of a policy.
@@ -45,32 +40,6 @@ pub struct Played {
     pub audit: Text,
     pub policy: Printed,
     pub summary: Text,
-}
-
-// The run that is played of what was read, its opening, and the policy at its last version.
-pub(crate) fn run_of(alloc: Global, loaded: Loaded) -> Result<(Run, Start, Policy), NoMemory>
-    requires few { IsFew loaded.policy }
-    requires can { CanPlay (scene_of loaded) }
-    ensures plays { IfOk result (λ ended. IsPlayOf loaded ended.0 ended.2) }
-    ensures opening { IfOk result (λ ended. ended.1 ≡ start_of loaded) }
-    ensures few { IfOk result (λ ended. IsFew ended.2) }
-{
-    let Loaded {
-        policy,
-        trace,
-        editors,
-        book,
-        schedule,
-    } = loaded;
-    let Ok(trees) = u32::try_from(trace.len()) else {
-        return Err(AllocError);
-    };
-    let stands = has_supervisor(&book);
-    let machine = Machine::start(alloc, policy, editors.into_vec(), trees, stands)?;
-    let player = start_play(alloc, machine, trace)?;
-    let desk = Desk::new(&book, |query: &Query| book_code(&book, query));
-    let played = play_out(alloc, player, &desk, schedule.as_slice())?;
-    into_run(alloc, played)
 }
 
 // Appends the audit text of a take, where it has one.
@@ -137,25 +106,35 @@ pub(crate) fn texts_of(
 }
 
 // Plays what was read.
-fn play_loaded(alloc: Global, loaded: Loaded) -> Result<Played, NoMemory>
-    requires few { IsFew loaded.policy }
-    requires can { CanPlay (scene_of loaded) }
-    ensures { IfOk result (PlaysLoaded loaded) }
+fn play_loaded<P: Fn(Loaded) -> Ended>(
+    alloc: Global,
+    playing: &Playing<P>,
+    loaded: Loaded,
+) -> Result<Played, NoMemory>
+    requires so { PlaysSo P.Fn playing.now.way playing.now.play }
+    requires playable { IsPlayable loaded }
+    ensures { IfOk result (PlaysLoaded playing.now.way loaded) }
 {
-    let (run, opening, last) = run_of(alloc, loaded)?;
+    let (run, opening, last) = playing.play(loaded)?;
     texts_of(alloc, &run, &opening.policy, &last)
 }
 
 /// Plays what the files hold, or refuses it.
-pub fn play_of(alloc: Global, texts: FileList) -> Result<Played, Status>
-    ensures played { IfOk result (λ played. (step_refusal texts ≡ None) × Plays texts played) }
-    ensures refused { IfErr result (RefusedBy (step_refusal texts)) }
+pub fn play_of<P: Fn(Loaded) -> Ended>(
+    alloc: Global,
+    playing: &Playing<P>,
+    texts: FileList,
+) -> Result<Played, Status>
+    requires so { PlaysSo P.Fn playing.now.way playing.now.play }
+    ensures played { IfOk result (λ played.
+        (refusal_by playing.now.way texts ≡ None) × Plays playing.now.way texts played) }
+    ensures refused { IfErr result (RefusedBy (refusal_by playing.now.way texts)) }
 {
-    let loaded = match read_step(alloc, texts) {
+    let loaded = match playing.read(alloc, texts) {
         Ok(loaded) => loaded,
         Err(status) => return Err(status),
     };
-    match play_loaded(alloc, loaded) {
+    match play_loaded(alloc, playing, loaded) {
         Ok(played) => Ok(played),
         Err(_) => Err(Status::OutOfMemory),
     }

@@ -1,34 +1,27 @@
-ghost use Rattle.std.specs.Prelude.{◌≡◌, ◌≤◌, ◌⊎◌, ◌++◌, [], IfOk, IfErr, OnOk, map, string_bytes};
-ghost use Rattle.tm_rules.specs.Few.{IsFew};
+//! The top call: what the words ask for is fetched, made, stored and put.
+ghost use Rattle.std.specs.Prelude.{◌≡◌, ◌≤◌, ◌⊎◌, [], true, Ok, IfOk, IfErr, OnOk, map, string_bytes};
 ghost use Rattle.tm_io.specs.Causes.{Rose};
 ghost use Rattle.tm_io.specs.Files.{SameFiles};
 ghost use Rattle.tm_io.specs.Notes.{Noted};
 ghost use Rattle.tm_call.specs.Fetches.{AllGiven, FetchStops};
 ghost use Rattle.tm_call.specs.Calls.{FetchesOf};
 ghost use Rattle.tm_call.specs.Ends.{outside, Ends};
-ghost use Rattle.tm_call_input.specs.Reading.{step_refusal};
-ghost use Rattle.tm_gen_laws.specs.Generated.{generated_files};
-ghost use Rattle.tm_call.specs.Words.{read_words, IsSized};
-ghost use Rattle.tomoyo.specs.Call.{wants_of, read_by, stores_of, policy_stores, step_stores, step_outcome, rerun_stores, rerun_line, learn_outcome, with_files, print_outcome};
-ghost use Rattle.tomoyo.specs.Play.{Plays};
-ghost use Rattle.tomoyo.specs.Call.{Refuses, Allows, CallEnds, HasCause, IsExact, IsComplete, KeepsOthers, HasDone, GenEnds};
-ghost use Rattle.tomoyo.specs.Call.{FetchesInOrder, StoresBy, StoresInOrder, StoresLast};
+ghost use Rattle.tm_call.specs.Words.{read_words, run_words, is_alone, IsSized};
 ghost use Rattle.tm_call.specs.declared.words.Command.{Command};
+ghost use Rattle.tomoyo.specs.Call.{wants_of, read_by};
+ghost use Rattle.tomoyo.specs.Call.{Refuses, Allows, CallEnds, HasCause, IsExact, IsComplete, KeepsOthers, HasDone, GenEnds};
+ghost use Rattle.tomoyo.specs.Closures.{MakesSo};
+ghost use Rattle.tomoyo.specs.Call.{FetchesInOrder, StoresBy, StoresInOrder, StoresLast};
 
-use crate::learn::{Learned, RerunTexts, learn_of};
-use crate::play::{Played, Printed, play_of, print_policy};
-use crate::print::counts_line;
-use crate::sort::make_sort;
-use std::alloc::{AllocError, Global};
-use tm_call::{Command, Outcome, Status, Want, carry_out, fetch_all, read_command};
-use tm_call_input::load_files;
-use tm_gen::{Generated, generate};
-use tm_gen_laws::generated_files_are_never_refused;
+use crate::making::{make, make_on_threads};
+use std::alloc::Global;
+use std::sync::Wait;
+use std::thread::Threads;
+use tm_call::{
+    Command, Outcome, Status, Want, carry_out, fetch_all, read_any_command, read_command,
+};
+use tm_engine::gate::Gate;
 use tm_io::{FileList, FileName, Shelf, Sink};
-use tm_list::NoMemory;
-use tm_rerun::no_rerun_line;
-use tm_types::policy::Policy;
-use tm_word::Text;
 
 // Fetches what a command reads.
 fn fetch_for<S: Shelf>(alloc: Global, command: Command, shelf: &mut S) -> Result<FileList, Status>
@@ -56,6 +49,18 @@ fn fetch_for<S: Shelf>(alloc: Global, command: Command, shelf: &mut S) -> Result
             ];
             fetch_all(alloc, shelf, &wants)
         }
+        Command::Replay(_) | Command::ReplayRerun(_) => {
+            let wants = [
+                Want::needed(FileName::Profile),
+                Want::optional(FileName::ExceptionPolicy),
+                Want::needed(FileName::DomainPolicy),
+                Want::optional(FileName::Manager),
+                Want::needed(FileName::Trace),
+                Want::optional(FileName::Edits),
+                Want::optional(FileName::Answers),
+            ];
+            fetch_all(alloc, shelf, &wants)
+        }
         Command::Print => {
             let wants = [
                 Want::needed(FileName::Profile),
@@ -79,255 +84,15 @@ fn fetch_for<S: Shelf>(alloc: Global, command: Command, shelf: &mut S) -> Result
     }
 }
 
-// Appends a printed policy as files, in order.
-fn push_policy(policy: Printed, stores: &mut FileList) -> Result<(), NoMemory>
-    ensures { OnOk result (stores.new ≡ stores.old ++ policy_stores policy) }
-{
-    let Printed {
-        profile,
-        exception,
-        domain,
-        manager,
-    } = policy;
-    stores.push((FileName::ProfileNew, profile))?;
-    stores.push((FileName::ExceptionPolicyNew, exception))?;
-    stores.push((FileName::DomainPolicyNew, domain))?;
-    stores.push((FileName::ManagerNew, manager))?;
-    Ok(())
-}
-
-// The text of a run, its audit texts and a printed policy as files, in order.
-fn stores_of(alloc: Global, run: Text, audit: Text, policy: Printed) -> Result<FileList, NoMemory>
-    ensures { IfOk result (λ stores. stores ≡ stores_of run audit policy) }
-{
-    let mut stores = FileList::new(alloc);
-    push_played(run, audit, policy, &mut stores)?;
-    Ok(stores)
-}
-
-// What `step` stores and puts of what was played.
-fn step_outcome(alloc: Global, played: Played) -> Result<Outcome, NoMemory>
-    ensures { IfOk result (λ outcome. outcome ≡ step_outcome played) }
-{
-    let Played {
-        run,
-        audit,
-        policy,
-        summary,
-    } = played;
-    let stores = stores_of(alloc, run, audit, policy)?;
-    Ok(Outcome {
-        stores,
-        line: summary,
-    })
-}
-
-// Appends the files of a rerun, and its line to the summary; of a rerun that is left out, its line
-// alone.
-fn push_rerun(
-    alloc: Global,
-    rerun: Option<RerunTexts>,
-    stores: &mut FileList,
-    line: &mut Vec<u8>,
-) -> Result<(), NoMemory>
-    ensures stores { OnOk result (stores.new ≡ stores.old ++ rerun_stores rerun) }
-    ensures line { OnOk result (line.new.items ≡ line.old.items ++ rerun_line rerun) }
-{
-    match rerun {
-        None => line.extend_from_slice(&no_rerun_line(alloc)?),
-        Some(rerun) => {
-            let RerunTexts {
-                run,
-                audit,
-                line: text,
-            } = rerun;
-            stores.push((FileName::Run2, run))?;
-            stores.push((FileName::Audit2, audit))?;
-            line.extend_from_slice(text.bytes())
-        }
-    }
-}
-
-// What `learn` stores and puts of what was learned.
-fn learn_outcome(alloc: Global, learned: Learned) -> Result<Outcome, NoMemory>
-    ensures { IfOk result (λ outcome. outcome ≡ learn_outcome learned) }
-{
-    let Learned { played, rerun } = learned;
-    let Played {
-        run,
-        audit,
-        policy,
-        summary,
-    } = played;
-    let mut stores = stores_of(alloc, run, audit, policy)?;
-    let mut line = summary.into_vec();
-    push_rerun(alloc, rerun, &mut stores, &mut line)?;
-    Ok(Outcome {
-        stores,
-        line: Text::from_vec(line),
-    })
-}
-
-// The files that are generated from a seed and a size, in order.
-fn generated_files(alloc: Global, seed: u64, size: u32) -> Result<FileList, NoMemory>
-    ensures { IfOk result (λ files. files ≡ generated_files seed size) }
-{
-    let Generated {
-        profile,
-        exception,
-        domain,
-        manager,
-        trace,
-    } = generate(alloc, seed, size)?;
-    let mut files = FileList::new(alloc);
-    files.push((FileName::Profile, profile))?;
-    files.push((FileName::ExceptionPolicy, exception))?;
-    files.push((FileName::DomainPolicy, domain))?;
-    files.push((FileName::Manager, manager))?;
-    files.push((FileName::Trace, trace))?;
-    Ok(files)
-}
-
-// Appends the text of a run, its audit texts and a printed policy to files, in order.
-fn push_played(
-    run: Text,
-    audit: Text,
-    policy: Printed,
-    stores: &mut FileList,
-) -> Result<(), NoMemory>
-    ensures { OnOk result (stores.new ≡ stores.old ++ stores_of run audit policy) }
-{
-    stores.push((FileName::Run, run))?;
-    stores.push((FileName::Audit, audit))?;
-    push_policy(policy, stores)
-}
-
-// What is stored and put of these files, which are stored first, and of what was played of them.
-fn with_files(files: FileList, played: Played) -> Result<Outcome, NoMemory>
-    ensures { IfOk result (λ outcome. outcome ≡ with_files files played) }
-{
-    let Played {
-        run,
-        audit,
-        policy,
-        summary,
-    } = played;
-    let mut stores = files;
-    push_played(run, audit, policy, &mut stores)?;
-    Ok(Outcome {
-        stores,
-        line: summary,
-    })
-}
-
-// What `print` stores and puts of the policy that the files load to.
-fn print_outcome(alloc: Global, policy: &Policy) -> Result<Outcome, NoMemory>
-    requires { IsFew policy.now }
-    ensures { IfOk result (λ outcome. outcome ≡ print_outcome policy.now) }
-{
-    let printed = print_policy(alloc, policy)?;
-    let line = counts_line(alloc, policy)?;
-    let mut stores = FileList::new(alloc);
-    push_policy(printed, &mut stores)?;
-    Ok(Outcome { stores, line })
-}
-
-// Plays what was read, or refuses it.
-fn make_step(alloc: Global, texts: FileList) -> Result<Outcome, Status>
-    ensures made { IfOk result (Allows Command.Step texts) }
-    ensures refused { IfErr result (Refuses Command.Step texts) }
-{
-    match play_of(alloc, texts) {
-        Err(status) => Err(status),
-        Ok(played) => match step_outcome(alloc, played) {
-            Ok(outcome) => Ok(outcome),
-            Err(_) => Err(Status::OutOfMemory),
-        },
-    }
-}
-
-// Plays what was read and then its trace again, or refuses it.
-fn make_learn(alloc: Global, texts: FileList) -> Result<Outcome, Status>
-    ensures made { IfOk result (Allows Command.Learn texts) }
-    ensures refused { IfErr result (Refuses Command.Learn texts) }
-{
-    match learn_of(alloc, texts) {
-        Err(status) => Err(status),
-        Ok(learned) => match learn_outcome(alloc, learned) {
-            Ok(outcome) => Ok(outcome),
-            Err(_) => Err(Status::OutOfMemory),
-        },
-    }
-}
-
-// Plays what is generated from a seed and a size, which is never refused.
-fn play_generated(alloc: Global, seed: u64, size: u32) -> Result<Played, NoMemory>
-    requires { size ≤ 4096 }
-    ensures { IfOk result (Plays (generated_files seed size)) }
-{
-    generated_files_are_never_refused();
-    let files = generated_files(alloc, seed, size)?;
-    match play_of(alloc, files) {
-        Ok(played) => Ok(played),
-        Err(_) => Err(AllocError),
-    }
-}
-
-// What is stored and put of what is generated from a seed and a size. The files are generated once
-// more to be stored, so that they don't lie beside their play.
-fn gen_outcome(alloc: Global, seed: u64, size: u32) -> Result<Outcome, NoMemory>
-    requires { size ≤ 4096 }
-    ensures { IfOk result (Allows (Command.Gen seed size) []) }
-{
-    let played = play_generated(alloc, seed, size)?;
-    let files = generated_files(alloc, seed, size)?;
-    with_files(files, played)
-}
-
-// Plays what is generated from a seed and a size.
-fn make_gen(alloc: Global, seed: u64, size: u32) -> Result<Outcome, Status>
-    requires { size ≤ 4096 }
-    ensures made { IfOk result (Allows (Command.Gen seed size) []) }
-    ensures refused { IfErr result (Refuses (Command.Gen seed size) []) }
-{
-    match gen_outcome(alloc, seed, size) {
-        Ok(outcome) => Ok(outcome),
-        Err(_) => Err(Status::OutOfMemory),
-    }
-}
-
-// Prints the policy that was read, or refuses it.
-fn make_print(alloc: Global, texts: FileList) -> Result<Outcome, Status>
-    ensures made { IfOk result (Allows Command.Print texts) }
-    ensures refused { IfErr result (Refuses Command.Print texts) }
-{
-    match load_files(alloc, texts) {
-        Err(status) => Err(status),
-        Ok(policy) => match print_outcome(alloc, &policy) {
-            Ok(outcome) => Ok(outcome),
-            Err(_) => Err(Status::OutOfMemory),
-        },
-    }
-}
-
-// What a command makes of what was read, or its refusal.
-fn make(alloc: Global, command: Command, texts: FileList) -> Result<Outcome, Status>
-    requires { IsSized command }
-    ensures made { IfOk result (Allows command texts) }
-    ensures refused { IfErr result (Refuses command texts) }
-{
-    match command {
-        Command::Print => make_print(alloc, texts),
-        Command::Step => make_step(alloc, texts),
-        Command::Learn => make_learn(alloc, texts),
-        Command::Sort => make_sort(alloc, texts),
-        Command::Gen(seed, size) => make_gen(alloc, seed, size),
-    }
-}
-
 // Does a command.
-fn perform<S: Shelf, K: Sink>(alloc: Global, command: Command, shelf: &mut S, out: &mut K) -> Status
-    requires { IsSized command }
+fn perform<S: Shelf, K: Sink, M: Fn(Command, FileList) -> Result<Outcome, Status>>(
+    alloc: Global,
+    make: &M,
+    command: Command,
+    shelf: &mut S,
+    out: &mut K,
+) -> Status
+    requires { MakesSo M.Fn command make.now }
     ensures ends { Ends (wants_of command) (Refuses command) (Allows command)
         (outside (S.file shelf.old) (S.faults shelf.old) (K.written out.old) (K.faults out.old))
         (outside (S.file shelf.new) (S.faults shelf.new) (K.written out.new) (K.faults out.new)) result }
@@ -338,10 +103,49 @@ fn perform<S: Shelf, K: Sink>(alloc: Global, command: Command, shelf: &mut S, ou
 {
     match fetch_for(alloc, command, shelf) {
         Err(status) => status,
-        Ok(texts) => match make(alloc, command, texts) {
+        Ok(texts) => match make(command, texts) {
             Err(status) => status,
             Ok(outcome) => carry_out(&outcome, shelf, out),
         },
+    }
+}
+
+// Does the command that the words were read as, and answers how it ended.
+fn answer<S: Shelf, K: Sink, M: Fn(Command, FileList) -> Result<Outcome, Status>>(
+    alloc: Global,
+    make: &M,
+    read: Result<Command, u64>,
+    shelf: &mut S,
+    out: &mut K,
+) -> Status
+    requires { (command : Command) → read ≡ Ok command → MakesSo M.Fn command make.now }
+    ensures headline { HasDone read
+        (outside (S.file shelf.old) (S.faults shelf.old) (K.written out.old) (K.faults out.old))
+        (outside (S.file shelf.new) (S.faults shelf.new) (K.written out.new) (K.faults out.new)) result }
+    ensures kept { KeepsOthers read (S.file shelf.old) (S.file shelf.new) }
+    ensures causes { HasCause read
+        (outside (S.file shelf.old) (S.faults shelf.old) (K.written out.old) (K.faults out.old))
+        (outside (S.file shelf.new) (S.faults shelf.new) (K.written out.new) (K.faults out.new)) result }
+    ensures exact { IsExact read (S.file shelf.old) result }
+    ensures complete { IsComplete read
+        (outside (S.file shelf.old) (S.faults shelf.old) (K.written out.old) (K.faults out.old))
+        (outside (S.file shelf.new) (S.faults shelf.new) (K.written out.new) (K.faults out.new)) result }
+    ensures generated { GenEnds read
+        (outside (S.file shelf.old) (S.faults shelf.old) (K.written out.old) (K.faults out.old))
+        (outside (S.file shelf.new) (S.faults shelf.new) (K.written out.new) (K.faults out.new)) result }
+    ensures fetches { FetchesInOrder read result
+        (S.fetched shelf.old) (S.fetched shelf.new) }
+    ensures stores { StoresInOrder read result
+        (S.stored shelf.old) (S.stored shelf.new) }
+    ensures stores_last { StoresLast read
+        (S.fetched shelf.old) (S.fetched shelf.new) (S.stored shelf.old) (S.stored shelf.new) }
+    ensures ends { CallEnds read
+        (outside (S.file shelf.old) (S.faults shelf.old) (K.written out.old) (K.faults out.old))
+        (outside (S.file shelf.new) (S.faults shelf.new) (K.written out.new) (K.faults out.new)) result }
+{
+    match read {
+        Err(place) => Status::BadWords(place),
+        Ok(command) => perform(alloc, make, command, shelf, out),
     }
 }
 
@@ -397,8 +201,55 @@ pub fn run_alone<S: Shelf, K: Sink>(
         (outside (S.file shelf.old) (S.faults shelf.old) (K.written out.old) (K.faults out.old))
         (outside (S.file shelf.new) (S.faults shelf.new) (K.written out.new) (K.faults out.new)) result }
 {
-    match read_command(words) {
-        Err(place) => Status::BadWords(place),
-        Ok(command) => perform(alloc, command, shelf, out),
-    }
+    let make = |command: Command, texts: FileList| -> Result<Outcome, Status>
+        requires sized { IsSized command }
+        requires alone { is_alone command ≡ true }
+        ensures made { IfOk result (Allows command texts) }
+        ensures refused { IfErr result (Refuses command texts) }
+    { make(alloc, command, texts) };
+    answer(alloc, &make, read_command(words), shelf, out)
+}
+
+/// Does what `run_alone` does, and `replay` with a number of workers from 1 to 16 besides: it plays
+/// the trace on so many threads, with a thread for each editor and for the supervisor, and stores
+/// what `step` stores; it reads no `schedule`. With `rerun` after the number it does what `learn`
+/// does, its rerun on threads too. The gate may hold threads back on their way, as tests do.
+pub fn run<S: Shelf, K: Sink, W: Threads + Wait + Sync, G: Gate>(
+    rt: &W,
+    alloc: Global,
+    words: &[String],
+    shelf: &mut S,
+    out: &mut K,
+    gate: &G,
+) -> Status
+    ensures headline { HasDone (run_words (map string_bytes words.now))
+        (outside (S.file shelf.old) (S.faults shelf.old) (K.written out.old) (K.faults out.old))
+        (outside (S.file shelf.new) (S.faults shelf.new) (K.written out.new) (K.faults out.new)) result }
+    ensures kept { KeepsOthers (run_words (map string_bytes words.now)) (S.file shelf.old) (S.file shelf.new) }
+    ensures causes { HasCause (run_words (map string_bytes words.now))
+        (outside (S.file shelf.old) (S.faults shelf.old) (K.written out.old) (K.faults out.old))
+        (outside (S.file shelf.new) (S.faults shelf.new) (K.written out.new) (K.faults out.new)) result }
+    ensures exact { IsExact (run_words (map string_bytes words.now)) (S.file shelf.old) result }
+    ensures complete { IsComplete (run_words (map string_bytes words.now))
+        (outside (S.file shelf.old) (S.faults shelf.old) (K.written out.old) (K.faults out.old))
+        (outside (S.file shelf.new) (S.faults shelf.new) (K.written out.new) (K.faults out.new)) result }
+    ensures generated { GenEnds (run_words (map string_bytes words.now))
+        (outside (S.file shelf.old) (S.faults shelf.old) (K.written out.old) (K.faults out.old))
+        (outside (S.file shelf.new) (S.faults shelf.new) (K.written out.new) (K.faults out.new)) result }
+    ensures fetches { FetchesInOrder (run_words (map string_bytes words.now)) result
+        (S.fetched shelf.old) (S.fetched shelf.new) }
+    ensures stores { StoresInOrder (run_words (map string_bytes words.now)) result
+        (S.stored shelf.old) (S.stored shelf.new) }
+    ensures stores_last { StoresLast (run_words (map string_bytes words.now))
+        (S.fetched shelf.old) (S.fetched shelf.new) (S.stored shelf.old) (S.stored shelf.new) }
+    ensures ends { CallEnds (run_words (map string_bytes words.now))
+        (outside (S.file shelf.old) (S.faults shelf.old) (K.written out.old) (K.faults out.old))
+        (outside (S.file shelf.new) (S.faults shelf.new) (K.written out.new) (K.faults out.new)) result }
+{
+    let make = |command: Command, texts: FileList| -> Result<Outcome, Status>
+        requires { IsSized command }
+        ensures made { IfOk result (Allows command texts) }
+        ensures refused { IfErr result (Refuses command texts) }
+    { make_on_threads(rt, alloc, gate, command, texts) };
+    answer(alloc, &make, read_any_command(words), shelf, out)
 }

@@ -21,8 +21,9 @@ help_of word =
     if is_one_of word (codes "print" ∷ []) then Asked.Help Topic.Print
     else (if is_one_of word (codes "step" ∷ []) then Asked.Help Topic.Step
     else (if is_one_of word (codes "learn" ∷ []) then Asked.Help Topic.Learn
+    else (if is_one_of word (codes "replay" ∷ []) then Asked.Help Topic.Replay
     else (if is_one_of word (codes "gen" ∷ []) then Asked.Help Topic.Gen
-    else (if is_one_of word (codes "sort" ∷ []) then Asked.Help Topic.Sort else Asked.Command))))
+    else (if is_one_of word (codes "sort" ∷ []) then Asked.Help Topic.Sort else Asked.Command)))))
 
 -- what two words ask for: `COMMAND --help`, or `help COMMAND`
 abbrev pub asked_by_two : List ℕ → List ℕ → Asked

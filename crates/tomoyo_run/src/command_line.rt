@@ -13,6 +13,7 @@ pub const HELP: &str = "\
 usage: tomoyo_run [-C DIR] print
        tomoyo_run [-C DIR] step
        tomoyo_run [-C DIR] learn
+       tomoyo_run [-C DIR] replay WORKERS [rerun]
        tomoyo_run [-C DIR] gen SEED SIZE
        tomoyo_run [-C DIR] sort
        tomoyo_run help [COMMAND] | COMMAND --help | -h | --help
@@ -25,6 +26,7 @@ Works on the files of the folder DIR, or of the current folder.
          stores the run and the policy as it stands afterwards
   learn  does what step does, and plays the trace again with what was learned,
          enforcing
+  replay does what step or, with rerun, learn does, on so many threads
   gen    generates the policy files and a trace of SIZE trees, and plays it
   sort   sorts the records of an audit file into parts, by rules
 
@@ -108,6 +110,25 @@ every request, learns nothing, and has every process in the same domain.
 Exit statuses: those of step.
 ";
 
+/// What `replay --help` prints.
+pub const REPLAY_HELP: &str = "\
+usage: tomoyo_run [-C DIR] replay WORKERS [rerun]
+
+Plays the trace under the policy on WORKERS threads, beside one for each editor
+and one for the supervisor, and learns where a profile says so. WORKERS is 1 to
+16, decimal without leading zeros. The threads come in any order, so two calls
+may store different runs; each is one that the policy, the trace, the edits and
+the answers allow.
+
+Reads    the files that step reads, but for schedule
+Stores   the files that step stores; with rerun, the files that learn stores
+Prints   the line of step; with rerun, the lines of learn
+
+With rerun it plays the trace again as learn does, on threads too.
+
+Exit statuses: those of step; 1 bad words.
+";
+
 /// What `gen --help` prints.
 pub const GEN_HELP: &str = "\
 usage: tomoyo_run [-C DIR] gen SEED SIZE
@@ -162,6 +183,7 @@ pub enum Topic {
     Print,
     Step,
     Learn,
+    Replay,
     Gen,
     Sort,
 }
@@ -173,6 +195,7 @@ pub fn help_text(topic: Topic) -> &'static str {
         Topic::Print => PRINT_HELP,
         Topic::Step => STEP_HELP,
         Topic::Learn => LEARN_HELP,
+        Topic::Replay => REPLAY_HELP,
         Topic::Gen => GEN_HELP,
         Topic::Sort => SORT_HELP,
     }
@@ -291,6 +314,8 @@ fn help_of(word: &String) -> Asked
         Asked::Help(Topic::Step)
     } else if is_one_of(word, &["learn"]) {
         Asked::Help(Topic::Learn)
+    } else if is_one_of(word, &["replay"]) {
+        Asked::Help(Topic::Replay)
     } else if is_one_of(word, &["gen"]) {
         Asked::Help(Topic::Gen)
     } else if is_one_of(word, &["sort"]) {
@@ -401,6 +426,7 @@ fn letter_of(asked: Asked) -> char {
         Asked::Help(Topic::Print) => 'p',
         Asked::Help(Topic::Step) => 's',
         Asked::Help(Topic::Learn) => 'l',
+        Asked::Help(Topic::Replay) => 'r',
         Asked::Help(Topic::Gen) => 'g',
         Asked::Help(Topic::Sort) => 'o',
         Asked::Version => 'v',
@@ -422,6 +448,9 @@ fn one_or_two_words_ask_for_help(rt: HostRuntime) -> Result<(), std::test::Fail>
         (&["print", "--help"], 'p'),
         (&["step", "--help"], 's'),
         (&["learn", "-h"], 'l'),
+        (&["replay", "--help"], 'r'),
+        (&["help", "replay"], 'r'),
+        (&["replay", "2", "--help"], 'c'),
         (&["gen", "--help"], 'g'),
         (&["help", "gen"], 'g'),
         (&["sort", "--help"], 'o'),

@@ -13,8 +13,11 @@ use std::alloc::Global;
 use std::io;
 use std::process::ExitCode;
 use std::rt::Runtime;
+use std::sync::Wait;
+use std::thread::Threads;
+use tm_engine::gate::NoGate;
 use tm_io::{FolderShelf, OutSink, Sink, Stored};
-use tomoyo::{OutName, Status, run_alone};
+use tomoyo::{OutName, Status, run};
 
 // Prints a text that was asked for by `--help` or `--version`.
 fn show<R: Runtime>(rt: &R, text: &str) -> Status {
@@ -34,7 +37,7 @@ fn show_usage<R: Runtime>(rt: &R) -> Status {
 }
 
 // Does what the words of the command line ask for, on their folder and standard output.
-fn answer<R: Runtime>(rt: &R, alloc: Global) -> Status {
+fn answer<R: Runtime + Threads + Wait + Sync>(rt: &R, alloc: Global) -> Status {
     let Ok(line) = read_line(rt, alloc) else {
         return Status::OutOfMemory;
     };
@@ -45,7 +48,7 @@ fn answer<R: Runtime>(rt: &R, alloc: Global) -> Status {
         Asked::Command => {
             let mut shelf = FolderShelf::new(rt, alloc, line.folder);
             let mut out = OutSink::new(io::writer(rt));
-            run_alone(alloc, &line.words, &mut shelf, &mut out)
+            run(rt, alloc, &line.words, &mut shelf, &mut out, &NoGate)
         }
     }
 }

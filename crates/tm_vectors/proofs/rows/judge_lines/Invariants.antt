@@ -3,7 +3,8 @@ use Rattle.tm_word.specs.Texts.{lines_of}
 use Rattle.tm_vectors.specs.Reports.{agreeing, differing, all_said}
 use Rattle.tm_vectors.proofs.rows.judge_lines.Given as goal
 
--- what is counted and said so far, and what is still to be, is the whole; there are no more rows than bytes so far
+-- what is counted and said so far, and what is still to be, is the whole; there are no more rows
+-- than bytes so far
 abbrev pub invariant-loop-line : goal.invariant-loop-line
 invariant-loop-line l =
     (l.agree + agreeing l.table (lines_of l.rest) ≡ agreeing l.table (lines_of l.text))

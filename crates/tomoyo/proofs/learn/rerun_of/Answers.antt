@@ -1,4 +1,4 @@
-use Rattle.std.proofs.Common.{rules, ◌≡◌, ◌∙◌, sym, subst}
+use Rattle.std.proofs.Common.{◌≡◌, ◌∙◌, sym, subst}
 use Rattle.std.specs.Prelude.{None}
 use Rattle.tm_rules.specs.Few.{IsFew}
 use Rattle.tm_types.specs.declared.policy.Policy.{Policy}
@@ -8,30 +8,31 @@ use Rattle.tm_legal.specs.Play.{CanPlay}
 use Rattle.tm_legal.specs.Replay.{alone}
 use Rattle.tm_call_input.specs.Reading.{homeless}
 use Rattle.tomoyo.specs.Rerun.{again, IsPlayAlone}
-use Rattle.tomoyo.proofs.Rerunning.{few-switched, can-rerun, homes-kept, rerun-so}
+use Rattle.tomoyo.proofs.Rerunning.{few-switched, all-at-home, can-rerun, homes-kept, rerun-so}
 use Rattle.tomoyo.proofs.learn.rerun_of.Goals as goal
 
 pub new-requires : goal.new-requires
-new-requires c = subst IsFew (sym c.in_ok-policy.ensures) (few-switched c.args.last.now c.requires.few)
+new-requires g c = subst IsFew (sym c.in_ok-policy.ensures) (few-switched c.args.last.now c.requires.few)
 
-pub rerun-requires-clause-few : goal.rerun-requires-clause-few
-rerun-requires-clause-few c =
+pub play_alone-requires-clause-few : goal.play_alone-requires-clause-few
+play_alone-requires-clause-few g c =
     let is : c.in_ok-enforcing.enforcing ≡ switched c.args.last.now = c.in_ok-enforcing.ensures ∙ c.in_ok-policy.ensures in
     subst IsFew (sym is) (few-switched c.args.last.now c.requires.few)
 
-pub rerun-requires-clause-can : goal.rerun-requires-clause-can
-rerun-requires-clause-can c =
+pub play_alone-requires-clause-can : goal.play_alone-requires-clause-can
+play_alone-requires-clause-can g c =
     let is : c.in_ok-enforcing.enforcing ≡ switched c.args.last.now = c.in_ok-enforcing.ensures ∙ c.in_ok-policy.ensures in
-    let none : homeless c.in_ok-enforcing.enforcing c.args.trace ≡ None = search rules in
+    let none : homeless c.in_ok-enforcing.enforcing c.args.trace ≡ None = all-at-home c.in_ok-enforcing.enforcing c.args.trace c.as_slice.result.now c.homeless.result c.homeless.ensures c.as_slice.ensures (sym c.if-is_some.ensures) in
     let homes : homeless c.args.last.now c.args.trace ≡ None = sym (homes-kept c.args.last.now c.in_ok-enforcing.enforcing c.args.trace c.switched_domains.ensures.live is) ∙ none in
     subst (λ (policy : Policy). CanPlay (alone tomoyo_grammar policy c.args.trace)) (sym is)
     (can-rerun c.args.last.now c.args.trace c.switched_stays_opened.ensures c.switched_domains.ensures.domains c.switched_domains.ensures.live c.requires.can homes)
 
 pub returns : goal.returns
-returns c =
+returns g c =
+    let way = c.args.playing.now.way in
     let is : c.in_ok-enforcing.enforcing ≡ switched c.args.last.now = c.in_ok-enforcing.ensures ∙ c.in_ok-policy.ensures in
-    let none : homeless c.in_ok-enforcing.enforcing c.args.trace ≡ None = search rules in
+    let none : homeless c.in_ok-enforcing.enforcing c.args.trace ≡ None = all-at-home c.in_ok-enforcing.enforcing c.args.trace c.as_slice.result.now c.homeless.result c.homeless.ensures c.as_slice.ensures (sym c.if-is_some.ensures) in
     let homes : homeless c.args.last.now c.args.trace ≡ None = sym (homes-kept c.args.last.now c.in_ok-enforcing.enforcing c.args.trace c.switched_domains.ensures.live is) ∙ none in
-    let plays : IsPlayAlone (again c.args.last.now c.args.trace) c.in_ok-again.again c.in_ok-again.ended =
-    subst (λ (policy : Policy). IsPlayAlone (alone tomoyo_grammar policy c.args.trace) c.in_ok-again.again c.in_ok-again.ended) is c.in_ok-again.ensures in
-    rerun-so c.args.last.now c.args.trace c.args.run.now c.in_ok-again.again c.in_ok-again.ended c.in_ok-texts.texts homes plays c.in_ok-texts.ensures
+    let plays : IsPlayAlone way (again c.args.last.now c.args.trace) c.in_ok-again.again c.in_ok-again.ended =
+    subst (λ (policy : Policy). IsPlayAlone way (alone tomoyo_grammar policy c.args.trace) c.in_ok-again.again c.in_ok-again.ended) is c.in_ok-again.ensures in
+    rerun-so way c.args.last.now c.args.trace c.args.run.now c.in_ok-again.again c.in_ok-again.ended c.in_ok-texts.texts homes plays c.in_ok-texts.ensures

@@ -13,19 +13,19 @@ returns-in-Err-clause-stores g c = stores-whichever c.args.command c.in-Err.stat
 
 pub returns-in-Err-make-clause-ends : goal.returns-in-Err-make-clause-ends
 returns-in-Err-make-clause-ends g c =
-    Ends.Refused c.in-Ok.texts c.in-Ok.ensures.texts c.in-Err-make.ensures.refused (record { files = c.in-Ok.ensures.kept; written = refl })
+    Ends.Refused c.in-Ok.texts c.in-Ok.ensures.texts (c.requires.refused c.in-Ok.texts c.in-Err-make.status c.in-Err-make.ensures) (record { files = c.in-Ok.ensures.kept; written = refl })
 
 pub returns-in-Err-make-clause-fetches : goal.returns-in-Err-make-clause-fetches
-returns-in-Err-make-clause-fetches g c = fetches-refused c.args.command (read_by c.args.command) c.in-Ok.texts _ _ _ c.in-Err-make.ensures.refused c.in-Ok.ensures.all
+returns-in-Err-make-clause-fetches g c = fetches-refused c.args.command (read_by c.args.command) c.in-Ok.texts _ _ _ (c.requires.refused c.in-Ok.texts c.in-Err-make.status c.in-Err-make.ensures) c.in-Ok.ensures.all
 
 pub returns-in-Err-make-clause-stores : goal.returns-in-Err-make-clause-stores
-returns-in-Err-make-clause-stores g c = stores-whichever c.args.command c.in-Err-make.status (g.S.Shelf.stored c.args.shelf.now) (g.S.Shelf.stored c.fetch_for.new.shelf) (λ files. stores-refused c.args.command files c.in-Ok.texts _ _ _ c.in-Err-make.ensures.refused c.in-Ok.ensures.no_store)
+returns-in-Err-make-clause-stores g c = stores-whichever c.args.command c.in-Err-make.status (g.S.Shelf.stored c.args.shelf.now) (g.S.Shelf.stored c.fetch_for.new.shelf) (λ files. stores-refused c.args.command files c.in-Ok.texts _ _ _ (c.requires.refused c.in-Ok.texts c.in-Err-make.status c.in-Err-make.ensures) c.in-Ok.ensures.no_store)
 
 pub returns-in-Ok-make-clause-ends : goal.returns-in-Ok-make-clause-ends
 returns-in-Ok-make-clause-ends g c =
     let same : g.K.Sink.faults c.args.out.now ≤ g.K.Sink.faults c.args.out.now = omega arith in
     let outcome = c.in-Ok-make.outcome in
-    Ends.Made c.in-Ok.texts outcome c.in-Ok.ensures.texts c.in-Ok-make.ensures.made
+    Ends.Made c.in-Ok.texts outcome c.in-Ok.ensures.texts (c.requires.made c.in-Ok.texts c.in-Ok-make.outcome c.in-Ok-make.ensures)
     (carried-after outcome
     (outside (g.S.Shelf.file c.args.shelf.now) (g.S.Shelf.faults c.args.shelf.now) (g.K.Sink.written c.args.out.now) (g.K.Sink.faults c.args.out.now))
     (outside (g.S.Shelf.file c.fetch_for.new.shelf) (g.S.Shelf.faults c.fetch_for.new.shelf) (g.K.Sink.written c.args.out.now) (g.K.Sink.faults c.args.out.now))
@@ -40,7 +40,7 @@ returns-in-Ok-make-clause-fetches g c =
 pub returns-in-Ok-make-clause-stores : goal.returns-in-Ok-make-clause-stores
 returns-in-Ok-make-clause-stores g c =
     let names = names_of c.in-Ok-make.outcome.stores in
-    stores-by c.args.command names c.carry_out.result (g.S.Shelf.stored c.args.shelf.now) (g.S.Shelf.stored c.carry_out.new.shelf) (names-allowed c.args.command c.in-Ok.texts c.in-Ok-make.outcome c.in-Ok-make.ensures.made)
+    stores-by c.args.command names c.carry_out.result (g.S.Shelf.stored c.args.shelf.now) (g.S.Shelf.stored c.carry_out.new.shelf) (names-allowed c.args.command c.in-Ok.texts c.in-Ok-make.outcome (c.requires.made c.in-Ok.texts c.in-Ok-make.outcome c.in-Ok-make.ensures))
     (stores-after names c.carry_out.result _ _ _ c.in-Ok.ensures.no_store c.carry_out.ensures.stores)
 
 pub returns-in-Ok-make-clause-stores_last : goal.returns-in-Ok-make-clause-stores_last

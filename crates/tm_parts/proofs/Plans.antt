@@ -1,0 +1,161 @@
+-- The trees of a trace as they are to be played, and the parts of all threads.
+use Rattle.std.proofs.Common.{◌≡◌, ◌<◌, ℕ, zero, suc, ◌+◌, List, [], ◌∷◌, ◌++◌, length, refl, sym, ap, ◌∙◌, subst, arith, append_assoc}
+use Rattle.std.proofs.lemmas.List.{length-append}
+use Rattle.std.specs.Prelude.{◌≤◌, Option, Some, None, IsSome, IsTrue, true, map, slice_get, unwrap_or, ◌==◌}
+use Rattle.std.specs.List.{AllByRecursion, list_all}
+use Rattle.tm_types.specs.declared.policy.Policy.{Policy}
+use Rattle.tm_types.specs.declared.request.Tree.{Tree}
+use Rattle.tm_types.specs.declared.step.Editor.{Editor}
+use Rattle.tm_types.specs.declared.step.Start.{Start}
+use Rattle.tm_rules.specs.Policy.{live_domain}
+use Rattle.tm_rules.specs.Requests.{item_is_request}
+use Rattle.tm_rules.specs.Words.{Trace}
+use Rattle.tm_grammar.specs.Tomoyo.{tomoyo_grammar}
+use Rattle.tm_legal.proofs.Asked.{All-append}
+use Rattle.tm_legal.proofs.Walks.{All-map}
+use Rattle.tm_seat.specs.declared.tree.TreeToPlay.{TreeToPlay}
+use Rattle.tm_parts.specs.declared.part.Part.{Part}
+use Rattle.tm_seat.specs.Rows.{IsReady}
+use Rattle.tm_deal.specs.Dealing.{dealt_to, hand_of}
+use Rattle.tm_parts.specs.Parts.{tree_to_play, trees_from, editor_parts, working_parts, PartWaits, Deed, EachPart}
+use Rattle.tm_parts.specs.Replayed.{AreDealt}
+use Rattle.tm_parts.proofs.Lists.{All-at, All-filter}
+
+-- a tree is to be played as the tree of its number in the trace
+pub record IsOfTrace (policy : Policy) (trace : Trace) (tree : TreeToPlay) : Type 0 where
+  pub place : ℕ
+  pub its : Tree
+  pub there : slice_get trace place ≡ Some its
+  pub is : tree ≡ tree_to_play policy (suc place) its
+
+-- where the first tree of the rest has number t
+trees-rest : (policy : Policy) (all : Trace) (t : ℕ) (rest : Trace) → ((k : ℕ) (tree : Tree) → slice_get rest k ≡ Some tree → slice_get all (t + k) ≡ Some tree) → AllByRecursion (IsOfTrace policy all) (trees_from policy (suc t) rest)
+trees-rest policy all t [] h = tt
+trees-rest policy all t (tree ∷ rest) h = (
+  record { place = t; its = tree; there = subst (λ i. slice_get all i ≡ Some tree) (omega arith) (h 0 tree refl); is = refl },
+  trees-rest policy all (suc t) rest (λ k its at. subst (λ i. slice_get all i ≡ Some its) (omega arith) (h (suc k) its at)),
+)
+
+pub trees-of-trace : (policy : Policy) (trace : Trace) → AllByRecursion (IsOfTrace policy trace) (trees_from policy 1 trace)
+trees-of-trace policy trace = trees-rest policy trace 0 trace (λ k tree at. subst (λ i. slice_get trace i ≡ Some tree) (omega arith) at)
+
+-- one tree more at the end
+pub trees-push : (policy : Policy) (t : ℕ) (trees : Trace) (tree : Tree) → trees_from policy t (trees ++ tree ∷ []) ≡ trees_from policy t trees ++ tree_to_play policy (t + length trees) tree ∷ []
+trees-push policy t [] tree = ap (λ n. tree_to_play policy n tree ∷ []) (omega arith)
+trees-push policy t (first ∷ trees) tree = ap (λ (l : List TreeToPlay). tree_to_play policy t first ∷ l) (trees-push policy (suc t) trees tree ∙ ap (λ n. trees_from policy (suc t) trees ++ tree_to_play policy n tree ∷ []) (omega arith))
+
+-- one editor more at the end
+pub editors-push : (e : ℕ) (editors : List Editor) (editor : Editor) → editor_parts e (editors ++ editor ∷ []) ≡ editor_parts e editors ++ Part.Editor (e + length editors) editor.lines ∷ []
+editors-push e [] editor = ap (λ n. Part.Editor n editor.lines ∷ []) (omega arith)
+editors-push e (first ∷ editors) editor = ap (λ (l : List Part). Part.Editor e first.lines ∷ l) (editors-push (suc e) editors editor ∙ ap (λ n. editor_parts (suc e) editors ++ Part.Editor n editor.lines ∷ []) (omega arith))
+
+-- the same, of the parts so far
+pub editors-more : (old parts new : List Part) (done : List Editor) (editor : Editor) (number next : ℕ) → parts ≡ old ++ editor_parts 1 done → number ≡ length done → next ≡ number + 1 → new ≡ parts ++ Part.Editor next editor.lines ∷ [] → (new ≡ old ++ editor_parts 1 (done ++ editor ∷ [])) × (next ≡ length (done ++ editor ∷ []))
+editors-more old parts new done editor number next is count more pushed =
+    let place : 1 + length done ≡ next = omega (arith, count, more) in
+    let long = length-append done (editor ∷ []) in (
+      pushed
+          ∙ ap (λ (l : List Part). l ++ Part.Editor next editor.lines ∷ []) is
+          ∙ append_assoc old (editor_parts 1 done) (Part.Editor next editor.lines ∷ [])
+          ∙ ap (λ (l : List Part). old ++ l) (sym (editors-push 1 done editor ∙ ap (λ n. editor_parts 1 done ++ Part.Editor n editor.lines ∷ []) place)),
+      omega (arith, count, more, long),
+    )
+
+-- the same, of the trees so far
+pub trees-more : (policy : Policy) (trees new : List TreeToPlay) (done : Trace) (tree : Tree) (number next : ℕ) → trees ≡ trees_from policy 1 done → number ≡ length done → next ≡ number + 1 → new ≡ trees ++ tree_to_play policy next tree ∷ [] → (new ≡ trees_from policy 1 (done ++ tree ∷ [])) × (next ≡ length (done ++ tree ∷ []))
+trees-more policy trees new done tree number next is count more pushed =
+    let place : 1 + length done ≡ next = omega (arith, count, more) in
+    let long = length-append done (tree ∷ []) in (
+      pushed
+          ∙ ap (λ (l : List TreeToPlay). l ++ tree_to_play policy next tree ∷ []) is
+          ∙ sym (trees-push policy 1 done tree ∙ ap (λ n. trees_from policy 1 done ++ tree_to_play policy n tree ∷ []) place),
+      omega (arith, count, more, long),
+    )
+
+-- Readiness
+
+module _ (start : Start) (trace : Trace) (trees : length trace ≡ start.trees) (homes : AllByRecursion (λ (tree : Tree). IsSome (live_domain start.policy tree.start)) trace) (asked : AllByRecursion (λ (tree : Tree). IsTrue (list_all (item_is_request tomoyo_grammar.is_path) tree.records)) trace) where
+  within : {A : Type 0} (xs : List A) (k : ℕ) (x : A) → slice_get xs k ≡ Some x → k < length xs
+  within [] k x at = absurd cc
+  within (y ∷ xs) zero x at = omega arith
+  within (y ∷ xs) (suc k) x at = let rest = within xs k x at in omega (arith, rest)
+
+  there-is : (found : Option ℕ) → IsSome found → found ≡ Some (unwrap_or found 0)
+  there-is None is = absurd cc
+  there-is (Some x) is = refl
+
+  -- a tree of the trace can be played
+  tree-ready : (tree : TreeToPlay) → IsOfTrace start.policy trace tree → IsReady start tree
+  tree-ready tree of =
+      let low : of.place < length trace = within trace of.place of.its of.there in
+      subst (λ (t : TreeToPlay). IsReady start t) (sym of.is)
+      (record {
+        above = omega arith;
+        inside = omega (arith, low, trees);
+        home = (of.its.start, there-is (live_domain start.policy of.its.start) (All-at (λ (t : Tree). IsSome (live_domain start.policy t.start)) trace of.place of.its homes of.there));
+        asked = All-at (λ (t : Tree). IsTrue (list_all (item_is_request tomoyo_grammar.is_path) t.records)) trace of.place of.its asked of.there;
+      })
+
+  pub trees-ready : AllByRecursion (IsReady start) (trees_from start.policy 1 trace)
+  trees-ready = All-map (IsOfTrace start.policy trace) (IsReady start) (trees_from start.policy 1 trace) tree-ready (trees-of-trace start.policy trace)
+
+  hand-ready : (workers worker : ℕ) → AllByRecursion (IsReady start) (hand_of workers worker (trees_from start.policy 1 trace))
+  hand-ready workers worker =
+      All-map (λ (t : TreeToPlay). IsReady start t × ((dealt_to workers t.number == worker) ≡ true)) (IsReady start) (hand_of workers worker (trees_from start.policy 1 trace)) (λ t both. both.0)
+      (All-filter (IsReady start) (λ (t : TreeToPlay). dealt_to workers t.number == worker) (trees_from start.policy 1 trace) trees-ready)
+
+  hands-wait : (hands : List (List TreeToPlay)) → ((k : ℕ) (hand : List TreeToPlay) → slice_get hands k ≡ Some hand → AllByRecursion (IsReady start) hand) → AllByRecursion (PartWaits start) (map Part.Worker hands)
+  hands-wait [] h = tt
+  hands-wait (hand ∷ hands) h = (h 0 hand refl, hands-wait hands (λ k other at. h (suc k) other at))
+
+  editors-wait : (e : ℕ) (editors : List Editor) → e + length editors ≤ length start.editors → AllByRecursion (PartWaits start) (editor_parts (suc e) editors)
+  editors-wait e [] le = tt
+  editors-wait e (editor ∷ editors) le = ((omega arith, omega (arith, le)), editors-wait (suc e) editors (omega (arith, le)))
+
+  -- every worker's and every editor's part
+  pub parts-wait : (workers : ℕ) (hands : List (List TreeToPlay)) → AreDealt start trace workers hands → AllByRecursion (PartWaits start) (working_parts hands start.editors)
+  parts-wait workers hands dealt =
+      All-append (PartWaits start) (map Part.Worker hands) (editor_parts 1 start.editors)
+      (hands-wait hands (λ k hand at.
+      let lt : k < workers = subst (λ n. k < n) dealt.count (within hands k hand at) in
+      let both : Some hand ≡ Some (hand_of workers k (trees_from start.policy 1 trace)) = sym at ∙ dealt.each k lt in
+      let same : hand ≡ hand_of workers k (trees_from start.policy 1 trace) = cc in
+      subst (λ (l : List TreeToPlay). AllByRecursion (IsReady start) l) (sym same) (hand-ready workers k)))
+      (editors-wait 0 start.editors (omega arith))
+
+-- Parts and their deeds
+
+-- the deeds of the first parts, and those of the others
+pub record Split (P : Part → Deed → Type 0) (first rest : List Part) (deeds : List Deed) : Type 0 where
+  pub front : List Deed
+  pub back : List Deed
+  pub all : deeds ≡ front ++ back
+  pub each_front : EachPart P first front
+  pub each_back : EachPart P rest back
+
+pub each-split : (P : Part → Deed → Type 0) (first rest : List Part) (deeds : List Deed) → EachPart P (first ++ rest) deeds → Split P first rest deeds
+each-split P [] rest deeds h = record { front = []; back = deeds; all = refl; each_front = tt; each_back = h }
+each-split P (part ∷ first) rest [] h = absurd h
+each-split P (part ∷ first) rest (done ∷ deeds) h =
+    let more = each-split P first rest deeds h.1 in
+    record {
+      front = done ∷ more.front;
+      back = more.back;
+      all = ap (λ (l : List Deed). done ∷ l) more.all;
+      each_front = (h.0, more.each_front);
+      each_back = more.each_back;
+    }
+
+pub each-length : (P : Part → Deed → Type 0) (parts : List Part) (deeds : List Deed) → EachPart P parts deeds → length deeds ≡ length parts
+each-length P [] [] h = refl
+each-length P [] (done ∷ deeds) h = absurd h
+each-length P (part ∷ parts) [] h = absurd h
+each-length P (part ∷ parts) (done ∷ deeds) h = ap suc (each-length P parts deeds h.1)
+
+-- a deed at its place, with its part
+pub each-at : (P : Part → Deed → Type 0) (parts : List Part) (deeds : List Deed) (k : ℕ) (done : Deed) → EachPart P parts deeds → slice_get deeds k ≡ Some done → (part : Part) × (slice_get parts k ≡ Some part) × P part done
+each-at P [] [] k done h at = absurd cc
+each-at P [] (d ∷ deeds) k done h at = absurd h
+each-at P (part ∷ parts) [] k done h at = absurd h
+each-at P (part ∷ parts) (d ∷ deeds) zero done h at = let same : d ≡ done = cc in (part, refl, subst (P part) same h.0)
+each-at P (part ∷ parts) (d ∷ deeds) (suc k) done h at = each-at P parts deeds k done h.1 at

@@ -1,0 +1,11 @@
+use Rattle.std.proofs.Common.{◌≡◌, List}
+use Rattle.tm_types.specs.declared.step.Made.{Made}
+use Rattle.tm_publish.specs.Words.{home, HasSeen, made_of}
+use Rattle.tm_replay.proofs.job.arrive.Given as goal
+
+abbrev pub invariant-loop : goal.invariant-loop
+invariant-loop g l =
+    (goal.iterator-loop g).can_next l.iterator' × (goal.iterator-loop g).is_finite l.iterator'
+    × ((xs : List Made) → HasSeen l.fn.pass xs → HasSeen l.pass xs)
+    × (made_of l.pass ≡ made_of l.fn.pass)
+    × (home l.pass ≡ home l.fn.pass)

@@ -1,0 +1,4 @@
+pub mod Seats
+pub mod Jobs
+pub mod Beginnings
+pub mod Replays

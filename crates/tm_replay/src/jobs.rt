@@ -1,0 +1,288 @@
+//! All jobs of a replay: how they begin, how they are played beside each other, and what is left.
+ghost use Rattle.std.specs.Prelude.{◌≡◌, ◌<◌, ◌++◌, ◌∷◌, [], ℕ, List, length, map, Some, None, true, false, IfOk, OnOk, IfSome, MatchOption, slice_index_or};
+ghost use Rattle.std.specs.List.{AllByRecursion};
+ghost use Rattle.tm_types.specs.declared.step.Made.{Made};
+ghost use Rattle.tm_types.specs.declared.step.Start.{Start};
+ghost use Rattle.tm_desk.specs.Desks.{desk_book, IsDesk};
+ghost use Rattle.tm_publish.specs.Words.{IsFresh};
+ghost use Rattle.tm_parts.specs.Parts.{PartWaits};
+ghost use Rattle.tm_parts.specs.declared.part.Part.{Part};
+ghost use Rattle.tm_replay.specs.Jobs.{IsJob, JobIsDone, JobStarts, told_of, IsFrontOf, StartsFrom};
+ghost use Rattle.tm_replay.specs.Beginnings.{AreGiven, HaveBegun};
+
+use crate::job::{Job, run_job};
+use std::alloc::{AllocError, Global};
+use std::collections::VecDeque;
+use std::sync::Wait;
+use std::thread;
+use std::thread::Threads;
+use tm_desk::Desk;
+use tm_engine::engine::Engine;
+use tm_engine::gate::Gate;
+use tm_list::{NoMemory, Seq};
+use tm_machine::Machine;
+use tm_parts::Part;
+use tm_publish::front::{Front, Named};
+use tm_publish::pass::Pass;
+use tm_rep::Rep;
+use tm_seat::PlayedTree;
+use tm_serve::begin;
+use tm_types::step::Query;
+
+// A job of a part and a pass, which is told of a front.
+fn job_of<L: Named, R: Rep>(
+    part: Part,
+    pass: Pass<L, Machine<R>>,
+    front: &Option<Front<L, Machine<R>>>,
+) -> Job<L, Machine<R>>
+    ensures part { result.part ≡ Some part }
+    ensures starts { (start : Start) → IsFresh start pass → IsFrontOf start front.now → PartWaits start part
+        → JobStarts start (told_of front.now) result.part result.pass }
+{
+    let mut pass = pass;
+    if let Some(front) = front {
+        pass.told(front);
+    }
+    Job {
+        part: Some(part),
+        pass: Some(pass),
+        rows: None,
+    }
+}
+
+// These elements, to be taken out from the front.
+fn line_up<T>(items: Vec<T>) -> VecDeque<T>
+    ensures { result.items ≡ items.items }
+{
+    VecDeque::from(items)
+}
+
+// Takes the first element out; None where none is left.
+fn take_first<T: Drop>(left: &mut VecDeque<T>) -> Option<T>
+    ensures { MatchOption result (left.old.items ≡ []) (λ first. left.old.items ≡ first ∷ left.new.items) }
+{
+    left.pop_front()
+}
+
+// A job of a part more, with the next pass.
+fn add_job<L: Named, R: Rep>(
+    part: Part,
+    left: &mut VecDeque<Pass<L, Machine<R>>>,
+    front: &Option<Front<L, Machine<R>>>,
+    jobs: &mut Vec<Job<L, Machine<R>>>,
+) -> Result<(), NoMemory>
+    ensures { OnOk result ((parts rest : List Part) (passes : List _)
+        → AreGiven (λ job. job.part) (λ job. job.pass) front.now parts passes (part ∷ rest)
+        left.old.items jobs.old.items
+        → AreGiven (λ job. job.part) (λ job. job.pass) front.now parts passes rest
+        left.new.items jobs.new.items) }
+{
+    let Some(pass) = take_first(left) else {
+        return Err(AllocError);
+    };
+    jobs.push(job_of(part, pass, front))?;
+    Ok(())
+}
+
+// These jobs, where no part waits any more.
+fn all_given<L: Named, R: Rep>(
+    waiting: VecDeque<Part>,
+    jobs: Vec<Job<L, Machine<R>>>,
+) -> Result<Vec<Job<L, Machine<R>>>, NoMemory>
+    ensures { IfOk result (λ made. (waiting.items ≡ []) × (made.items ≡ jobs.items)) }
+{
+    if waiting.is_empty() {
+        return Ok(jobs);
+    }
+    Err(AllocError)
+}
+
+// A job for each part, with the passes in their order, each of which is told of a front.
+fn jobs_of<L: Named, R: Rep>(
+    alloc: Global,
+    parts: Vec<Part>,
+    passes: Vec<Pass<L, Machine<R>>>,
+    front: &Option<Front<L, Machine<R>>>,
+) -> Result<Vec<Job<L, Machine<R>>>, NoMemory>
+    ensures parts { IfOk result (λ jobs. map (λ job. job.part) jobs.items ≡ map Some parts.items) }
+    ensures starts { IfOk result (λ jobs. (start : Start) → AllByRecursion (IsFresh start) passes.items
+        → IsFrontOf start front.now → AllByRecursion (PartWaits start) parts.items
+        → AllByRecursion (λ job. JobStarts start (told_of front.now) job.part job.pass) jobs.items) }
+{
+    let count = parts.len();
+    let mut waiting = line_up(parts);
+    let mut left = line_up(passes);
+    let mut jobs = Vec::new(alloc);
+    for _ in 0..count {
+        let Some(part) = take_first(&mut waiting) else {
+            return Err(AllocError);
+        };
+        add_job(part, &mut left, front, &mut jobs)?;
+    }
+    all_given(waiting, jobs)
+}
+
+// The jobs of these parts, where no supervisor stands.
+fn begin_lone<L: Named, R: Rep>(
+    alloc: Global,
+    parts: Vec<Part>,
+    passes: Vec<Pass<L, Machine<R>>>,
+) -> Result<Vec<Job<L, Machine<R>>>, NoMemory>
+    ensures { IfOk result (λ jobs. HaveBegun (λ job. job.part) (λ job. job.pass) false
+        parts.items passes.items jobs.items) }
+{
+    jobs_of(alloc, parts, passes, &None)
+}
+
+// The jobs of these parts, and the supervisor's. It comes first, and each pass is told of its
+// coming.
+fn begin_supervised<L: Named, R: Rep, W: Wait>(
+    rt: &W,
+    alloc: Global,
+    engine: &Engine<L, Machine<R>>,
+    parts: Vec<Part>,
+    passes: Vec<Pass<L, Machine<R>>>,
+    supervisor: Pass<L, Machine<R>>,
+) -> Result<Vec<Job<L, Machine<R>>>, NoMemory>
+    ensures { IfOk result (λ jobs. HaveBegun (λ job. job.part) (λ job. job.pass) true
+        parts.items (passes.items ++ supervisor ∷ []) jobs.items) }
+{
+    let mut pass = supervisor;
+    let come = begin(rt, alloc, engine, &mut pass)?;
+    let front = Some(come);
+    let mut jobs = jobs_of(alloc, parts, passes, &front)?;
+    jobs.push(Job {
+        part: Some(Part::Desk),
+        pass: Some(pass),
+        rows: None,
+    })?;
+    Ok(jobs)
+}
+
+/// The jobs of these parts, and the supervisor's where one stands, which comes first, so that each
+/// pass is told of its coming.
+///
+/// Errors: want of memory.
+pub(crate) fn begin_jobs<L: Named, R: Rep, W: Wait>(
+    rt: &W,
+    alloc: Global,
+    engine: &Engine<L, Machine<R>>,
+    parts: Vec<Part>,
+    passes: Vec<Pass<L, Machine<R>>>,
+    supervised: bool,
+) -> Result<Vec<Job<L, Machine<R>>>, NoMemory>
+    ensures { IfOk result (λ jobs. HaveBegun (λ job. job.part) (λ job. job.pass) supervised
+        parts.items passes.items jobs.items) }
+{
+    match supervised {
+        false => begin_lone(alloc, parts, passes),
+        true => {
+            let mut passes = passes;
+            match passes.pop() {
+                Some(pass) => begin_supervised(rt, alloc, engine, parts, passes, pass),
+                None => Err(AllocError),
+            }
+        }
+    }
+}
+
+/// Plays every job, each in a thread of its own where one can be made.
+pub(crate) fn run_jobs<
+    L: Named + Send + Sync,
+    R: Rep + Send + Sync,
+    F: Fn(&Query) -> u64 + Sync,
+    W: Threads + Wait + Sync,
+    G: Gate,
+>(
+    rt: &W,
+    alloc: Global,
+    engine: &Engine<L, Machine<R>>,
+    desk: &Desk<'_, F>,
+    gate: &G,
+    supervised: bool,
+    jobs: &mut Vec<Job<L, Machine<R>>>,
+)
+    requires some { 0 < length jobs.old.items }
+    requires desk { IsDesk F.Fn desk.now }
+    requires given { (k : ℕ) (d : _) → k < length jobs.old.items
+        → IsJob supervised (slice_index_or jobs.old.items k d).part (slice_index_or jobs.old.items k d).pass }
+    ensures count { length jobs.new.items ≡ length jobs.old.items }
+    ensures done { (k : ℕ) (d : _) → k < length jobs.old.items
+        → JobIsDone (desk_book desk.now) (slice_index_or jobs.old.items k d).part
+        (slice_index_or jobs.old.items k d).pass (slice_index_or jobs.new.items k d).pass
+        (slice_index_or jobs.new.items k d).rows }
+{
+    let count = jobs.len();
+    thread::for_each_mut(
+        rt,
+        jobs.as_mut_slice(),
+        count,
+        &|_place: usize, job: &mut Job<L, Machine<R>>|
+            requires desk { IsDesk F.Fn desk.now }
+            requires given { IsJob supervised job.old.part job.old.pass }
+            ensures { JobIsDone (desk_book desk.entry.now) job.old.part job.old.pass job.new.pass job.new.rows }
+        { run_job(rt, alloc, engine, desk, gate, supervised, job) },
+    );
+}
+
+// Appends the pass of a job, where it is there.
+fn push_pass<L: Named, R: Rep>(
+    passes: &mut Vec<Pass<L, Machine<R>>>,
+    pass: Option<Pass<L, Machine<R>>>,
+) -> Result<(), NoMemory>
+    ensures { OnOk result (map Some passes.new.items ≡ map Some passes.old.items ++ pass ∷ []) }
+{
+    match pass {
+        Some(pass) => {
+            passes.push(pass)?;
+            Ok(())
+        }
+        None => Err(AllocError),
+    }
+}
+
+// Appends the trees that a job has played, and answers whether they are there.
+fn push_rows(
+    all: &mut Vec<Seq<PlayedTree>>,
+    rows: Option<Seq<PlayedTree>>,
+) -> Result<bool, NoMemory>
+    ensures { IfOk result (λ there. there ≡ true
+        → map Some all.new.items ≡ map Some all.old.items ++ rows ∷ []) }
+{
+    match rows {
+        Some(rows) => {
+            all.push(rows)?;
+            Ok(true)
+        }
+        None => Ok(false),
+    }
+}
+
+/// The passes of all jobs, and the trees that each has played; no trees where a job failed.
+///
+/// Errors: want of memory.
+pub(crate) fn take_apart<L: Named, R: Rep>(
+    alloc: Global,
+    jobs: Vec<Job<L, Machine<R>>>,
+) -> Result<(Vec<Pass<L, Machine<R>>>, Option<Seq<Seq<PlayedTree>>>), NoMemory>
+    ensures passes { IfOk result (λ r. map Some r.0.items ≡ map (λ job. job.pass) jobs.items) }
+    ensures rows { IfOk result (λ r. IfSome r.1 (λ rows. map Some rows ≡ map (λ job. job.rows) jobs.items)) }
+{
+    let mut passes = Vec::new(alloc);
+    let mut all = Vec::new(alloc);
+    let mut whole = true;
+    for job in jobs {
+        let Job {
+            part: _,
+            pass,
+            rows,
+        } = job;
+        push_pass(&mut passes, pass)?;
+        whole = push_rows(&mut all, rows)? && whole;
+    }
+    if whole {
+        Ok((passes, Some(Seq::from_vec(all))))
+    } else {
+        Ok((passes, None))
+    }
+}

@@ -1,0 +1,16 @@
+//! A trace played by threads: workers, editors and a supervisor at one engine, each from a seat.
+//! Stands on tm_seat for what each does, on tm_engine for versions, on tm_parts for legal runs.
+//! Promises that whatever the threads' order was, the run is a legal one.
+#![tactic(auto)]
+
+mod at;
+mod job;
+mod jobs;
+mod lone;
+mod looks;
+mod moves;
+mod run;
+
+pub use at::At;
+pub use lone::Lone;
+pub use run::{replay_all, replay_run};

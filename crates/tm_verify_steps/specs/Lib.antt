@@ -1,0 +1,6 @@
+pub mod Counting
+pub mod Lines
+pub mod Heights
+pub mod Acting
+pub mod Leading
+pub mod Clauses
