@@ -1,11 +1,9 @@
--- Each part's steps are claimed by its pass: workers come first, then editors, then the supervisor.
-use Rattle.std.proofs.Common.{◌≡◌, ◌<◌, ℕ, zero, suc, ◌+◌, ◌-◌, List, [], ◌∷◌, ◌++◌, length, map, Bool, true, false, refl, sym, ap, ◌∙◌, subst, arith}
-use Rattle.std.specs.Prelude.{Option, Some, None, slice_get, flat_map, ◌==◌}
+-- The steps of each worker that plays trees are claimed by its pass.
+use Rattle.std.proofs.Common.{◌≡◌, ◌<◌, ℕ, zero, suc, ◌+◌, List, [], ◌∷◌, length, true, refl, sym, ap, ◌∙◌, subst, arith}
+use Rattle.std.specs.Prelude.{Option, Some, slice_get, ◌==◌}
 use Rattle.std.specs.List.{AllByRecursion}
 use Rattle.std.proofs.lemmas.Bool.{eqb-true}
 use Rattle.tm_types.specs.declared.policy.Policy.{Policy}
-use Rattle.tm_types.specs.declared.step.Book.{Book}
-use Rattle.tm_types.specs.declared.step.Editor.{Editor}
 use Rattle.tm_types.specs.declared.step.Made.{Made}
 use Rattle.tm_types.specs.declared.step.Maker.{Maker}
 use Rattle.tm_types.specs.declared.step.Start.{Start}
@@ -17,26 +15,26 @@ use Rattle.tm_legal.proofs.Walks.{All-map}
 use Rattle.tm_joint.specs.Makers.{EachClaims}
 use Rattle.tm_joint.specs.Workers.{pass_of}
 use Rattle.tm_joint.proofs.Rows.{All-flat}
-use Rattle.tm_joint.proofs.Gathering.{claims-append}
+use Rattle.tm_seat.specs.declared.tree.PlayedTree.{PlayedTree}
 use Rattle.tm_seat.specs.declared.tree.TreeToPlay.{TreeToPlay}
 use Rattle.tm_seat.specs.Rows.{tree_makers, makers_all}
 use Rattle.tm_deal.specs.Dealing.{dealt_to, hand_of}
-use Rattle.tm_parts.specs.declared.part.Part.{Part}
-use Rattle.tm_parts.specs.Parts.{trees_from, editor_parts, desk_parts, Deed, PartIsDone, EachPart}
+use Rattle.tm_parts.specs.Parts.{trees_from, Deed, WorkerDid, EachPart}
 use Rattle.tm_parts.specs.Replayed.{AreDealt}
 use Rattle.tm_parts.proofs.Lists.{All-filter, All-mapped}
 use Rattle.tm_parts.proofs.Plans.{IsOfTrace, trees-of-trace}
 use Rattle.tm_parts.proofs.Moving.{deed_at}
+use Rattle.tm_parts.proofs.Shares.{owns, OthersFollow}
 use Rattle.tm_parts.proofs.TreePasses.{processes-have-their-pass}
-
--- the numbers of all deeds' steps
-abbrev pub owns : List Deed → List (List ℕ)
-owns deeds = map (λ (done : Deed). done.own) deeds
 
 module _ (trace : Trace) (written : IsTrace trace) (workers editors : ℕ) where
   -- who makes whose steps
   abbrev pub who : Maker → Option ℕ
   who maker = pass_of tree_pids (dealt_to workers) workers editors trace maker
+
+  -- after the workers come the editors, and the supervisor
+  pub others-follow : OthersFollow who workers editors
+  others-follow = record { editor = λ e. refl; desk = refl }
 
   -- the makers of a tree belong to the worker that it is dealt to
   makers-of-tree : (policy : Policy) (worker : ℕ) (tree : TreeToPlay) → IsOfTrace policy trace tree × ((dealt_to workers tree.number == worker) ≡ true) → AllByRecursion (λ maker. who maker ≡ Some worker) (tree_makers tree)
@@ -60,50 +58,21 @@ module _ (trace : Trace) (written : IsTrace trace) (workers editors : ℕ) where
       (makers-of-tree policy worker)
       (All-filter (IsOfTrace policy trace) (λ (tree : TreeToPlay). dealt_to workers tree.number == worker) (trees_from policy 1 trace) (trees-of-trace policy trace)))
 
-  module _ (start : Start) (book : Book) (floor : ℕ) (list : List Made) where
-    abbrev pub DoneAt : Part → Deed → Type 0
-    DoneAt part done = PartIsDone start book floor part (deed_at list done)
-
+  module _ (start : Start) (floor : ℕ) (list : List Made) where
     -- workers from worker i on
-    claims-workers : (i : ℕ) (hands : List (List TreeToPlay)) (deeds : List Deed) → ((k : ℕ) (hand : List TreeToPlay) → slice_get hands k ≡ Some hand → AllByRecursion (λ maker. who maker ≡ Some (i + k)) (makers_all hand)) → EachPart DoneAt (map Part.Worker hands) deeds → EachClaims who i list (owns deeds)
-    claims-workers i [] [] makers h = tt
-    claims-workers i [] (done ∷ deeds) makers h = absurd h
-    claims-workers i (hand ∷ hands) [] makers h = absurd h
-    claims-workers i (hand ∷ hands) (done ∷ deeds) makers h = (
+    claims-from : (i : ℕ) (hands : List (List TreeToPlay)) (deeds : List (Deed PlayedTree)) → ((k : ℕ) (hand : List TreeToPlay) → slice_get hands k ≡ Some hand → AllByRecursion (λ maker. who maker ≡ Some (i + k)) (makers_all hand)) → EachPart (λ hand done. WorkerDid start floor hand (deed_at list done)) hands deeds → EachClaims who i list (owns deeds)
+    claims-from i [] [] makers h = tt
+    claims-from i [] (done ∷ deeds) makers h = absurd h
+    claims-from i (hand ∷ hands) [] makers h = absurd h
+    claims-from i (hand ∷ hands) (done ∷ deeds) makers h = (
       h.0.claims who i (subst (λ n. AllByRecursion (λ maker. who maker ≡ Some n) (makers_all hand)) (omega arith) (makers 0 hand refl)),
-      claims-workers (suc i) hands deeds (λ k other at. subst (λ n. AllByRecursion (λ maker. who maker ≡ Some n) (makers_all other)) (omega arith) (makers (suc k) other at)) h.1,
+      claims-from (suc i) hands deeds (λ k other at. subst (λ n. AllByRecursion (λ maker. who maker ≡ Some n) (makers_all other)) (omega arith) (makers (suc k) other at)) h.1,
     )
-
-    -- editors from editor e on
-    claims-editors : (e : ℕ) (those : List Editor) (deeds : List Deed) → EachPart DoneAt (editor_parts (suc e) those) deeds → EachClaims who (workers + e) list (owns deeds)
-    claims-editors e [] [] h = tt
-    claims-editors e [] (done ∷ deeds) h = absurd h
-    claims-editors e (editor ∷ those) [] h = absurd h
-    claims-editors e (editor ∷ those) (done ∷ deeds) h = (
-      h.0.claims who (workers + e) (ap (λ n. Some (workers + n)) (omega arith), tt),
-      subst (λ n. EachClaims who n list (owns deeds)) (omega arith) (claims-editors (suc e) those deeds h.1),
-    )
-
-    claims-desk : (supervised : Bool) (deeds : List Deed) → EachPart DoneAt (desk_parts supervised) deeds → EachClaims who (workers + editors) list (owns deeds)
-    claims-desk false [] h = tt
-    claims-desk false (done ∷ deeds) h = absurd h
-    claims-desk true [] h = absurd h
-    claims-desk true (done ∷ []) h = (h.0.claims who (workers + editors) (refl, tt), tt)
-    claims-desk true (done ∷ more ∷ deeds) h = absurd h.1
 
     -- all of them
-    pub claims-all : (hands : List (List TreeToPlay)) (front middle back : List Deed) → editors ≡ length start.editors → AreDealt start trace workers hands → length front ≡ workers → length middle ≡ editors → EachPart DoneAt (map Part.Worker hands) front → EachPart DoneAt (editor_parts 1 start.editors) middle → EachPart DoneAt (desk_parts start.desk) back → EachClaims who 0 list (owns front ++ (owns middle ++ owns back))
-    claims-all hands front middle back many dealt long_front long_middle first second third =
-        claims-append who 0 workers list (owns front) (owns middle ++ owns back) (let same = owns-length front in omega (arith, same, long_front))
-        (claims-workers 0 hands front (λ k hand at. subst (λ n. AllByRecursion (λ maker. who maker ≡ Some n) (makers_all hand)) (omega arith) (hands-makers k hand at)) first)
-        (claims-append who workers (workers + editors) list (owns middle) (owns back) (let same = owns-length middle in omega (arith, same, long_middle))
-        (subst (λ n. EachClaims who n list (owns middle)) (omega arith) (claims-editors 0 start.editors middle second))
-        (claims-desk start.desk back third))
+    pub claims-workers : (hands : List (List TreeToPlay)) (deeds : List (Deed PlayedTree)) → AreDealt start trace workers hands → EachPart (λ hand done. WorkerDid start floor hand (deed_at list done)) hands deeds → EachClaims who 0 list (owns deeds)
+    claims-workers hands deeds dealt each = claims-from 0 hands deeds (λ k hand at. subst (λ n. AllByRecursion (λ maker. who maker ≡ Some n) (makers_all hand)) (omega arith) (hands-makers k hand at)) each
       where
-        owns-length : (deeds : List Deed) → length (owns deeds) ≡ length deeds
-        owns-length [] = refl
-        owns-length (done ∷ deeds) = ap suc (owns-length deeds)
-
         inside : {A : Type 0} (xs : List A) (k : ℕ) (x : A) → slice_get xs k ≡ Some x → k < length xs
         inside [] k x at = absurd cc
         inside (y ∷ xs) zero x at = omega arith

@@ -1,9 +1,7 @@
 -- The gathered rows are the rows of the trace's trees, in order.
-use Rattle.std.proofs.Common.{◌≡◌, ◌≤◌, ◌<◌, ℕ, zero, suc, ◌+◌, List, [], ◌∷◌, ◌++◌, length, map, Bool, true, false, refl, sym, ap, ◌∙◌, subst, arith}
+use Rattle.std.proofs.Common.{◌≡◌, ◌≤◌, ◌<◌, ℕ, zero, suc, ◌+◌, List, [], ◌∷◌, ◌++◌, length, map, Bool, true, refl, sym, ap, ◌∙◌, subst, arith}
 use Rattle.std.specs.Prelude.{Option, Some, None, IsSome, is_some, slice_get, unwrap_or, flat_map, take, ◌==◌}
 use Rattle.std.specs.List.{AllByRecursion}
-use Rattle.std.proofs.lemmas.Grind.{flat_map-append}
-use Rattle.tm_types.specs.declared.policy.Policy.{Policy}
 use Rattle.tm_types.specs.declared.request.Tree.{Tree}
 use Rattle.tm_types.specs.declared.step.Book.{Book}
 use Rattle.tm_types.specs.declared.step.Look.{Look}
@@ -13,8 +11,6 @@ use Rattle.tm_types.specs.declared.step.Take.{Take}
 use Rattle.tm_rules.specs.Policy.{live_domain}
 use Rattle.tm_rules.specs.Words.{Trace}
 use Rattle.tm_legal.specs.Legal.{times}
-use Rattle.tm_legal.specs.Play.{numbers_to}
-use Rattle.tm_legal.proofs.Walks.{All-map}
 use Rattle.tm_joint.specs.Joint.{takes_in}
 use Rattle.tm_joint.specs.Played.{Row, row_own, RowHolds, EachRow}
 use Rattle.tm_joint.proofs.Rows.{All-flat}
@@ -24,11 +20,11 @@ use Rattle.tm_seat.specs.Seats.{scene_of}
 use Rattle.tm_seat.specs.Playing.{LooksSince}
 use Rattle.tm_seat.specs.Rows.{RowIsPlayed, EachIsPlayed, RowSince, rows_own, row_of}
 use Rattle.tm_deal.specs.Dealing.{dealt_to, hand_of, queues_own, IsAmong, IsGathered}
-use Rattle.tm_parts.specs.declared.part.Part.{Part}
-use Rattle.tm_parts.specs.Parts.{tree_to_play, trees_from, Deed, deed, PartIsDone, EachPart, WorkerDid}
+use Rattle.tm_parts.specs.Parts.{trees_from, Deed, deed, EachPart, WorkerDid}
 use Rattle.tm_parts.specs.Replayed.{AreDealt}
 use Rattle.tm_parts.proofs.Lists.{All-at, All-of, All-filter, All-mapped, get-mapped, length-mapped, length-to, number-to, get-map}
-use Rattle.tm_parts.proofs.Plans.{IsOfTrace, trees-of-trace, each-at}
+use Rattle.tm_parts.proofs.Plans.{IsOfTrace, trees-of-trace}
+use Rattle.tm_parts.proofs.Each.{each-at}
 use Rattle.tm_parts.proofs.Moving.{deed_at}
 
 -- a row that was played at its place, with its tree
@@ -39,11 +35,7 @@ played-at start supervised list (tree ∷ trees) [] p row h at = absurd h
 played-at start supervised list (tree ∷ trees) (r ∷ rows) zero row h at = let same : r ≡ row = cc in (tree, refl, subst (λ (x : PlayedTree). x.number ≡ tree.number) same h.0, subst (λ (x : PlayedTree). RowIsPlayed start tree supervised list (row_of x)) same h.1)
 played-at start supervised list (tree ∷ trees) (r ∷ rows) (suc p) row h at = played-at start supervised list trees rows p row h.2 at
 
--- of a worker's part
-worker-part : (start : Start) (book : Book) (floor : ℕ) (part : Part) (hand : List TreeToPlay) (done : Deed) → part ≡ Part.Worker hand → PartIsDone start book floor part done → WorkerDid start floor hand done
-worker-part start book floor part hand done is h = subst (λ (p : Part). PartIsDone start book floor p done) is h
-
-module _ (start : Start) (trace : Trace) (book : Option Book) (own_book : Book) (stands : is_some book ≡ start.desk) (trees : length trace ≡ start.trees) (homes : AllByRecursion (λ (tree : Tree). IsSome (live_domain start.policy tree.start)) trace) (workers floor : ℕ) (list : List Made) (hands : List (List TreeToPlay)) (dealt : AreDealt start trace workers hands) (deeds : List Deed) (each : EachPart (λ part done. PartIsDone start own_book floor part (deed_at list done)) (map Part.Worker hands) deeds) (rows : List PlayedTree) (gathered : IsGathered (length trace) (map (λ (done : Deed). done.rows) deeds) rows) where
+module _ (start : Start) (trace : Trace) (book : Option Book) (stands : is_some book ≡ start.desk) (trees : length trace ≡ start.trees) (homes : AllByRecursion (λ (tree : Tree). IsSome (live_domain start.policy tree.start)) trace) (workers floor : ℕ) (list : List Made) (hands : List (List TreeToPlay)) (dealt : AreDealt start trace workers hands) (deeds : List (Deed PlayedTree)) (each : EachPart (λ hand done. WorkerDid start floor hand (deed_at list done)) hands deeds) (rows : List PlayedTree) (gathered : IsGathered (length trace) (map (λ (done : Deed PlayedTree). done.rows) deeds) rows) where
   inside : {A : Type 0} (xs : List A) (k : ℕ) (x : A) → slice_get xs k ≡ Some x → k < length xs
   inside [] k x at = absurd cc
   inside (y ∷ xs) zero x at = omega arith
@@ -57,7 +49,7 @@ module _ (start : Start) (trace : Trace) (book : Option Book) (own_book : Book) 
   pub record Source (row : PlayedTree) : Type 0 where
     pub worker : ℕ
     pub hand : List TreeToPlay
-    pub done : Deed
+    pub done : Deed PlayedTree
     pub is_hand : hand ≡ hand_of workers worker (trees_from start.policy 1 trace)
     pub did : WorkerDid start floor hand (deed_at list done)
     pub place : ℕ
@@ -65,10 +57,9 @@ module _ (start : Start) (trace : Trace) (book : Option Book) (own_book : Book) 
 
   source : (k : ℕ) (row : PlayedTree) → slice_get rows k ≡ Some row → Source row
   source k row at =
-      let among : IsAmong (map (λ (done : Deed). done.rows) deeds) row = gathered.among k row at in
-      let (done, there, is) = get-mapped (λ (d : Deed). d.rows) deeds among.worker among.queue among.there in
-      let (part, stands_at, did) = each-at _ (map Part.Worker hands) deeds among.worker done each there in
-      let (hand, hand_at, is_part) = get-mapped Part.Worker hands among.worker part stands_at in
+      let among : IsAmong (map (λ (done : Deed PlayedTree). done.rows) deeds) row = gathered.among k row at in
+      let (done, there, is) = get-mapped (λ (d : Deed PlayedTree). d.rows) deeds among.worker among.queue among.there in
+      let (hand, hand_at, did) = each-at (λ hand d. WorkerDid start floor hand (deed_at list d)) hands deeds among.worker done each there in
       let lt : among.worker < workers = subst (λ n. among.worker < n) dealt.count (inside hands among.worker hand hand_at) in
       let both : Some hand ≡ Some (hand_of workers among.worker (trees_from start.policy 1 trace)) = sym hand_at ∙ dealt.each among.worker lt in
       record {
@@ -76,7 +67,7 @@ module _ (start : Start) (trace : Trace) (book : Option Book) (own_book : Book) 
         hand = hand;
         done = done;
         is_hand = cc;
-        did = worker-part start own_book floor part hand (deed_at list done) (sym is_part) did;
+        did = did;
         place = among.place;
         at = subst (λ (queue : List PlayedTree). slice_get queue among.place ≡ Some row) (sym is) among.at;
       }
@@ -133,11 +124,11 @@ module _ (start : Start) (trace : Trace) (book : Option Book) (own_book : Book) 
   flat-own [] = refl
   flat-own (row ∷ those) = ap (λ (ns : List ℕ). row_own (row_of row) ++ ns) (flat-own those)
 
-  own-queues : (hs : List (List TreeToPlay)) (ds : List Deed) → EachPart (λ part done. PartIsDone start own_book floor part (deed_at list done)) (map Part.Worker hs) ds → flat_map (λ (ns : List ℕ). ns) (map (λ (done : Deed). done.own) ds) ≡ queues_own (map (λ (done : Deed). done.rows) ds)
+  own-queues : (hs : List (List TreeToPlay)) (ds : List (Deed PlayedTree)) → EachPart (λ hand done. WorkerDid start floor hand (deed_at list done)) hs ds → flat_map (λ (ns : List ℕ). ns) (map (λ (done : Deed PlayedTree). done.own) ds) ≡ queues_own (map (λ (done : Deed PlayedTree). done.rows) ds)
   own-queues [] [] h = refl
   own-queues [] (d ∷ ds) h = absurd h
   own-queues (hand ∷ hs) [] h = absurd h
   own-queues (hand ∷ hs) (d ∷ ds) h = rw (h.0.own_is, own-queues hs ds h.1) refl
 
-  pub rows-counted : (n : ℕ) → times n (flat_map (λ (ns : List ℕ). ns) (map (λ (done : Deed). done.own) deeds)) ≡ times n (flat_map row_own (map row_of rows))
+  pub rows-counted : (n : ℕ) → times n (flat_map (λ (ns : List ℕ). ns) (map (λ (done : Deed PlayedTree). done.own) deeds)) ≡ times n (flat_map row_own (map row_of rows))
   rows-counted n = ap (times n) (own-queues hands deeds each) ∙ gathered.counted n ∙ ap (times n) (sym (flat-own rows))

@@ -1,7 +1,10 @@
 pub mod Lists
+pub mod Each
 pub mod Plans
 pub mod Moving
+pub mod Shares
 mod TreePasses
 mod Claiming
 mod Gathered
 mod Jointly
+pub mod Working

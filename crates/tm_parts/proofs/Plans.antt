@@ -17,9 +17,9 @@ use Rattle.tm_seat.specs.declared.tree.TreeToPlay.{TreeToPlay}
 use Rattle.tm_parts.specs.declared.part.Part.{Part}
 use Rattle.tm_seat.specs.Rows.{IsReady}
 use Rattle.tm_deal.specs.Dealing.{dealt_to, hand_of}
-use Rattle.tm_parts.specs.Parts.{tree_to_play, trees_from, editor_parts, working_parts, PartWaits, Deed, EachPart}
+use Rattle.tm_parts.specs.Parts.{tree_to_play, trees_from, editor_parts, working_parts, PartWaits}
 use Rattle.tm_parts.specs.Replayed.{AreDealt}
-use Rattle.tm_parts.proofs.Lists.{All-at, All-filter}
+use Rattle.tm_parts.proofs.Lists.{All-at, All-of, All-filter}
 
 -- a tree is to be played as the tree of its number in the trace
 pub record IsOfTrace (policy : Policy) (trace : Trace) (tree : TreeToPlay) : Type 0 where
@@ -45,19 +45,19 @@ trees-push policy t [] tree = ap (λ n. tree_to_play policy n tree ∷ []) (omeg
 trees-push policy t (first ∷ trees) tree = ap (λ (l : List TreeToPlay). tree_to_play policy t first ∷ l) (trees-push policy (suc t) trees tree ∙ ap (λ n. trees_from policy (suc t) trees ++ tree_to_play policy n tree ∷ []) (omega arith))
 
 -- one editor more at the end
-pub editors-push : (e : ℕ) (editors : List Editor) (editor : Editor) → editor_parts e (editors ++ editor ∷ []) ≡ editor_parts e editors ++ Part.Editor (e + length editors) editor.lines ∷ []
+pub editors-push : {H : Type 0} (e : ℕ) (editors : List Editor) (editor : Editor) → editor_parts {H = H} e (editors ++ editor ∷ []) ≡ editor_parts e editors ++ Part.Editor (e + length editors) editor.lines ∷ []
 editors-push e [] editor = ap (λ n. Part.Editor n editor.lines ∷ []) (omega arith)
-editors-push e (first ∷ editors) editor = ap (λ (l : List Part). Part.Editor e first.lines ∷ l) (editors-push (suc e) editors editor ∙ ap (λ n. editor_parts (suc e) editors ++ Part.Editor n editor.lines ∷ []) (omega arith))
+editors-push e (first ∷ editors) editor = ap (λ (l : List (Part _)). Part.Editor e first.lines ∷ l) (editors-push (suc e) editors editor ∙ ap (λ n. editor_parts (suc e) editors ++ Part.Editor n editor.lines ∷ []) (omega arith))
 
 -- the same, of the parts so far
-pub editors-more : (old parts new : List Part) (done : List Editor) (editor : Editor) (number next : ℕ) → parts ≡ old ++ editor_parts 1 done → number ≡ length done → next ≡ number + 1 → new ≡ parts ++ Part.Editor next editor.lines ∷ [] → (new ≡ old ++ editor_parts 1 (done ++ editor ∷ [])) × (next ≡ length (done ++ editor ∷ []))
+pub editors-more : {H : Type 0} (old parts new : List (Part H)) (done : List Editor) (editor : Editor) (number next : ℕ) → parts ≡ old ++ editor_parts 1 done → number ≡ length done → next ≡ number + 1 → new ≡ parts ++ Part.Editor next editor.lines ∷ [] → (new ≡ old ++ editor_parts 1 (done ++ editor ∷ [])) × (next ≡ length (done ++ editor ∷ []))
 editors-more old parts new done editor number next is count more pushed =
     let place : 1 + length done ≡ next = omega (arith, count, more) in
     let long = length-append done (editor ∷ []) in (
       pushed
-          ∙ ap (λ (l : List Part). l ++ Part.Editor next editor.lines ∷ []) is
+          ∙ ap (λ (l : List (Part _)). l ++ Part.Editor next editor.lines ∷ []) is
           ∙ append_assoc old (editor_parts 1 done) (Part.Editor next editor.lines ∷ [])
-          ∙ ap (λ (l : List Part). old ++ l) (sym (editors-push 1 done editor ∙ ap (λ n. editor_parts 1 done ++ Part.Editor n editor.lines ∷ []) place)),
+          ∙ ap (λ (l : List (Part _)). old ++ l) (sym (editors-push 1 done editor ∙ ap (λ n. editor_parts 1 done ++ Part.Editor n editor.lines ∷ []) place)),
       omega (arith, count, more, long),
     )
 
@@ -104,58 +104,27 @@ module _ (start : Start) (trace : Trace) (trees : length trace ≡ start.trees) 
       All-map (λ (t : TreeToPlay). IsReady start t × ((dealt_to workers t.number == worker) ≡ true)) (IsReady start) (hand_of workers worker (trees_from start.policy 1 trace)) (λ t both. both.0)
       (All-filter (IsReady start) (λ (t : TreeToPlay). dealt_to workers t.number == worker) (trees_from start.policy 1 trace) trees-ready)
 
-  hands-wait : (hands : List (List TreeToPlay)) → ((k : ℕ) (hand : List TreeToPlay) → slice_get hands k ≡ Some hand → AllByRecursion (IsReady start) hand) → AllByRecursion (PartWaits start) (map Part.Worker hands)
-  hands-wait [] h = tt
-  hands-wait (hand ∷ hands) h = (h 0 hand refl, hands-wait hands (λ k other at. h (suc k) other at))
+  -- every worker's hand
+  pub hands-ready : (workers : ℕ) (hands : List (List TreeToPlay)) → AreDealt start trace workers hands → AllByRecursion (λ (hand : List TreeToPlay). AllByRecursion (IsReady start) hand) hands
+  hands-ready workers hands dealt =
+      All-of (λ (hand : List TreeToPlay). AllByRecursion (IsReady start) hand) hands
+      (λ k hand at.
+      let lt : k < workers = subst (λ n. k < n) dealt.count (within hands k hand at) in
+      let both : Some hand ≡ Some (hand_of workers k (trees_from start.policy 1 trace)) = sym at ∙ dealt.each k lt in
+      let same : hand ≡ hand_of workers k (trees_from start.policy 1 trace) = cc in
+      subst (λ (l : List TreeToPlay). AllByRecursion (IsReady start) l) (sym same) (hand-ready workers k))
 
-  editors-wait : (e : ℕ) (editors : List Editor) → e + length editors ≤ length start.editors → AllByRecursion (PartWaits start) (editor_parts (suc e) editors)
+module _ {H : Type 0} (Ready : Start → H → Type 0) (start : Start) where
+  hands-wait : (hands : List H) → AllByRecursion (Ready start) hands → AllByRecursion (PartWaits Ready start) (map Part.Worker hands)
+  hands-wait [] h = tt
+  hands-wait (hand ∷ hands) h = (h.0, hands-wait hands h.1)
+
+  editors-wait : (e : ℕ) (editors : List Editor) → e + length editors ≤ length start.editors → AllByRecursion (PartWaits Ready start) (editor_parts (suc e) editors)
   editors-wait e [] le = tt
   editors-wait e (editor ∷ editors) le = ((omega arith, omega (arith, le)), editors-wait (suc e) editors (omega (arith, le)))
 
   -- every worker's and every editor's part
-  pub parts-wait : (workers : ℕ) (hands : List (List TreeToPlay)) → AreDealt start trace workers hands → AllByRecursion (PartWaits start) (working_parts hands start.editors)
-  parts-wait workers hands dealt =
-      All-append (PartWaits start) (map Part.Worker hands) (editor_parts 1 start.editors)
-      (hands-wait hands (λ k hand at.
-      let lt : k < workers = subst (λ n. k < n) dealt.count (within hands k hand at) in
-      let both : Some hand ≡ Some (hand_of workers k (trees_from start.policy 1 trace)) = sym at ∙ dealt.each k lt in
-      let same : hand ≡ hand_of workers k (trees_from start.policy 1 trace) = cc in
-      subst (λ (l : List TreeToPlay). AllByRecursion (IsReady start) l) (sym same) (hand-ready workers k)))
-      (editors-wait 0 start.editors (omega arith))
-
--- Parts and their deeds
-
--- the deeds of the first parts, and those of the others
-pub record Split (P : Part → Deed → Type 0) (first rest : List Part) (deeds : List Deed) : Type 0 where
-  pub front : List Deed
-  pub back : List Deed
-  pub all : deeds ≡ front ++ back
-  pub each_front : EachPart P first front
-  pub each_back : EachPart P rest back
-
-pub each-split : (P : Part → Deed → Type 0) (first rest : List Part) (deeds : List Deed) → EachPart P (first ++ rest) deeds → Split P first rest deeds
-each-split P [] rest deeds h = record { front = []; back = deeds; all = refl; each_front = tt; each_back = h }
-each-split P (part ∷ first) rest [] h = absurd h
-each-split P (part ∷ first) rest (done ∷ deeds) h =
-    let more = each-split P first rest deeds h.1 in
-    record {
-      front = done ∷ more.front;
-      back = more.back;
-      all = ap (λ (l : List Deed). done ∷ l) more.all;
-      each_front = (h.0, more.each_front);
-      each_back = more.each_back;
-    }
-
-pub each-length : (P : Part → Deed → Type 0) (parts : List Part) (deeds : List Deed) → EachPart P parts deeds → length deeds ≡ length parts
-each-length P [] [] h = refl
-each-length P [] (done ∷ deeds) h = absurd h
-each-length P (part ∷ parts) [] h = absurd h
-each-length P (part ∷ parts) (done ∷ deeds) h = ap suc (each-length P parts deeds h.1)
-
--- a deed at its place, with its part
-pub each-at : (P : Part → Deed → Type 0) (parts : List Part) (deeds : List Deed) (k : ℕ) (done : Deed) → EachPart P parts deeds → slice_get deeds k ≡ Some done → (part : Part) × (slice_get parts k ≡ Some part) × P part done
-each-at P [] [] k done h at = absurd cc
-each-at P [] (d ∷ deeds) k done h at = absurd h
-each-at P (part ∷ parts) [] k done h at = absurd h
-each-at P (part ∷ parts) (d ∷ deeds) zero done h at = let same : d ≡ done = cc in (part, refl, subst (P part) same h.0)
-each-at P (part ∷ parts) (d ∷ deeds) (suc k) done h at = each-at P parts deeds k done h.1 at
+  pub parts-wait : (hands : List H) → AllByRecursion (Ready start) hands → AllByRecursion (PartWaits Ready start) (working_parts hands start.editors)
+  parts-wait hands ready =
+      All-append (PartWaits Ready start) (map Part.Worker hands) (editor_parts 1 start.editors)
+      (hands-wait hands ready) (editors-wait 0 start.editors (omega arith))

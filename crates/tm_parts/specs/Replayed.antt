@@ -1,11 +1,9 @@
 -- A trace that was replayed in parts, and the run that its parts have made.
-use Rattle.std.specs.Prelude.{◌≡◌, ◌<◌, ℕ, true, Bool, List, length, map, take, Option, Some, None, if◌then◌else◌, slice_get, sum_by}
-use Rattle.std.specs.List.{AllByRecursion}
+use Rattle.std.specs.Prelude.{◌≡◌, ◌<◌, ℕ, List, length, map, Some, None, if◌then◌else◌, slice_get}
 use Rattle.tm_types.specs.declared.step.Book.{Book}
 use Rattle.tm_types.specs.declared.step.Made.{Made}
 use Rattle.tm_types.specs.declared.step.Run.{Run}
 use Rattle.tm_types.specs.declared.step.Start.{Start}
-use Rattle.tm_rules.specs.Queries.{numbered}
 use Rattle.tm_rules.specs.Words.{Trace}
 use Rattle.tm_trace.specs.Written.{IsTrace}
 use Rattle.tm_legal.specs.Legal.{Scene, Legal, NoLookBeforeAttach}
@@ -15,10 +13,9 @@ use Rattle.tm_joint.specs.Joint.{takes_in}
 use Rattle.tm_seat.specs.declared.tree.PlayedTree.{PlayedTree}
 use Rattle.tm_seat.specs.declared.tree.TreeToPlay.{TreeToPlay}
 use Rattle.tm_seat.specs.Seats as seat
-use Rattle.tm_seat.specs.Seats.{FitsFrom, Begins}
 use Rattle.tm_seat.specs.Rows.{row_of}
 use Rattle.tm_deal.specs.Dealing.{hand_of, IsGathered}
-use Rattle.tm_parts.specs.Parts.{trees_from, all_parts, coming, Deed, PartIsDone, EachPart}
+use Rattle.tm_parts.specs.Parts.{trees_from, WorkerDid, PlayedTogether}
 
 -- what an opening plays with a trace; the book counts where a supervisor stands
 abbrev pub scene_of : Start → Trace → Book → Scene
@@ -30,21 +27,14 @@ pub record AreDealt (start : Start) (trace : Trace) (workers : ℕ) (hands : Lis
   pub each : (worker : ℕ) → worker < workers
       → slice_get hands worker ≡ Some (hand_of workers worker (trees_from start.policy 1 trace))
 
--- every part has come to its deed, and all of them to this list of steps; each began when it knew
--- the supervisor's coming, where one stands; and the workers' rows were gathered
+-- all trees of the trace were played by so many workers together, and their rows were gathered
 pub record Replayed (start : Start) (trace : Trace) (book : Book) (workers : ℕ) (list : List Made)
     (rows : List PlayedTree) : Type 0 where
-  pub fitted : FitsFrom start list
-  pub attached : List Made
-  pub come : start.desk ≡ true → (number : ℕ) × (numbered attached number ≡ Some coming)
-  pub begins : Begins attached list
   pub hands : List (List TreeToPlay)
   pub dealt : AreDealt start trace workers hands
-  pub deeds : List Deed
-  pub each : EachPart (PartIsDone start book (length attached)) (all_parts hands start.editors start.desk) deeds
-  pub seen : AllByRecursion (λ (done : Deed). Begins done.known list) deeds
-  pub closed : length list ≡ sum_by (λ (done : Deed). length done.own) deeds
-  pub gathered : IsGathered (length trace) (take workers (map (λ (done : Deed). done.rows) deeds)) rows
+  pub given : List (List PlayedTree)
+  pub played : PlayedTogether WorkerDid start book hands list given
+  pub gathered : IsGathered (length trace) given rows
 
 -- the run of these steps and rows
 abbrev pub run_of : Start → Trace → Book → List Made → List PlayedTree → Run

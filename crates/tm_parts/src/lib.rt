@@ -5,6 +5,8 @@
 
 mod law;
 mod part;
+mod work;
 
 pub use law::replayed_runs_are_legal;
 pub use part::{Part, working_parts};
+pub use work::{Trees, Work};

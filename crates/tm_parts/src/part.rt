@@ -5,21 +5,20 @@ ghost use Rattle.tm_parts.specs.declared.part.Part.{Part};
 
 use std::alloc::{AllocError, Global};
 use tm_list::{NoMemory, Seq};
-use tm_seat::TreeToPlay;
 use tm_types::step::{Editor, FileKind};
 use tm_word::Text;
 
-/// What one thread does: a worker plays its trees, an editor of a number, from 1, makes its lines,
-/// and the supervisor answers queries.
+/// What one thread does: a worker has a hand to play, an editor of a number, from 1, makes its
+/// lines, and the supervisor answers queries.
 #[derive(Drop)]
-pub enum Part {
-    Worker(Seq<TreeToPlay>),
+pub enum Part<H> {
+    Worker(H),
     Editor(u32, Seq<(FileKind, Text)>),
     Desk,
 }
 
 // Appends a worker's part for each hand.
-fn push_workers(parts: &mut Vec<Part>, hands: Vec<Seq<TreeToPlay>>) -> Result<(), NoMemory>
+fn push_workers<H: Drop>(parts: &mut Vec<Part<H>>, hands: Vec<H>) -> Result<(), NoMemory>
     ensures { OnOk result (parts.new.items ≡ parts.old.items ++ map Part.Worker hands.items) }
 {
     for hand in hands {
@@ -29,7 +28,7 @@ fn push_workers(parts: &mut Vec<Part>, hands: Vec<Seq<TreeToPlay>>) -> Result<()
 }
 
 // Appends a part for each editor, by their numbers from 1.
-fn push_editors(parts: &mut Vec<Part>, editors: Seq<Editor>) -> Result<(), NoMemory>
+fn push_editors<H: Drop>(parts: &mut Vec<Part<H>>, editors: Seq<Editor>) -> Result<(), NoMemory>
     ensures { OnOk result (parts.new.items ≡ parts.old.items ++ editor_parts 1 editors) }
 {
     let mut number: u32 = 0;
@@ -47,11 +46,11 @@ fn push_editors(parts: &mut Vec<Part>, editors: Seq<Editor>) -> Result<(), NoMem
 /// editors by their numbers.
 ///
 /// Errors: want of memory.
-pub fn working_parts(
+pub fn working_parts<H: Drop>(
     alloc: Global,
-    hands: Vec<Seq<TreeToPlay>>,
+    hands: Vec<H>,
     editors: Seq<Editor>,
-) -> Result<Vec<Part>, NoMemory>
+) -> Result<Vec<Part<H>>, NoMemory>
     ensures { IfOk result (λ parts. parts.items ≡ working_parts hands.items editors) }
 {
     let mut parts = Vec::new(alloc);

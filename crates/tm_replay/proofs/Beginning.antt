@@ -1,45 +1,44 @@
 -- How jobs begin: with fresh passes, which are told of the supervisor's coming.
 use Rattle.std.proofs.Common.{◌≡◌, ◌≤◌, ◌<◌, ℕ, List, [], ◌∷◌, ◌++◌, length, map, refl, sym, ap, ◌∙◌, subst, arith, append-nil, append_assoc}
-use Rattle.std.specs.Prelude.{Option, Some, None}
+use Rattle.std.specs.Prelude.{Option, Some}
 use Rattle.std.specs.List.{AllByRecursion}
 use Rattle.std.proofs.lemmas.List.{map-append}
 use Rattle.tm_types.specs.declared.step.Made.{Made}
 use Rattle.tm_types.specs.declared.step.Start.{Start}
-use Rattle.tm_rules.specs.Queries.{numbered}
 use Rattle.tm_legal.proofs.Asked.{All-append}
 use Rattle.tm_joint.proofs.Rows.{All-left, All-right}
 use Rattle.tm_publish.specs.declared.front.Front.{Front}
 use Rattle.tm_publish.specs.declared.pass.Pass.{Pass}
-use Rattle.tm_publish.specs.Words.{home, known, made_of, front_home, front_list, IsFresh}
+use Rattle.tm_publish.specs.Words.{home, known, made_of, front_list, IsFresh}
 use Rattle.tm_serve.specs.Serving as serving
 use Rattle.tm_parts.specs.declared.part.Part.{Part}
-use Rattle.tm_parts.specs.Parts.{coming, HasCome, PartWaits, PartIsReady}
+use Rattle.tm_parts.specs.Parts.{coming, IsWorking, PassIsReady}
 use Rattle.tm_replay.specs.Jobs.{StartsFrom, JobStarts, told_of, IsFrontOf}
 use Rattle.tm_replay.specs.Beginnings.{AreGiven}
 
--- a part that waits is ready where nothing was made
-part-ready : (start : Start) (part : Part) (list : List Made) (own : List ℕ) → PartWaits start part → own ≡ [] → PartIsReady start part list own
-part-ready start (Part.Worker trees) list own waits none = (waits, none)
-part-ready start (Part.Editor number lines) list own waits none = (waits.0, waits.1, none)
-part-ready start Part.Desk list own waits none = absurd waits
+-- a fresh pass is ready for a part that isn't the supervisor's
+part-ready : {H : Type 0} (part : Part H) (list : List Made) (own : List ℕ) → IsWorking part → own ≡ [] → PassIsReady part list own
+part-ready (Part.Worker hand) list own working none = none
+part-ready (Part.Editor number lines) list own working none = none
+part-ready Part.Desk list own working none = absurd working
 
-module _ {L O : Type 0} {n : _} {l : _} {o : _} where
+module _ {L O H : Type 0} {n : _} {l : _} {o : _} where
   -- a fresh pass
-  pub starts-alone : (start : Start) (part : Part) (pass : Pass L O Start Made n l o) → IsFresh start pass → PartWaits start part → StartsFrom start [] part pass
-  starts-alone start part pass fresh waits = record { opened = fresh.opened; knows = fresh.knows; ready = part-ready start part [] (made_of pass) waits fresh.made }
+  pub starts-alone : (start : Start) (part : Part H) (pass : Pass L O Start Made n l o) → IsFresh start pass → IsWorking part → StartsFrom start [] part pass
+  starts-alone start part pass fresh waits = record { opened = fresh.opened; knows = fresh.knows; ready = part-ready part [] (made_of pass) waits fresh.made }
 
   -- a fresh pass that was told of a list
-  pub starts-told : (start : Start) (part : Part) (old new : Pass L O Start Made n l o) (told : List Made) → IsFresh start old → home new ≡ home old → (length (known old) ≤ length told → known new ≡ told) → made_of new ≡ made_of old → PartWaits start part → StartsFrom start told part new
+  pub starts-told : (start : Start) (part : Part H) (old new : Pass L O Start Made n l o) (told : List Made) → IsFresh start old → home new ≡ home old → (length (known old) ≤ length told → known new ≡ told) → made_of new ≡ made_of old → IsWorking part → StartsFrom start told part new
   starts-told start part old new told fresh opened newer made waits =
       let none : length (known old) ≤ length told = let is = ap (λ (list : List Made). length list) fresh.knows in omega (arith, is) in
       record {
         opened = opened ∙ fresh.opened;
         knows = newer none;
-        ready = part-ready start part told (made_of new) waits (made ∙ fresh.made);
+        ready = part-ready part told (made_of new) waits (made ∙ fresh.made);
       }
 
   -- the supervisor's pass
-  pub starts-come : (start : Start) (old new : Pass L O Start Made n l o) (front : Front L O Start Made n l o) → IsFresh start old → home new ≡ home old → serving.HasCome coming old new front → StartsFrom start (front_list front) Part.Desk new
+  pub starts-come : (start : Start) (old new : Pass L O Start Made n l o) (front : Front L O Start Made n l o) → IsFresh start old → home new ≡ home old → serving.HasCome coming old new front → StartsFrom {H = H} start (front_list front) Part.Desk new
   starts-come start old new front fresh opened come =
       let low : length (known old) < come.number = come.after in
       record {
@@ -54,7 +53,7 @@ module _ {L O : Type 0} {n : _} {l : _} {o : _} where
       }
 
   -- one job more
-  pub jobs-more : {J : Type 0} (part_of : J → Option Part) (pass_of : J → Option (Pass L O Start Made n l o)) (start : Start) (attached : List Made) (jobs : List J) (job : J) → AllByRecursion (λ j. JobStarts start attached (part_of j) (pass_of j)) jobs → JobStarts start attached (part_of job) (pass_of job) → AllByRecursion (λ j. JobStarts start attached (part_of j) (pass_of j)) (jobs ++ job ∷ [])
+  pub jobs-more : {J : Type 0} (part_of : J → Option (Part H)) (pass_of : J → Option (Pass L O Start Made n l o)) (start : Start) (attached : List Made) (jobs : List J) (job : J) → AllByRecursion (λ j. JobStarts start attached (part_of j) (pass_of j)) jobs → JobStarts start attached (part_of job) (pass_of job) → AllByRecursion (λ j. JobStarts start attached (part_of j) (pass_of j)) (jobs ++ job ∷ [])
   jobs-more part_of pass_of start attached jobs job all one = All-append (λ j. JobStarts start attached (part_of j) (pass_of j)) jobs (job ∷ []) all (one, tt)
 
 pub All-first : {A : Type 0} (P : A → Type 0) (xs : List A) (x : A) → AllByRecursion P (xs ++ x ∷ []) → AllByRecursion P xs
@@ -63,9 +62,9 @@ All-first P xs x h = All-left P xs (x ∷ []) h
 pub All-last : {A : Type 0} (P : A → Type 0) (xs : List A) (x : A) → AllByRecursion P (xs ++ x ∷ []) → P x
 All-last P xs x h = (All-right P xs (x ∷ []) h).0
 
-module _ {L O : Type 0} {n : _} {l : _} {o : _} {J : Type 0} (part_of : J → Option Part) (pass_of : J → Option (Pass L O Start Made n l o)) where
+module _ {L O H : Type 0} {n : _} {l : _} {o : _} {J : Type 0} (part_of : J → Option (Part H)) (pass_of : J → Option (Pass L O Start Made n l o)) where
   -- at the beginning
-  pub given-none : (front : Option (Front L O Start Made n l o)) (parts waiting : List Part) (passes left : List (Pass L O Start Made n l o)) (jobs : List J) → waiting ≡ parts → left ≡ passes → jobs ≡ [] → AreGiven part_of pass_of front parts passes waiting left jobs
+  pub given-none : (front : Option (Front L O Start Made n l o)) (parts waiting : List (Part H)) (passes left : List (Pass L O Start Made n l o)) (jobs : List J) → waiting ≡ parts → left ≡ passes → jobs ≡ [] → AreGiven part_of pass_of front parts passes waiting left jobs
   given-none front parts waiting passes left jobs all lined none =
       record {
         done = [];
@@ -76,24 +75,24 @@ module _ {L O : Type 0} {n : _} {l : _} {o : _} {J : Type 0} (part_of : J → Op
       }
 
   -- one job more
-  pub given-next : (front : Option (Front L O Start Made n l o)) (parts rest : List Part) (passes left after : List (Pass L O Start Made n l o)) (jobs more : List J) (part : Part) (pass : Pass L O Start Made n l o) (job : J) → AreGiven part_of pass_of front parts passes (part ∷ rest) left jobs → left ≡ pass ∷ after → more ≡ jobs ++ job ∷ [] → part_of job ≡ Some part → ((start : Start) → IsFresh start pass → IsFrontOf start front → PartWaits start part → JobStarts start (told_of front) (part_of job) (pass_of job)) → AreGiven part_of pass_of front parts passes rest after more
+  pub given-next : (front : Option (Front L O Start Made n l o)) (parts rest : List (Part H)) (passes left after : List (Pass L O Start Made n l o)) (jobs more : List J) (part : Part H) (pass : Pass L O Start Made n l o) (job : J) → AreGiven part_of pass_of front parts passes (part ∷ rest) left jobs → left ≡ pass ∷ after → more ≡ jobs ++ job ∷ [] → part_of job ≡ Some part → ((start : Start) → IsFresh start pass → IsFrontOf start front → IsWorking part → JobStarts start (told_of front) (part_of job) (pass_of job)) → AreGiven part_of pass_of front parts passes rest after more
   given-next front parts rest passes left after jobs more part pass job h is pushed of_part begins =
       record {
         done = h.done ++ part ∷ [];
         all = append_assoc h.done (part ∷ []) rest ∙ h.all;
-        parts_are = ap (map part_of) pushed ∙ map-append part_of jobs (job ∷ []) ∙ ap (λ (l : List (Option Part)). l ++ part_of job ∷ []) h.parts_are ∙ ap (λ (p : Option Part). map Some h.done ++ p ∷ []) of_part ∙ sym (map-append Some h.done (part ∷ []));
+        parts_are = ap (map part_of) pushed ∙ map-append part_of jobs (job ∷ []) ∙ ap (λ (l : List (Option (Part H))). l ++ part_of job ∷ []) h.parts_are ∙ ap (λ (p : Option (Part H)). map Some h.done ++ p ∷ []) of_part ∙ sym (map-append Some h.done (part ∷ []));
         fresh = λ start all. (subst (AllByRecursion (IsFresh start)) is (h.fresh start all)).1;
         starts = λ start all of waits.
             subst (AllByRecursion (λ j. JobStarts start (told_of front) (part_of j) (pass_of j))) (sym pushed)
-            (jobs-more part_of pass_of start (told_of front) jobs job (h.starts start all of (All-first (PartWaits start) h.done part waits))
-            (begins start (subst (AllByRecursion (IsFresh start)) is (h.fresh start all)).0 of (All-last (PartWaits start) h.done part waits)));
+            (jobs-more part_of pass_of start (told_of front) jobs job (h.starts start all of (All-first IsWorking h.done part waits))
+            (begins start (subst (AllByRecursion (IsFresh start)) is (h.fresh start all)).0 of (All-last IsWorking h.done part waits)));
       }
 
   -- at the end
-  pub given-parts : (front : Option (Front L O Start Made n l o)) (parts waiting : List Part) (passes left : List (Pass L O Start Made n l o)) (jobs made : List J) → AreGiven part_of pass_of front parts passes waiting left jobs → waiting ≡ [] → made ≡ jobs → map part_of made ≡ map Some parts
-  given-parts front parts waiting passes left jobs made h none same = ap (map part_of) same ∙ h.parts_are ∙ ap (map Some) (sym (append-nil h.done) ∙ ap (λ (ps : List Part). h.done ++ ps) (sym none) ∙ h.all)
+  pub given-parts : (front : Option (Front L O Start Made n l o)) (parts waiting : List (Part H)) (passes left : List (Pass L O Start Made n l o)) (jobs made : List J) → AreGiven part_of pass_of front parts passes waiting left jobs → waiting ≡ [] → made ≡ jobs → map part_of made ≡ map Some parts
+  given-parts front parts waiting passes left jobs made h none same = ap (map part_of) same ∙ h.parts_are ∙ ap (map Some) (sym (append-nil h.done) ∙ ap (λ (ps : List (Part H)). h.done ++ ps) (sym none) ∙ h.all)
 
-  pub given-starts : (front : Option (Front L O Start Made n l o)) (parts waiting : List Part) (passes left : List (Pass L O Start Made n l o)) (jobs made : List J) → AreGiven part_of pass_of front parts passes waiting left jobs → waiting ≡ [] → made ≡ jobs → (start : Start) → AllByRecursion (IsFresh start) passes → IsFrontOf start front → AllByRecursion (PartWaits start) parts → AllByRecursion (λ j. JobStarts start (told_of front) (part_of j) (pass_of j)) made
+  pub given-starts : (front : Option (Front L O Start Made n l o)) (parts waiting : List (Part H)) (passes left : List (Pass L O Start Made n l o)) (jobs made : List J) → AreGiven part_of pass_of front parts passes waiting left jobs → waiting ≡ [] → made ≡ jobs → (start : Start) → AllByRecursion (IsFresh start) passes → IsFrontOf start front → AllByRecursion IsWorking parts → AllByRecursion (λ j. JobStarts start (told_of front) (part_of j) (pass_of j)) made
   given-starts front parts waiting passes left jobs made h none same start fresh of waits =
       subst (AllByRecursion (λ j. JobStarts start (told_of front) (part_of j) (pass_of j))) (sym same)
-      (h.starts start fresh of (subst (AllByRecursion (PartWaits start)) (sym (sym (append-nil h.done) ∙ ap (λ (ps : List Part). h.done ++ ps) (sym none) ∙ h.all)) waits))
+      (h.starts start fresh of (subst (AllByRecursion IsWorking) (sym (sym (append-nil h.done) ∙ ap (λ (ps : List (Part H)). h.done ++ ps) (sym none) ∙ h.all)) waits))

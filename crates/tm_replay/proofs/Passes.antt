@@ -3,6 +3,9 @@ use Rattle.std.proofs.Common.{◌≡◌, ℕ, ◌+◌, List, [], ◌∷◌, ◌+
 use Rattle.std.specs.Prelude.{Option, Some, None, IsSome, is_some, option_map, unwrap_or, slice_get, take}
 use mathlib.Core.List.{IsPrefix}
 use Rattle.tm_rules.specs.Requests.{is_request}
+use Rattle.tm_rules.specs.Policy.{domain_at}
+use Rattle.tm_change_domains.specs.Standing.{Standing, StandsIn}
+use Rattle.tm_types.specs.declared.policy.Policy.{Policy}
 use Rattle.tm_types.specs.declared.request.Proc.{Proc}
 use Rattle.tm_types.specs.declared.request.Request.{Request}
 use Rattle.tm_types.specs.declared.step.Made.{Made}
@@ -85,6 +88,11 @@ looks-there start xs ys domain process request opened begins fitted there asked 
     let judged_last : IsSome (verdict_at (state_of start ys) domain process request) =
     subst (λ (l : List Made). IsSome (verdict_at (state_of start l) domain process request)) (sym begins.1) judged_at in
     some-map _ (verdict_at (state_of start ys) domain process request) judged_last
+
+-- where a look stands, its domain is there with its profile
+pub stands-there : (policy : Policy) (domain : ℕ) (standing : Standing) → standing.number ≡ domain → StandsIn policy standing → DomainIn policy domain
+stands-there policy domain standing number h =
+    record { domain = standing.domain; there = subst (λ d. domain_at policy d ≡ Some standing.domain) number h.domain; profile = standing.profile; profiled = h.profile }
 
 -- a step that fits after what is known fits after all that goes on from it
 pub fits-on : (start : Start) (xs ys : List Made) (made : Made) → IsPrefix xs ys → IsSome (apply tomoyo_grammar (state_of start xs) made.step).reply → fits_at start ys made ≡ true

@@ -1,26 +1,23 @@
 -- What a worker, an editor and the supervisor have done with their passes.
-use Rattle.std.proofs.Common.{◌≡◌, ◌≤◌, ◌<◌, ℕ, zero, suc, ◌+◌, List, [], ◌∷◌, ◌++◌, length, take, Bool, true, refl, sym, ap, ◌∙◌, subst, arith, inl, inr, ◌⊎◌, ⊎_elim}
-use Rattle.std.specs.Prelude.{Option, Some, None, Result, Ok, Err, IfOk, IfSome, unwrap_or}
+use Rattle.std.proofs.Common.{◌≡◌, ◌≤◌, ◌<◌, ℕ, zero, suc, List, [], ◌∷◌, ◌++◌, length, take, Bool, refl, sym, ap, ◌∙◌, subst, arith, inl, inr, ◌⊎◌, ⊎_elim}
+use Rattle.std.specs.Prelude.{Option, Some, Result, Ok, Err, IfOk, IfSome, unwrap_or}
 use Rattle.std.specs.List.{AllByRecursion}
 use Rattle.std.proofs.lemmas.List.{length-append}
 use mathlib.Core.List.{IsPrefix}
 use Rattle.tm_word.specs.Words.{Text}
 use Rattle.tm_types.specs.declared.step.Book.{Book}
 use Rattle.tm_types.specs.declared.step.FileKind.{FileKind}
-use Rattle.tm_types.specs.declared.step.Look.{Look}
 use Rattle.tm_types.specs.declared.step.Made.{Made}
 use Rattle.tm_types.specs.declared.step.Maker.{Maker}
 use Rattle.tm_types.specs.declared.step.Query.{Query}
 use Rattle.tm_types.specs.declared.step.Start.{Start}
 use Rattle.tm_types.specs.declared.step.Step.{Step}
-use Rattle.tm_types.specs.declared.step.Take.{Take}
 use Rattle.tm_rules.specs.Queries.{numbered, first_query}
 use Rattle.tm_rules.specs.Words.{Trace}
 use Rattle.tm_grammar.specs.Tomoyo.{tomoyo_grammar}
 use Rattle.tm_legal.specs.Legal.{Scene, RisesFrom}
 use Rattle.tm_legal.specs.Play.{all_ended}
 use Rattle.tm_legal.specs.Steps.{State, opening, after}
-use Rattle.tm_legal.proofs.Walks.{All-map}
 use Rattle.tm_made.specs.Made.{start_in, state_made, steps_made}
 use Rattle.tm_joint.specs.Makers.{Claims}
 use Rattle.tm_joint.specs.Played.{LinesMade, DeskDid, last_from}
@@ -28,65 +25,44 @@ use Rattle.tm_joint.proofs.Rising.{RisesFrom-low}
 use Rattle.tm_machine.specs.Office.{by_desk}
 use Rattle.tm_machine.specs.Office as office
 use Rattle.tm_publish.specs.declared.pass.Pass.{Pass}
-use Rattle.tm_publish.specs.Words.{home, known, HasSeen, made_of}
-use Rattle.tm_seat.specs.declared.tree.PlayedTree.{PlayedTree}
-use Rattle.tm_seat.specs.declared.tree.TreeToPlay.{TreeToPlay}
+use Rattle.tm_publish.specs.Words.{home, known, HasSeen}
 use Rattle.tm_seat.specs.Seats.{scene_of, Begins, MadeBy}
-use Rattle.tm_seat.specs.Playing.{LooksSince}
-use Rattle.tm_seat.specs.Rows.{EachIsPlayed, RowSince, rows_own, makers_all}
-use Rattle.tm_seat.proofs.Opening.{begins-further}
 use Rattle.tm_serve.specs.Serving.{AnswersFrom, AllWasDone}
 use Rattle.tm_serve.proofs.Answering.{get_within, numbered_later}
 use Rattle.tm_serve.proofs.Did.{desk_did, first_in, over_in, answer_in}
-use Rattle.tm_parts.specs.Parts.{deed, coming, ClaimedBy, HasCome, WorkerDid, EditorDid, SupervisorDid}
+use Rattle.tm_parts.specs.Parts.{coming, ClaimedBy, HasCome, EditorDid, SupervisorDid}
+use Rattle.tm_parts.proofs.Working.{claimed}
 use Rattle.tm_replay.specs.Seats.{no_start, home_of}
 use Rattle.tm_replay.specs.Jobs.{GoesBack}
-use Rattle.tm_replay.proofs.Passes.{begins-of, home-there}
+use Rattle.tm_replay.proofs.Passes.{home-there}
 
 -- facts of what went well, put together
 pub if-ok : {A E : Type 0} (P Q Z : A → Type 0) (result : Result A E) → IfOk result P → IfOk result Q → ((x : A) → P x → Q x → Z x) → IfOk result Z
 if-ok P Q Z (Ok x) p q all = all x p q
 if-ok P Q Z (Err e) p q all = tt
 
-pub if-ok-of-four : {A E : Type 0} (P Q R S Z : A → Type 0) (result : Result A E) → IfOk result P → IfOk result Q → IfOk result R → IfOk result S → ((x : A) → P x → Q x → R x → S x → Z x) → IfOk result Z
-if-ok-of-four P Q R S Z (Ok x) p q r s all = all x p q r s
-if-ok-of-four P Q R S Z (Err e) p q r s all = tt
-
 module _ {L O : Type 0} {n : _} {l : _} {o : _} where
   pub home-same : (old new : Pass L O Start Made n l o) → home new ≡ home old → home_of new ≡ home_of old
   home-same old new is = ap (λ (found : Option Start). unwrap_or found no_start) is
 
-  -- a pass whose opening and lists go on
-  pub goes-back : (old mid new : Pass L O Start Made n l o) → home mid ≡ home old → home_of new ≡ home_of mid → Begins (known old) (known mid) → Begins (known mid) (known new) → HasSeen new (known new) → GoesBack old new
-  goes-back old mid new first second begins grows has =
+  -- a pass whose opening and list go on
+  pub goes-back : (old new : Pass L O Start Made n l o) → home_of new ≡ home_of old → Begins (known old) (known new) → HasSeen new (known new) → GoesBack old new
+  goes-back old new same grows has =
       record {
-        opened = home-there new ∙ ap Some second ∙ sym (home-there mid) ∙ first;
-        grows = begins-further (known old) (known mid) (known new) begins grows;
+        opened = home-there new ∙ ap Some same ∙ sym (home-there old);
+        grows = grows;
         has = has;
       }
 
--- Workers and editors
+pub begins-long : (old new : List Made) → Begins old new → length old ≤ length new
+begins-long old new begins =
+    let long = length-append old begins.0 in
+    let is = ap (λ (list : List Made). length list) begins.1 in
+    omega (arith, long, is)
 
-since-before : (old mid : List Made) (row : PlayedTree) → Begins old mid → RowSince (length mid) row → RowSince (length old) row
-since-before old mid row begins h =
-    All-map (LooksSince (length mid)) (LooksSince (length old)) row.takes
-    (λ take looks. All-map (λ (look : Look). length mid ≤ look.version) (λ (look : Look). length old ≤ look.version) take.looks
-    (λ look le. let long = length-append old begins.0 in let is = ap (λ (list : List Made). length list) begins.1 in let up : length mid ≤ look.version = le in omega (arith, long, is, up)) looks)
-    h
+-- Editors
 
-claimed : (makers : List Maker) (mid new : List Made) (before own : List ℕ) → before ≡ [] → MadeBy makers mid before new own → ClaimedBy makers new own
-claimed makers mid new before own none by who i all = by who i all (subst (λ (ns : List ℕ). Claims who i mid ns) (sym none) (tt, tt))
-
-pub worker-done : (start now : Start) (supervised : Bool) (old mid new : List Made) (before own : List ℕ) (trees items : List TreeToPlay) (rows : List PlayedTree) → now ≡ start → supervised ≡ start.desk → items ≡ trees → Begins old mid → before ≡ [] → EachIsPlayed now supervised new items rows → own ≡ before ++ rows_own rows → MadeBy (makers_all items) mid before new own → AllByRecursion (RowSince (length mid)) rows → WorkerDid start (length old) trees (deed new own rows)
-worker-done start now supervised old mid new before own trees items rows same stands are begins none each noted by fresh =
-    record {
-      each = subst (λ (s : Start). EachIsPlayed s start.desk new trees rows) same (subst (λ (b : Bool). EachIsPlayed now b new trees rows) stands (subst (λ (ts : List TreeToPlay). EachIsPlayed now supervised new ts rows) are each));
-      own_is = noted ∙ ap (λ (ns : List ℕ). ns ++ rows_own rows) none;
-      claims = claimed (makers_all trees) mid new before own none (subst (λ (ts : List TreeToPlay). MadeBy (makers_all ts) mid before new own) are by);
-      fresh = All-map (RowSince (length mid)) (RowSince (length old)) rows (λ row since. since-before old mid row begins since) fresh;
-    }
-
-pub editor-done : (number : ℕ) (lines : List (FileKind × Text)) (mid new : List Made) (before own : List ℕ) → before ≡ [] → ((numbers : List ℕ) × (own ≡ before ++ numbers) × LinesMade new number lines numbers) → MadeBy (Maker.Editor number ∷ []) mid before new own → EditorDid number lines (deed new own [])
+pub editor-done : (number : ℕ) (lines : List (FileKind × Text)) (mid new : List Made) (before own : List ℕ) → before ≡ [] → ((numbers : List ℕ) × (own ≡ before ++ numbers) × LinesMade new number lines numbers) → MadeBy (Maker.Editor number ∷ []) mid before new own → EditorDid number lines new own
 editor-done number lines mid new before own none (numbers, noted, made) by =
     record {
       made = subst (λ (ns : List ℕ). LinesMade new number lines ns) (sym (noted ∙ ap (λ (ns : List ℕ). ns ++ numbers) none)) made;
@@ -122,7 +98,7 @@ numbered-above : (list : List Made) (m : ℕ) (made : Made) → numbered list m 
 numbered-above list zero made at = omega arith
 numbered-above list (suc k) made at = let low : k < length list = get_within list k made at in omega (arith, low)
 
-pub supervisor-done : (start : Start) (book : Book) (old new : List Made) (before own : List ℕ) (count : ℕ) (answers : List ℕ) (left : ℕ) → HasCome old before → IsPrefix old new → own ≡ before ++ answers ++ left ∷ [] → RisesFrom (length old) (answers ++ left ∷ []) → count ≡ length answers → AnswersFrom office.first_in (λ serial code. by_desk (Step.Answer serial code)) start book new (length old) answers → numbered new left ≡ Some (by_desk Step.Detach) → ((book.stop ≡ Some count) ⊎ AllWasDone office.first_in office.over_in start new (last_from (length old) answers) left) → IfSome book.stop (λ most. count ≤ most) → SupervisorDid start book (deed new own [])
+pub supervisor-done : (start : Start) (book : Book) (old new : List Made) (before own : List ℕ) (count : ℕ) (answers : List ℕ) (left : ℕ) → HasCome old before → IsPrefix old new → own ≡ before ++ answers ++ left ∷ [] → RisesFrom (length old) (answers ++ left ∷ []) → count ≡ length answers → AnswersFrom office.first_in (λ serial code. by_desk (Step.Answer serial code)) start book new (length old) answers → numbered new left ≡ Some (by_desk Step.Detach) → ((book.stop ≡ Some count) ⊎ AllWasDone office.first_in office.over_in start new (last_from (length old) answers) left) → IfSome book.stop (λ most. count ≤ most) → SupervisorDid start book new own
 supervisor-done start book old new before own count answers left come begins noted rises counted each gone due few =
     record { acts = acts; claims = claims }
   where

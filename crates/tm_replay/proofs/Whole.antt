@@ -1,26 +1,21 @@
 -- All jobs of a replay, from their beginning to the run that they have made.
-use Rattle.std.proofs.Common.{◌≡◌, ◌≤◌, ◌<◌, ℕ, zero, suc, ◌+◌, List, [], ◌∷◌, ◌++◌, length, map, Bool, true, false, true≢false, refl, sym, ap, ◌∙◌, subst, arith, append-nil, append_assoc}
-use Rattle.std.specs.Prelude.{Option, Some, None, slice_get, slice_index_or, take, if◌then◌else◌, sum_by}
+use Rattle.std.proofs.Common.{◌≡◌, ◌<◌, ℕ, List, [], ◌∷◌, ◌++◌, length, map, Bool, true, false, true≢false, refl, sym, ap, ◌∙◌, subst, append-nil, append_assoc}
+use Rattle.std.specs.Prelude.{Option, Some, None, slice_get, slice_index_or, take}
 use Rattle.std.specs.List.{AllByRecursion}
 use Rattle.std.specs.Option.{IfSome}
 use Rattle.std.proofs.lemmas.List.{map-append}
-use Rattle.tm_types.specs.declared.policy.Policy.{Policy}
 use Rattle.tm_types.specs.declared.step.Book.{Book}
 use Rattle.tm_types.specs.declared.step.Made.{Made}
 use Rattle.tm_types.specs.declared.step.Run.{Run}
 use Rattle.tm_types.specs.declared.step.Start.{Start}
-use Rattle.tm_types.specs.declared.step.Step.{Step}
 use Rattle.tm_types.specs.declared.step.Take.{Take}
-use Rattle.tm_types.specs.declared.request.Tree.{Tree}
 use Rattle.tm_rules.specs.Words.{Trace}
 use Rattle.tm_trace.specs.Written.{IsTrace}
 use Rattle.tm_grammar.specs.Tomoyo.{tomoyo_grammar}
 use Rattle.tm_legal.specs.Steps.{State, opening, after}
-use Rattle.tm_legal.specs.Run.{History, steps_of}
-use Rattle.tm_legal.specs.Legal.{Scene, Legal, Replies, NoLookBeforeAttach, opening_of, final_policy}
+use Rattle.tm_legal.specs.Run.{steps_of}
+use Rattle.tm_legal.specs.Legal.{Legal, Replies, NoLookBeforeAttach, opening_of, final_policy}
 use Rattle.tm_legal.specs.Play.{CanPlay}
-use Rattle.tm_legal.proofs.Asked.{All-append}
-use Rattle.tm_legal.proofs.Walks.{All-map}
 use Rattle.tm_made.specs.Made.{history_made, told_from, steps_made}
 use Rattle.tm_made.proofs.Telling.{told-again}
 use Rattle.tm_joint.specs.Joint.{takes_in}
@@ -31,36 +26,36 @@ use Rattle.tm_machine.specs.Office.{list_of}
 use Rattle.tm_machine.proofs.Offices.{course-steps}
 use Rattle.tm_publish.specs.declared.front.Front.{Front}
 use Rattle.tm_publish.specs.declared.pass.Pass.{Pass}
-use Rattle.tm_publish.specs.Words.{home, known, made_of, HasSeen, front_home, front_list, IsFresh}
+use Rattle.tm_publish.specs.Words.{home, front_home, front_list, IsFresh}
 use Rattle.tm_serve.specs.Serving as serving
 use Rattle.tm_seat.specs.declared.tree.PlayedTree.{PlayedTree}
 use Rattle.tm_seat.specs.declared.tree.TreeToPlay.{TreeToPlay}
-use Rattle.tm_seat.specs.Seats.{Begins, FitsFrom}
+use Rattle.tm_seat.specs.Seats.{FitsFrom}
 use Rattle.tm_seat.specs.Rows.{row_of}
-use Rattle.tm_deal.specs.Dealing.{hand_of, IsGathered}
+use Rattle.tm_deal.specs.Dealing.{hand_of}
 use Rattle.tm_parts.specs.declared.part.Part.{Part}
-use Rattle.tm_parts.specs.Parts.{coming, trees_from, editor_parts, working_parts, all_parts, desk_parts, CanBegin, PartWaits, PartIsDone, EachPart, Deed}
+use Rattle.tm_parts.specs.Parts.{coming, trees_from, editor_parts, working_parts, desk_parts, CanBegin, IsWorking, PartWaits, PartIsDone, EachPart, Deed, PlayedTogether}
 use Rattle.tm_parts.specs.Replayed.{scene_of, AreDealt, Replayed, run_of, ReplayedRunsAreLegal}
-use Rattle.tm_parts.proofs.Plans.{parts-wait}
-use Rattle.tm_replay.specs.Jobs.{IsJob, JobIsDone, StartsFrom, JobStarts, told_of, IsFrontOf, HasComing, EachIsDone, ArePlayed}
+use Rattle.tm_parts.proofs.Lists.{All-at, get-map, get-mapped}
+use Rattle.tm_replay.specs.Jobs.{IsJob, JobIsDone, StartsFrom, JobStarts, HasComing, EachIsDone, ArePlayed}
 use Rattle.tm_replay.specs.Beginnings.{HaveBegun}
 use Rattle.tm_replay.specs.Replays.{AreAllPlayed}
 use Rattle.tm_replay.proofs.Beginning.{starts-come, jobs-more}
 use Rattle.tm_replay.proofs.Courses.{course-fitted}
-use Rattle.tm_replay.proofs.Given.{All-index, job-given, JobEnds, job-ends, Ended, ends-all, done-all}
+use Rattle.tm_replay.proofs.Given.{All-index, index-there, WaitsOrServes, all-serve, job-given, JobEnds, job-ends, Ended, ends-all, done-all}
 
-module _ {L O : Type 0} {n : _} {l : _} {o : _} {J : Type 0} (part_of : J → Option Part) (pass_of : J → Option (Pass L O Start Made n l o)) where
-  pub began-lone : (parts : List Part) (passes : List (Pass L O Start Made n l o)) (jobs : List J) → map part_of jobs ≡ map Some parts → ((start : Start) → AllByRecursion (IsFresh start) passes → Some start ≡ Some start → AllByRecursion (PartWaits start) parts → AllByRecursion (λ j. JobStarts start [] (part_of j) (pass_of j)) jobs) → HaveBegun part_of pass_of false parts passes jobs
+module _ {L O H : Type 0} {n : _} {l : _} {o : _} {J : Type 0} (part_of : J → Option (Part H)) (pass_of : J → Option (Pass L O Start Made n l o)) where
+  pub began-lone : (parts : List (Part H)) (passes : List (Pass L O Start Made n l o)) (jobs : List J) → map part_of jobs ≡ map Some parts → ((start : Start) → AllByRecursion (IsFresh start) passes → Some start ≡ Some start → AllByRecursion IsWorking parts → AllByRecursion (λ j. JobStarts start [] (part_of j) (pass_of j)) jobs) → HaveBegun part_of pass_of false parts passes jobs
   began-lone parts passes jobs are starts =
       record {
         parts_are = are ∙ ap (map Some) (sym (append-nil parts));
         starts = λ start fresh waits. ([], (λ stands. absurd (true≢false (sym stands))), starts start fresh refl waits);
       }
 
-  pub began-supervised : (parts : List Part) (passes rest : List (Pass L O Start Made n l o)) (before pass : Pass L O Start Made n l o) (front : Front L O Start Made n l o) (jobs more : List J) (job : J) → passes ≡ rest ++ before ∷ [] → serving.HasCome coming before pass front → front_home front ≡ home before → home pass ≡ home before → map part_of jobs ≡ map Some parts → ((start : Start) → AllByRecursion (IsFresh start) rest → front_home front ≡ Some start → AllByRecursion (PartWaits start) parts → AllByRecursion (λ j. JobStarts start (front_list front) (part_of j) (pass_of j)) jobs) → more ≡ jobs ++ job ∷ [] → part_of job ≡ Some Part.Desk → pass_of job ≡ Some pass → HaveBegun part_of pass_of true parts passes more
+  pub began-supervised : (parts : List (Part H)) (passes rest : List (Pass L O Start Made n l o)) (before pass : Pass L O Start Made n l o) (front : Front L O Start Made n l o) (jobs more : List J) (job : J) → passes ≡ rest ++ before ∷ [] → serving.HasCome coming before pass front → front_home front ≡ home before → home pass ≡ home before → map part_of jobs ≡ map Some parts → ((start : Start) → AllByRecursion (IsFresh start) rest → front_home front ≡ Some start → AllByRecursion IsWorking parts → AllByRecursion (λ j. JobStarts start (front_list front) (part_of j) (pass_of j)) jobs) → more ≡ jobs ++ job ∷ [] → part_of job ≡ Some Part.Desk → pass_of job ≡ Some pass → HaveBegun part_of pass_of true parts passes more
   began-supervised parts passes rest before pass front jobs more job popped come board opened are starts pushed of_part of_pass =
       record {
-        parts_are = ap (map part_of) pushed ∙ map-append part_of jobs (job ∷ []) ∙ ap (λ (ps : List (Option Part)). ps ++ part_of job ∷ []) are ∙ ap (λ (p : Option Part). map Some parts ++ p ∷ []) of_part ∙ sym (map-append Some parts (Part.Desk ∷ []));
+        parts_are = ap (map part_of) pushed ∙ map-append part_of jobs (job ∷ []) ∙ ap (λ (ps : List (Option (Part H))). ps ++ part_of job ∷ []) are ∙ ap (λ (p : Option (Part H)). map Some parts ++ p ∷ []) of_part ∙ sym (map-append Some parts (Part.Desk ∷ []));
         starts = λ start fresh waits.
             let fresh_all : AllByRecursion (IsFresh start) (rest ++ before ∷ []) = subst (AllByRecursion (IsFresh start)) popped fresh in
             let fresh_last : IsFresh start before = (All-right (IsFresh start) rest (before ∷ []) fresh_all).0 in (
@@ -73,19 +68,23 @@ module _ {L O : Type 0} {n : _} {l : _} {o : _} {J : Type 0} (part_of : J → Op
             );
       }
     where
-      desk-starts : (start : Start) (p : Option Part) (q : Option (Pass L O Start Made n l o)) → p ≡ Some Part.Desk → q ≡ Some pass → StartsFrom start (front_list front) Part.Desk pass → JobStarts start (front_list front) p q
-      desk-starts start p q p_is q_is h = subst (λ (x : Option Part). JobStarts start (front_list front) x q) (sym p_is) (subst (λ (y : Option (Pass L O Start Made n l o)). JobStarts start (front_list front) (Some Part.Desk) y) (sym q_is) h)
+      desk-starts : (start : Start) (p : Option (Part H)) (q : Option (Pass L O Start Made n l o)) → p ≡ Some Part.Desk → q ≡ Some pass → StartsFrom {H = H} start (front_list front) Part.Desk pass → JobStarts {H = H} start (front_list front) p q
+      desk-starts start p q p_is q_is h = subst (λ (x : Option (Part H)). JobStarts start (front_list front) x q) (sym p_is) (subst (λ (y : Option (Pass L O Start Made n l o)). JobStarts {H = H} start (front_list front) (Some Part.Desk) y) (sym q_is) h)
 
   -- each job has what it needs
-  pub began-given : (start : Start) (attached : List Made) (supervised : Bool) (jobs : List J) (k : ℕ) (d : J) → CanBegin start → supervised ≡ start.desk → AllByRecursion (λ j. JobStarts start attached (part_of j) (pass_of j)) jobs → k < length jobs → IsJob supervised (part_of (slice_index_or jobs k d)) (pass_of (slice_index_or jobs k d))
-  began-given start attached supervised jobs k d can stands all lt =
-      job-given start attached supervised (part_of (slice_index_or jobs k d)) (pass_of (slice_index_or jobs k d)) can stands
+  pub began-given : (Ready : Start → H → Type 0) (start : Start) (attached : List Made) (supervised : Bool) (parts : List (Part H)) (jobs : List J) (k : ℕ) (d : J) → CanBegin start → supervised ≡ start.desk → map part_of jobs ≡ map Some (parts ++ desk_parts supervised) → AllByRecursion (PartWaits Ready start) parts → AllByRecursion (λ j. JobStarts start attached (part_of j) (pass_of j)) jobs → k < length jobs → IsJob Ready supervised (part_of (slice_index_or jobs k d)) (pass_of (slice_index_or jobs k d))
+  began-given Ready start attached supervised parts jobs k d can stands are waits all lt =
+      let there : slice_get (map part_of jobs) k ≡ Some (part_of (slice_index_or jobs k d)) = get-map part_of jobs k (slice_index_or jobs k d) (index-there jobs k d lt) in
+      let (its, its_at, is) = get-mapped Some (parts ++ desk_parts supervised) k (part_of (slice_index_or jobs k d)) (subst (λ (l : List (Option (Part H))). slice_get l k ≡ Some (part_of (slice_index_or jobs k d))) are there) in
+      job-given Ready start attached supervised (part_of (slice_index_or jobs k d)) (pass_of (slice_index_or jobs k d)) its (sym is)
+      (All-at (WaitsOrServes Ready start) (parts ++ desk_parts supervised) k its (all-serve Ready start parts supervised waits) its_at)
+      can stands
       (All-index (λ j. JobStarts start attached (part_of j) (pass_of j)) jobs k d all lt)
 
   -- what all jobs have come to
-  pub played-at : (rows_of : J → Option (List PlayedTree)) (start : Start) (book : Book) (supervised : Bool) (parts : List Part) (attached : List Made) (old new : List J) (passes : List (Pass L O Start Made n l o)) (rows : Option (List (List PlayedTree))) → supervised ≡ start.desk → map part_of old ≡ map Some (parts ++ desk_parts supervised) → HasComing supervised attached → AllByRecursion (λ j. JobStarts start attached (part_of j) (pass_of j)) old → length new ≡ length old → ((k : ℕ) (d : J) → k < length old → JobIsDone book (part_of (slice_index_or old k d)) (pass_of (slice_index_or old k d)) (pass_of (slice_index_or new k d)) (rows_of (slice_index_or new k d))) → map Some passes ≡ map pass_of new → IfSome rows (λ queues. map Some queues ≡ map rows_of new) → ArePlayed start book (parts ++ desk_parts start.desk) passes rows
-  played-at rows_of start book supervised parts attached old new passes rows stands are come starts long done passes_are rows_are =
-      subst (λ (b : Bool). ArePlayed start book (parts ++ desk_parts b) passes rows) stands
+  pub played-at : {D : Type 0} (Did : Start → ℕ → H → Deed D → Type 0) (rows_of : J → Option (List D)) (start : Start) (book : Book) (supervised : Bool) (parts : List (Part H)) (attached : List Made) (old new : List J) (passes : List (Pass L O Start Made n l o)) (rows : Option (List (List D))) → supervised ≡ start.desk → map part_of old ≡ map Some (parts ++ desk_parts supervised) → HasComing supervised attached → AllByRecursion (λ j. JobStarts start attached (part_of j) (pass_of j)) old → length new ≡ length old → ((k : ℕ) (d : J) → k < length old → JobIsDone Did book (part_of (slice_index_or old k d)) (pass_of (slice_index_or old k d)) (pass_of (slice_index_or new k d)) (rows_of (slice_index_or new k d))) → map Some passes ≡ map pass_of new → IfSome rows (λ queues. map Some queues ≡ map rows_of new) → ArePlayed Did start book (parts ++ desk_parts start.desk) passes rows
+  played-at Did rows_of start book supervised parts attached old new passes rows stands are come starts long done passes_are rows_are =
+      subst (λ (b : Bool). ArePlayed Did start book (parts ++ desk_parts b) passes rows) stands
       (record {
         attached = attached;
         come = subst (λ (b : Bool). HasComing b attached) stands come;
@@ -96,17 +95,17 @@ module _ {L O : Type 0} {n : _} {l : _} {o : _} {J : Type 0} (part_of : J → Op
         done = all rows rows_are;
       })
     where
-      each : (k : ℕ) (d : J) → k < length old → JobEnds start book attached (part_of (slice_index_or old k d)) (pass_of (slice_index_or new k d)) (rows_of (slice_index_or new k d))
+      each : (k : ℕ) (d : J) → k < length old → JobEnds Did start book attached (part_of (slice_index_or old k d)) (pass_of (slice_index_or new k d)) (rows_of (slice_index_or new k d))
       each k d lt =
-          job-ends start book attached (part_of (slice_index_or old k d)) (pass_of (slice_index_or old k d)) (pass_of (slice_index_or new k d)) (rows_of (slice_index_or new k d))
+          job-ends Did start book attached (part_of (slice_index_or old k d)) (pass_of (slice_index_or old k d)) (pass_of (slice_index_or new k d)) (rows_of (slice_index_or new k d))
           (All-index (λ j. JobStarts start attached (part_of j) (pass_of j)) old k d starts lt) (done k d lt)
 
-      ended : Ended part_of pass_of rows_of start book attached (parts ++ desk_parts supervised) passes
-      ended = ends-all part_of pass_of rows_of start book attached old new (parts ++ desk_parts supervised) passes long are passes_are each
+      ended : Ended Did part_of pass_of rows_of start book attached (parts ++ desk_parts supervised) passes
+      ended = ends-all Did part_of pass_of rows_of start book attached old new (parts ++ desk_parts supervised) passes long are passes_are each
 
-      all : (found : Option (List (List PlayedTree))) → IfSome found (λ queues. map Some queues ≡ map rows_of new) → IfSome found (EachIsDone start book attached (parts ++ desk_parts supervised) passes)
+      all : (found : Option (List (List _))) → IfSome found (λ queues. map Some queues ≡ map rows_of new) → IfSome found (EachIsDone Did start book attached (parts ++ desk_parts supervised) passes)
       all None h = tt
-      all (Some queues) h = done-all part_of pass_of rows_of start book attached old new (parts ++ desk_parts supervised) passes long are passes_are each queues h
+      all (Some queues) h = done-all Did part_of pass_of rows_of start book attached old new (parts ++ desk_parts supervised) passes long are passes_are each queues h
 
 -- The run
 
@@ -121,20 +120,20 @@ course-history course trace book trees replies =
     ∙ ap (told_from tomoyo_grammar (opening course.start)) (course-steps course)
     ∙ told-again tomoyo_grammar (opening course.start) (history_of course) replies
 
-pub replayed : (start : Start) (trace : Trace) (book : Book) (workers : ℕ) (course : Course) (hands : List (List TreeToPlay)) (queues rest : List (List PlayedTree)) (rows : List PlayedTree) → AreDealt start trace workers hands → AreAllPlayed start book (working_parts hands start.editors) course queues → Replies tomoyo_grammar (opening course.start) (history_of course) → rest ≡ take workers queues → IsGathered (length trace) rest rows → Replayed start trace book workers (list_of course) rows
-replayed start trace book workers course hands queues rest rows dealt played replies left gathered =
+-- what all parts have come to at a machine
+pub together : {H D : Type 0} (Did : Start → ℕ → H → Deed D → Type 0) (start : Start) (book : Book) (hands : List H) (parts : List (Part H)) (course : Course) (queues given : List (List D)) → parts ≡ working_parts hands start.editors → AreAllPlayed Did start book parts course queues → Replies tomoyo_grammar (opening course.start) (history_of course) → given ≡ take (length hands) queues → PlayedTogether Did start book hands (list_of course) given
+together Did start book hands parts course queues given are played replies left =
     record {
       fitted = subst (λ (s : Start). FitsFrom s (list_of course)) played.opened (course-fitted course replies);
       attached = played.attached;
       come = played.come;
       begins = played.begins;
-      hands = hands;
-      dealt = dealt;
       deeds = played.deeds;
-      each = subst (λ (parts : List Part). EachPart (PartIsDone start book (length played.attached)) parts played.deeds) (append_assoc (map Part.Worker hands) (editor_parts 1 start.editors) (desk_parts start.desk)) played.each;
+      each = subst (λ (ps : List (Part _)). EachPart (PartIsDone Did start book (length played.attached)) ps played.deeds)
+          (ap (λ (ps : List (Part _)). ps ++ desk_parts start.desk) are ∙ append_assoc (map Part.Worker hands) (editor_parts 1 start.editors) (desk_parts start.desk)) played.each;
       seen = played.seen;
       closed = played.closed;
-      gathered = subst (λ (qs : List (List PlayedTree)). IsGathered (length trace) qs rows) (left ∙ ap (take workers) played.queues_are) gathered;
+      given_is = left ∙ ap (take (length hands)) played.queues_are;
     }
 
 -- the run that was replayed, by the machine's history

@@ -6,22 +6,21 @@ use Rattle.tm_types.specs.declared.step.Made.{Made}
 use Rattle.tm_types.specs.declared.step.Start.{Start}
 use Rattle.tm_machine.specs.Machine.{Course}
 use Rattle.tm_machine.specs.Office.{list_of}
-use Rattle.tm_seat.specs.declared.tree.PlayedTree.{PlayedTree}
 use Rattle.tm_seat.specs.Seats.{Begins}
 use Rattle.tm_parts.specs.declared.part.Part.{Part}
 use Rattle.tm_parts.specs.Parts.{Deed, PartIsDone, EachPart, desk_parts}
 use Rattle.tm_replay.specs.Jobs.{HasComing}
 
 -- every part has come to its deed, each of them and the supervisor's coming are in the machine's
--- list of steps, which has as many steps as they have made, and these are the trees that were played
-pub record AreAllPlayed (start : Start) (book : Book) (parts : List Part) (course : Course)
-    (queues : List (List PlayedTree)) : Type 0 where
+-- list of steps, which has as many steps as they have made, and these are what they have given
+pub record AreAllPlayed {H D : Type 0} (Did : Start → ℕ → H → Deed D → Type 0) (start : Start) (book : Book)
+    (parts : List (Part H)) (course : Course) (queues : List (List D)) : Type 0 where
   pub opened : course.start ≡ start
   pub attached : List Made
   pub come : HasComing start.desk attached
   pub begins : Begins attached (list_of course)
-  pub deeds : List Deed
-  pub each : EachPart (PartIsDone start book (length attached)) (parts ++ desk_parts start.desk) deeds
-  pub seen : AllByRecursion (λ (done : Deed). Begins done.known (list_of course)) deeds
-  pub closed : length (list_of course) ≡ sum_by (λ (done : Deed). length done.own) deeds
-  pub queues_are : queues ≡ map (λ (done : Deed). done.rows) deeds
+  pub deeds : List (Deed D)
+  pub each : EachPart (PartIsDone Did start book (length attached)) (parts ++ desk_parts start.desk) deeds
+  pub seen : AllByRecursion (λ (done : Deed D). Begins done.known (list_of course)) deeds
+  pub closed : length (list_of course) ≡ sum_by (λ (done : Deed D). length done.own) deeds
+  pub queues_are : queues ≡ map (λ (done : Deed D). done.rows) deeds

@@ -1,5 +1,5 @@
 //! A seat at an engine.
-use crate::looks::look_at;
+use crate::looks::{arrive_at, look_at};
 use crate::moves::{hear_at, settle_at};
 use std::alloc::Global;
 use std::sync::Wait;
@@ -37,6 +37,10 @@ impl<'a, W: Wait, L: Named, R: Rep, T: Sheet<L, Machine<R>>, G: Gate> Seat
 
     fn begin(&mut self, tree: u32, place: u32) {
         self.gate.pass(self.rt, tree, place);
+    }
+
+    fn arrive(&mut self, domain: u32) -> (bool, u64) {
+        arrive_at(self.rt, self.engine, &mut self.pass, domain)
     }
 
     fn judge(

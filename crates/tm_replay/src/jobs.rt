@@ -5,7 +5,7 @@ ghost use Rattle.tm_types.specs.declared.step.Made.{Made};
 ghost use Rattle.tm_types.specs.declared.step.Start.{Start};
 ghost use Rattle.tm_desk.specs.Desks.{desk_book, IsDesk};
 ghost use Rattle.tm_publish.specs.Words.{IsFresh};
-ghost use Rattle.tm_parts.specs.Parts.{PartWaits};
+ghost use Rattle.tm_parts.specs.Parts.{IsWorking};
 ghost use Rattle.tm_parts.specs.declared.part.Part.{Part};
 ghost use Rattle.tm_replay.specs.Jobs.{IsJob, JobIsDone, JobStarts, told_of, IsFrontOf, StartsFrom};
 ghost use Rattle.tm_replay.specs.Beginnings.{AreGiven, HaveBegun};
@@ -21,22 +21,21 @@ use tm_engine::engine::Engine;
 use tm_engine::gate::Gate;
 use tm_list::{NoMemory, Seq};
 use tm_machine::Machine;
-use tm_parts::Part;
+use tm_parts::{Part, Work};
 use tm_publish::front::{Front, Named};
 use tm_publish::pass::Pass;
 use tm_rep::Rep;
-use tm_seat::PlayedTree;
 use tm_serve::begin;
 use tm_types::step::Query;
 
 // A job of a part and a pass, which is told of a front.
-fn job_of<L: Named, R: Rep>(
-    part: Part,
+fn job_of<L: Named, R: Rep, H, D>(
+    part: Part<H>,
     pass: Pass<L, Machine<R>>,
     front: &Option<Front<L, Machine<R>>>,
-) -> Job<L, Machine<R>>
+) -> Job<L, Machine<R>, H, D>
     ensures part { result.part ≡ Some part }
-    ensures starts { (start : Start) → IsFresh start pass → IsFrontOf start front.now → PartWaits start part
+    ensures starts { (start : Start) → IsFresh start pass → IsFrontOf start front.now → IsWorking part
         → JobStarts start (told_of front.now) result.part result.pass }
 {
     let mut pass = pass;
@@ -65,13 +64,13 @@ fn take_first<T: Drop>(left: &mut VecDeque<T>) -> Option<T>
 }
 
 // A job of a part more, with the next pass.
-fn add_job<L: Named, R: Rep>(
-    part: Part,
+fn add_job<L: Named, R: Rep, H: Drop, D: Drop>(
+    part: Part<H>,
     left: &mut VecDeque<Pass<L, Machine<R>>>,
     front: &Option<Front<L, Machine<R>>>,
-    jobs: &mut Vec<Job<L, Machine<R>>>,
+    jobs: &mut Vec<Job<L, Machine<R>, H, D>>,
 ) -> Result<(), NoMemory>
-    ensures { OnOk result ((parts rest : List Part) (passes : List _)
+    ensures { OnOk result ((parts rest : List (Part H)) (passes : List _)
         → AreGiven (λ job. job.part) (λ job. job.pass) front.now parts passes (part ∷ rest)
         left.old.items jobs.old.items
         → AreGiven (λ job. job.part) (λ job. job.pass) front.now parts passes rest
@@ -85,10 +84,10 @@ fn add_job<L: Named, R: Rep>(
 }
 
 // These jobs, where no part waits any more.
-fn all_given<L: Named, R: Rep>(
-    waiting: VecDeque<Part>,
-    jobs: Vec<Job<L, Machine<R>>>,
-) -> Result<Vec<Job<L, Machine<R>>>, NoMemory>
+fn all_given<L: Named, R: Rep, H: Drop, D: Drop>(
+    waiting: VecDeque<Part<H>>,
+    jobs: Vec<Job<L, Machine<R>, H, D>>,
+) -> Result<Vec<Job<L, Machine<R>, H, D>>, NoMemory>
     ensures { IfOk result (λ made. (waiting.items ≡ []) × (made.items ≡ jobs.items)) }
 {
     if waiting.is_empty() {
@@ -98,15 +97,15 @@ fn all_given<L: Named, R: Rep>(
 }
 
 // A job for each part, with the passes in their order, each of which is told of a front.
-fn jobs_of<L: Named, R: Rep>(
+fn jobs_of<L: Named, R: Rep, H: Drop, D: Drop>(
     alloc: Global,
-    parts: Vec<Part>,
+    parts: Vec<Part<H>>,
     passes: Vec<Pass<L, Machine<R>>>,
     front: &Option<Front<L, Machine<R>>>,
-) -> Result<Vec<Job<L, Machine<R>>>, NoMemory>
+) -> Result<Vec<Job<L, Machine<R>, H, D>>, NoMemory>
     ensures parts { IfOk result (λ jobs. map (λ job. job.part) jobs.items ≡ map Some parts.items) }
     ensures starts { IfOk result (λ jobs. (start : Start) → AllByRecursion (IsFresh start) passes.items
-        → IsFrontOf start front.now → AllByRecursion (PartWaits start) parts.items
+        → IsFrontOf start front.now → AllByRecursion IsWorking parts.items
         → AllByRecursion (λ job. JobStarts start (told_of front.now) job.part job.pass) jobs.items) }
 {
     let count = parts.len();
@@ -123,11 +122,11 @@ fn jobs_of<L: Named, R: Rep>(
 }
 
 // The jobs of these parts, where no supervisor stands.
-fn begin_lone<L: Named, R: Rep>(
+fn begin_lone<L: Named, R: Rep, H: Drop, D: Drop>(
     alloc: Global,
-    parts: Vec<Part>,
+    parts: Vec<Part<H>>,
     passes: Vec<Pass<L, Machine<R>>>,
-) -> Result<Vec<Job<L, Machine<R>>>, NoMemory>
+) -> Result<Vec<Job<L, Machine<R>, H, D>>, NoMemory>
     ensures { IfOk result (λ jobs. HaveBegun (λ job. job.part) (λ job. job.pass) false
         parts.items passes.items jobs.items) }
 {
@@ -136,14 +135,14 @@ fn begin_lone<L: Named, R: Rep>(
 
 // The jobs of these parts, and the supervisor's. It comes first, and each pass is told of its
 // coming.
-fn begin_supervised<L: Named, R: Rep, W: Wait>(
+fn begin_supervised<L: Named, R: Rep, W: Wait, H: Drop, D: Drop>(
     rt: &W,
     alloc: Global,
     engine: &Engine<L, Machine<R>>,
-    parts: Vec<Part>,
+    parts: Vec<Part<H>>,
     passes: Vec<Pass<L, Machine<R>>>,
     supervisor: Pass<L, Machine<R>>,
-) -> Result<Vec<Job<L, Machine<R>>>, NoMemory>
+) -> Result<Vec<Job<L, Machine<R>, H, D>>, NoMemory>
     ensures { IfOk result (λ jobs. HaveBegun (λ job. job.part) (λ job. job.pass) true
         parts.items (passes.items ++ supervisor ∷ []) jobs.items) }
 {
@@ -163,14 +162,14 @@ fn begin_supervised<L: Named, R: Rep, W: Wait>(
 /// pass is told of its coming.
 ///
 /// Errors: want of memory.
-pub(crate) fn begin_jobs<L: Named, R: Rep, W: Wait>(
+pub(crate) fn begin_jobs<L: Named, R: Rep, W: Wait, H: Drop, D: Drop>(
     rt: &W,
     alloc: Global,
     engine: &Engine<L, Machine<R>>,
-    parts: Vec<Part>,
+    parts: Vec<Part<H>>,
     passes: Vec<Pass<L, Machine<R>>>,
     supervised: bool,
-) -> Result<Vec<Job<L, Machine<R>>>, NoMemory>
+) -> Result<Vec<Job<L, Machine<R>, H, D>>, NoMemory>
     ensures { IfOk result (λ jobs. HaveBegun (λ job. job.part) (λ job. job.pass) supervised
         parts.items passes.items jobs.items) }
 {
@@ -193,22 +192,27 @@ pub(crate) fn run_jobs<
     F: Fn(&Query) -> u64 + Sync,
     W: Threads + Wait + Sync,
     G: Gate,
+    H: Send + Drop,
+    D: Send + Drop,
+    K: Work<H, D> + Sync,
 >(
     rt: &W,
     alloc: Global,
     engine: &Engine<L, Machine<R>>,
     desk: &Desk<'_, F>,
     gate: &G,
+    way: &K,
     supervised: bool,
-    jobs: &mut Vec<Job<L, Machine<R>>>,
+    jobs: &mut Vec<Job<L, Machine<R>, H, D>>,
 )
     requires some { 0 < length jobs.old.items }
     requires desk { IsDesk F.Fn desk.now }
     requires given { (k : ℕ) (d : _) → k < length jobs.old.items
-        → IsJob supervised (slice_index_or jobs.old.items k d).part (slice_index_or jobs.old.items k d).pass }
+        → IsJob (K.ready way.now) supervised (slice_index_or jobs.old.items k d).part
+        (slice_index_or jobs.old.items k d).pass }
     ensures count { length jobs.new.items ≡ length jobs.old.items }
     ensures done { (k : ℕ) (d : _) → k < length jobs.old.items
-        → JobIsDone (desk_book desk.now) (slice_index_or jobs.old.items k d).part
+        → JobIsDone (K.did way.now) (desk_book desk.now) (slice_index_or jobs.old.items k d).part
         (slice_index_or jobs.old.items k d).pass (slice_index_or jobs.new.items k d).pass
         (slice_index_or jobs.new.items k d).rows }
 {
@@ -217,11 +221,12 @@ pub(crate) fn run_jobs<
         rt,
         jobs.as_mut_slice(),
         count,
-        &|_place: usize, job: &mut Job<L, Machine<R>>|
+        &|_place: usize, job: &mut Job<L, Machine<R>, H, D>|
             requires desk { IsDesk F.Fn desk.now }
-            requires given { IsJob supervised job.old.part job.old.pass }
-            ensures { JobIsDone (desk_book desk.entry.now) job.old.part job.old.pass job.new.pass job.new.rows }
-        { run_job(rt, alloc, engine, desk, gate, supervised, job) },
+            requires given { IsJob (K.ready way.now) supervised job.old.part job.old.pass }
+            ensures { JobIsDone (K.did way.entry.now) (desk_book desk.entry.now) job.old.part
+                job.old.pass job.new.pass job.new.rows }
+        { run_job(rt, alloc, engine, desk, gate, way, supervised, job) },
     );
 }
 
@@ -241,11 +246,8 @@ fn push_pass<L: Named, R: Rep>(
     }
 }
 
-// Appends the trees that a job has played, and answers whether they are there.
-fn push_rows(
-    all: &mut Vec<Seq<PlayedTree>>,
-    rows: Option<Seq<PlayedTree>>,
-) -> Result<bool, NoMemory>
+// Appends what a job has played, and answers whether it is there.
+fn push_rows<D: Drop>(all: &mut Vec<Seq<D>>, rows: Option<Seq<D>>) -> Result<bool, NoMemory>
     ensures { IfOk result (λ there. there ≡ true
         → map Some all.new.items ≡ map Some all.old.items ++ rows ∷ []) }
 {
@@ -258,13 +260,13 @@ fn push_rows(
     }
 }
 
-/// The passes of all jobs, and the trees that each has played; no trees where a job failed.
+/// The passes of all jobs, and what each has played; nothing where a job failed.
 ///
 /// Errors: want of memory.
-pub(crate) fn take_apart<L: Named, R: Rep>(
+pub(crate) fn take_apart<L: Named, R: Rep, H: Drop, D: Drop>(
     alloc: Global,
-    jobs: Vec<Job<L, Machine<R>>>,
-) -> Result<(Vec<Pass<L, Machine<R>>>, Option<Seq<Seq<PlayedTree>>>), NoMemory>
+    jobs: Vec<Job<L, Machine<R>, H, D>>,
+) -> Result<(Vec<Pass<L, Machine<R>>>, Option<Seq<Seq<D>>>), NoMemory>
     ensures passes { IfOk result (λ r. map Some r.0.items ≡ map (λ job. job.pass) jobs.items) }
     ensures rows { IfOk result (λ r. IfSome r.1 (λ rows. map Some rows ≡ map (λ job. job.rows) jobs.items)) }
 {

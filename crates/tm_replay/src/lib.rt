@@ -13,4 +13,4 @@ mod run;
 
 pub use at::At;
 pub use lone::Lone;
-pub use run::{replay_all, replay_run};
+pub use run::{play_parts, replay_all, replay_run, takes_of};

@@ -1,7 +1,7 @@
 //! A machine alone, as a seat.
 ghost use Rattle.std.specs.Prelude.{◌≡◌, [], IfOk};
 
-use crate::looks::{judge_at, shown};
+use crate::looks::{is_there, judge_at, shown};
 use std::alloc::{AllocError, Global};
 use tm_list::NoMemory;
 use tm_machine::Machine;
@@ -40,6 +40,11 @@ impl<R: Rep> Seat for Lone<R> {
     ghost own = { λ s. s.own.items };
 
     fn begin(&mut self, _tree: u32, _place: u32) {}
+
+    fn arrive(&mut self, domain: u32) -> (bool, u64) {
+        self.machine.versions();
+        (is_there(&self.machine, domain), self.machine.version())
+    }
 
     fn judge(
         &mut self,

@@ -1,5 +1,5 @@
 //! Looks of a pass at an engine on a machine.
-ghost use Rattle.std.specs.Prelude.{◌≡◌, List, Some, true, IfOk, IfSome, IsSome, length};
+ghost use Rattle.std.specs.Prelude.{◌≡◌, List, Some, true, IfOk, IfSome, IsSome, IsTrue, length};
 ghost use Rattle.tm_types.specs.declared.step.Made.{Made};
 ghost use Rattle.tm_types.specs.declared.step.Start.{Start};
 ghost use Rattle.tm_rules.specs.Requests.{is_request};
@@ -16,6 +16,7 @@ ghost use Rattle.tm_replay.specs.Seats.{home_of, IsLookAt};
 use std::alloc::Global;
 use std::sync::Wait;
 use std::thread;
+use tm_change_domains::standing_at;
 use tm_core::{Judged, judge};
 use tm_engine::engine::EngineOf;
 use tm_list::NoMemory;
@@ -42,6 +43,90 @@ pub(crate) fn judge_at<R: Rep>(
 {
     machine.versions();
     judge(alloc, machine, domain, process, request)
+}
+
+// Whether the domain of this number is there with its profile, by the machine's list of steps.
+pub(crate) fn is_there<R: Rep>(machine: &Machine<R>, domain: u32) -> bool
+    ensures { IsTrue result
+        → DomainIn (state_of machine.now.start (list_of machine.now)).policy domain }
+{
+    machine.versions();
+    match standing_at(machine.policy(), domain) {
+        Some(_) => true,
+        None => false,
+    }
+}
+
+// One look for a domain, with its version; None where the entry was refused.
+fn arrive_once<L: Named, R: Rep, T: Sheet<L, Machine<R>>>(
+    engine: &EngineOf<L, Machine<R>, T>,
+    pass: &mut Pass<L, Machine<R>>,
+    domain: u32,
+) -> Option<(bool, u64)>
+    ensures there { IfSome result (λ r. (p : Start) → home pass.old ≡ Some p → IsTrue r.0
+        → DomainIn (state_of p (known pass.new)).policy domain) }
+    ensures version { IfSome result (λ r. r.1 ≡ length (known pass.new)) }
+    ensures fitting { IfSome result (λ _. (p : Start) → home pass.old ≡ Some p →
+        EachFits tomoyo_grammar p (known pass.new)) }
+    ensures knows { (xs : List Made) → HasSeen pass.old xs → HasSeen pass.new xs }
+    ensures opening { home pass.new ≡ home pass.old }
+    ensures made { made_of pass.new ≡ made_of pass.old }
+{
+    engine.read(
+        pass,
+        |machine: &Machine<R>, version: u64| -> (bool, u64)
+            ensures { (result.1 ≡ version) × (IsTrue result.0
+                → DomainIn (state_of machine.entry.now.start (list_of machine.entry.now)).policy
+                domain) }
+        { (is_there(machine, domain), version) },
+    )
+}
+
+// Looks for a domain until no entry is refused.
+fn arrive<L: Named, R: Rep, T: Sheet<L, Machine<R>>, W: Wait>(
+    rt: &W,
+    engine: &EngineOf<L, Machine<R>, T>,
+    pass: &mut Pass<L, Machine<R>>,
+    domain: u32,
+) -> (bool, u64)
+    ensures there { (p : Start) → home pass.old ≡ Some p → IsTrue result.0
+        → DomainIn (state_of p (known pass.new)).policy domain }
+    ensures version { result.1 ≡ length (known pass.new) }
+    ensures fitting { (p : Start) → home pass.old ≡ Some p →
+        EachFits tomoyo_grammar p (known pass.new) }
+    ensures knows { (xs : List Made) → HasSeen pass.old xs → HasSeen pass.new xs }
+    ensures opening { home pass.new ≡ home pass.old }
+    ensures made { made_of pass.new ≡ made_of pass.old }
+{
+    for _ in rt.forever() {
+        match arrive_once(engine, pass, domain) {
+            Some(found) => return found,
+            None => thread::yield_now(),
+        }
+    }
+    unreachable!()
+}
+
+/// Looks for the domain of this number at a version that is no older than any that the pass has
+/// seen: whether it is there, and that version.
+pub(crate) fn arrive_at<L: Named, R: Rep, T: Sheet<L, Machine<R>>, W: Wait>(
+    rt: &W,
+    engine: &EngineOf<L, Machine<R>, T>,
+    pass: &mut Pass<L, Machine<R>>,
+    domain: u32,
+) -> (bool, u64)
+    ensures fitted { FitsFrom (home_of pass.new) (known pass.new) }
+    ensures there { IsTrue result.0
+        → DomainIn (state_of (home_of pass.new) (known pass.new)).policy domain }
+    ensures version { result.1 ≡ length (known pass.new) }
+    ensures opening { home pass.new ≡ home pass.old }
+    ensures grows { Begins (known pass.old) (known pass.new) }
+    ensures own { made_of pass.new ≡ made_of pass.old }
+{
+    pass.seen();
+    let found = arrive(rt, engine, pass, domain);
+    pass.seen();
+    found
 }
 
 // One look, with its version; None where the entry was refused.

@@ -15,7 +15,7 @@ ghost use Rattle.tm_joint.specs.Joint.{takes_in};
 ghost use Rattle.tm_machine.specs.Machine.{history_of};
 ghost use Rattle.tm_machine.specs.Office.{list_of};
 ghost use Rattle.tm_seat.specs.Rows.{row_of};
-ghost use Rattle.tm_parts.specs.Parts.{tree_to_play, trees_from, CanBegin, PartWaits, desk_parts};
+ghost use Rattle.tm_parts.specs.Parts.{tree_to_play, trees_from, CanBegin, IsWorking, PartWaits, PlayedTogether, desk_parts};
 ghost use Rattle.tm_parts.specs.Replayed.{Replayed};
 ghost use Rattle.tm_replay.specs.Jobs.{ArePlayed};
 ghost use Rattle.tm_replay.specs.Replays.{AreAllPlayed};
@@ -32,7 +32,7 @@ use tm_engine::gate::Gate;
 use tm_engine::open::open_engine;
 use tm_list::{Copied, NoMemory, Seq};
 use tm_machine::Machine;
-use tm_parts::{Part, replayed_runs_are_legal, working_parts};
+use tm_parts::{Part, Trees, Work, replayed_runs_are_legal, working_parts};
 use tm_publish::blank::Blank;
 use tm_publish::front::Named;
 use tm_publish::pass::Pass;
@@ -75,7 +75,7 @@ fn trees_of<R: Rep>(
 }
 
 // How many passes there are: one for each part, and one for the supervisor where one stands.
-fn count_passes(parts: &[Part], supervised: bool) -> Option<u32>
+fn count_passes<H>(parts: &[Part<H>], supervised: bool) -> Option<u32>
     ensures { IfSome result (λ count. (0 < count) × (count ≤ 32)
         × (count ≡ (if supervised then length parts.now + 1 else length parts.now))) }
 {
@@ -90,47 +90,56 @@ fn count_passes(parts: &[Part], supervised: bool) -> Option<u32>
     Some(count as u32)
 }
 
-// All parts, played at an engine whose passes come and go back: the trees that each has played; none
-// where a part failed.
+// All parts, played at an engine whose passes come and go back: what each has given; nothing where
+// a part failed.
 fn play_at<
     L: Named + Send + Sync,
     R: Rep + Send + Sync,
     F: Fn(&Query) -> u64 + Sync,
     W: Threads + Wait + Sync,
     G: Gate,
+    H: Send + Drop,
+    D: Send + Drop,
+    K: Work<H, D> + Sync,
 >(
     rt: &W,
     alloc: Global,
     engine: &Engine<L, Machine<R>>,
     desk: &Desk<'_, F>,
     gate: &G,
-    parts: Vec<Part>,
+    way: &K,
+    parts: Vec<Part<H>>,
     passes: Vec<Pass<L, Machine<R>>>,
     supervised: bool,
-) -> Result<(Vec<Pass<L, Machine<R>>>, Option<Seq<Seq<PlayedTree>>>), NoMemory>
+) -> Result<(Vec<Pass<L, Machine<R>>>, Option<Seq<Seq<D>>>), NoMemory>
     requires desk { IsDesk F.Fn desk.now }
     requires fresh { (start : Start) × AllByRecursion (IsFresh start) passes.items
-        × CanBegin start × (supervised ≡ start.desk) × AllByRecursion (PartWaits start) parts.items }
+        × CanBegin start × (supervised ≡ start.desk)
+        × AllByRecursion (PartWaits (K.ready way.now) start) parts.items }
     ensures { IfOk result (λ r. (start : Start) → AllByRecursion (IsFresh start) passes.items
-        → supervised ≡ start.desk → AllByRecursion (PartWaits start) parts.items
-        → ArePlayed start (desk_book desk.now) (parts.items ++ desk_parts start.desk) r.0.items r.1) }
+        → supervised ≡ start.desk → AllByRecursion IsWorking parts.items
+        → ArePlayed (K.did way.now) start (desk_book desk.now) (parts.items ++ desk_parts start.desk)
+        r.0.items r.1) }
 {
     let mut jobs = begin_jobs(rt, alloc, engine, parts, passes, supervised)?;
     if jobs.is_empty() {
         return Err(AllocError);
     }
-    run_jobs(rt, alloc, engine, desk, gate, supervised, &mut jobs);
+    run_jobs(rt, alloc, engine, desk, gate, way, supervised, &mut jobs);
     take_apart(alloc, jobs)
 }
 
 // All parts, played at an engine of the machine, under a name that its board has: the machine with
-// all steps, and the trees that each part has played.
+// all steps, and what each part has given.
 fn play_as<
     L: Named + Send + Sync,
     R: Rep + Send + Sync,
     F: Fn(&Query) -> u64 + Sync,
     W: Threads + Wait + Sync,
     G: Gate,
+    H: Send + Drop,
+    D: Send + Drop,
+    K: Work<H, D> + Sync,
 >(
     rt: &W,
     alloc: Global,
@@ -138,9 +147,10 @@ fn play_as<
     machine: Machine<R>,
     desk: &Desk<'_, F>,
     gate: &G,
-    parts: Vec<Part>,
+    way: &K,
+    parts: Vec<Part<H>>,
     count: u32,
-) -> Result<(Machine<R>, Vec<Seq<PlayedTree>>), NoMemory>
+) -> Result<(Machine<R>, Vec<Seq<D>>), NoMemory>
     requires named { Names L.name L.parts L.history blank }
     requires passes { blank_parts blank ≡ count }
     requires some { 0 < count }
@@ -148,19 +158,68 @@ fn play_as<
     requires made { machine.made ≡ [] }
     requires count { count ≡ length (parts.items ++ desk_parts machine.start.desk) }
     requires can { CanBegin machine.start }
-    requires waits { AllByRecursion (PartWaits machine.start) parts.items }
+    requires waits { AllByRecursion (PartWaits (K.ready way.now) machine.start) parts.items }
     requires desk { IsDesk F.Fn desk.now }
-    ensures { IfOk result (λ r.
-        AreAllPlayed machine.start (desk_book desk.now) parts.items r.0 r.1.items) }
+    ensures { IfOk result (λ r. AreAllPlayed (K.did way.now) machine.start (desk_book desk.now)
+        parts.items r.0 r.1.items) }
 {
     let supervised = machine.opening().desk;
     let (engine, passes) = open_engine::<L, Machine<R>, W>(rt, alloc, blank, machine, count)?;
-    let (passes, queues) = play_at(rt, alloc, &engine, desk, gate, parts, passes, supervised)?;
+    let (passes, queues) = play_at(
+        rt, alloc, &engine, desk, gate, way, parts, passes, supervised,
+    )?;
     let closed = engine.close(rt, passes)?;
     match queues {
         Some(queues) => Ok((closed.office, queues.into_vec())),
         None => Err(AllocError),
     }
+}
+
+/// Plays these hands by a worker each, in this way, beside each other, while the machine's editors
+/// make their lines and, where a supervisor stands, the desk answers. The supervisor comes first,
+/// and every thread is told of it. The gate is called before each request is first looked at, and
+/// before each line of an editor. Gives the machine with all steps, and what each worker gave.
+///
+/// Errors: want of memory, or more than 32 threads.
+pub fn play_parts<
+    R: Rep + Send + Sync,
+    F: Fn(&Query) -> u64 + Sync,
+    W: Threads + Wait + Sync,
+    G: Gate,
+    H: Send + Drop,
+    D: Send + Drop,
+    K: Work<H, D> + Sync,
+>(
+    rt: &W,
+    alloc: Global,
+    machine: Machine<R>,
+    hands: Vec<H>,
+    desk: &Desk<'_, F>,
+    gate: &G,
+    way: &K,
+) -> Result<(Machine<R>, Vec<Seq<D>>), NoMemory>
+    requires made { machine.made ≡ [] }
+    requires can { CanBegin machine.start }
+    requires ready { AllByRecursion (K.ready way.now machine.start) hands.items }
+    requires desk { IsDesk F.Fn desk.now }
+    ensures opening { IfOk result (λ r. r.0.start ≡ machine.start) }
+    ensures played { IfOk result (λ r. PlayedTogether (K.did way.now) machine.start
+        (desk_book desk.now) hands.items (list_of r.0) r.1.items) }
+{
+    let workers = hands.as_slice().len();
+    let supervised = machine.opening().desk;
+    let editors = machine.opening().editors.copy(alloc)?;
+    let parts = working_parts(alloc, hands, editors)?;
+    let Some(count) = count_passes(parts.as_slice(), supervised) else {
+        return Err(AllocError);
+    };
+    let blank = Blank::new(count as u64);
+    let (machine, mut given) = play_as::<Brand, R, F, W, G, H, D, K>(
+        rt, alloc, blank, machine, desk, gate, way, parts, count,
+    )?;
+    given.truncate(workers);
+    machine.versions();
+    Ok((machine, given))
 }
 
 // The machine with all steps, and a row for each tree of the trace.
@@ -184,29 +243,20 @@ fn play_trace<R: Rep + Send + Sync, F: Fn(&Query) -> u64 + Sync, W: Threads + Wa
         Replayed machine.start trace (desk_book desk.now) workers (list_of r.0) r.1.items) }
 {
     let trees = machine.opening().trees;
-    let supervised = machine.opening().desk;
-    let editors = machine.opening().editors.copy(alloc)?;
     let to_play = trees_of(alloc, &machine, trace)?;
     let hands = deal(alloc, to_play, workers)?;
-    let parts = working_parts(alloc, hands, editors)?;
-    let Some(count) = count_passes(parts.as_slice(), supervised) else {
-        return Err(AllocError);
-    };
-    let blank = Blank::new(count as u64);
-    let (machine, mut queues) = play_as::<Brand, R, F, W, G>(
-        rt, alloc, blank, machine, desk, gate, parts, count,
-    )?;
-    queues.truncate(workers as usize);
+    let (machine, queues) = play_parts(rt, alloc, machine, hands, desk, gate, &Trees)?;
     if queues.is_empty() {
         return Err(AllocError);
     }
     let rows = gather(alloc, queues, trees)?;
-    machine.versions();
     Ok((machine, rows))
 }
 
-// The takes of all rows, in their order.
-fn takes_of(alloc: Global, rows: Vec<PlayedTree>) -> Result<Seq<Take>, NoMemory>
+/// The takes of all rows, in their order.
+///
+/// Errors: want of memory.
+pub fn takes_of(alloc: Global, rows: Vec<PlayedTree>) -> Result<Seq<Take>, NoMemory>
     ensures { IfOk result (λ takes. takes ≡ takes_in (map row_of rows.items)) }
 {
     let mut takes = Vec::new(alloc);

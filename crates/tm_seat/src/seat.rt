@@ -17,7 +17,7 @@ pub struct Shown {
 /// A place from which one activity looks, makes steps and hears answers, while others make steps
 /// too. It knows a list of steps, and each call that is Ok knows one that goes on from it.
 pub trait Seat {
-    ghost use Rattle.std.specs.Prelude.{◌≡◌, ◌++◌, ◌∷◌, [], ℕ, true, List, length, Some, IsSome, IfOk, OnErr};
+    ghost use Rattle.std.specs.Prelude.{◌≡◌, ◌++◌, ◌∷◌, [], ℕ, true, List, length, Some, IsSome, IsTrue, IfOk, OnErr};
     ghost use Rattle.tm_types.specs.declared.step.Start.{Start};
     ghost use Rattle.tm_types.specs.declared.step.Made.{Made};
     ghost use Rattle.tm_rules.specs.Queries.{answer_of};
@@ -43,6 +43,18 @@ pub trait Seat {
     fn begin(&mut self, tree: u32, place: u32)
         ensures opening { opening self.new ≡ opening self.old }
         ensures at { at self.new ≡ at self.old }
+        ensures own { own self.new ≡ own self.old };
+
+    /// Looks for the domain of this number at a version that is no older than any that it has seen:
+    /// whether the domain is there with its profile, and that version. By such a look each step that
+    /// the seat knows is known to fit.
+    fn arrive(&mut self, domain: u32) -> (bool, u64)
+        ensures fitted { FitsFrom (opening self.new) (at self.new) }
+        ensures there { IsTrue result.0
+            → DomainIn (state_of (opening self.new) (at self.new)).policy domain }
+        ensures version { result.1 ≡ length (at self.new) }
+        ensures opening { opening self.new ≡ opening self.old }
+        ensures grows { Begins (at self.old) (at self.new) }
         ensures own { own self.new ≡ own self.old };
 
     /// Judges a request at a version that is no older than any that it has seen, and gives that

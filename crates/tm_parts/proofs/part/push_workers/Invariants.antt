@@ -3,4 +3,4 @@ use Rattle.tm_parts.specs.declared.part.Part.{Part}
 use Rattle.tm_parts.proofs.part.push_workers.Given as goal
 
 abbrev pub invariant-loop-hand : goal.invariant-loop-hand
-invariant-loop-hand l = l.parts.items ≡ l.initial.parts.items ++ map Part.Worker l.yielded
+invariant-loop-hand g l = l.parts.items ≡ l.initial.parts.items ++ map Part.Worker l.yielded

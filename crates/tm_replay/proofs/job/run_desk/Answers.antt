@@ -1,4 +1,4 @@
-use Rattle.std.proofs.Common.{◌≡◌, ⊎_elim, inl, inr}
+use Rattle.std.proofs.Common.{⊎_elim, inl, inr}
 use Rattle.tm_desk.specs.Desks.{desk_book}
 use Rattle.tm_publish.specs.Words.{known, made_of}
 use Rattle.tm_replay.specs.Seats.{home_of}

@@ -1,4 +1,4 @@
-use Rattle.std.proofs.Common.{◌≡◌, List, ◌∷◌, subst}
+use Rattle.std.proofs.Common.{List, subst}
 use Rattle.std.proofs.lemmas.Result.{IfOk-weaker}
 use Rattle.tm_parts.specs.declared.part.Part.{Part}
 use Rattle.tm_replay.specs.Beginnings.{AreGiven}
@@ -11,7 +11,7 @@ loop-init g c = given-none (λ job. job.part) (λ job. job.pass) c.args.front.no
 pub loop-preserved : goal.loop-preserved
 loop-preserved g c =
     c.in_ok-add_job.ensures c.args.parts.items c.take_first.new.left.items c.args.passes.items
-    (subst (λ (waiting : List Part). AreGiven (λ job. job.part) (λ job. job.pass) c.args.front.now c.args.parts.items c.args.passes.items waiting c.loop.left.items c.loop.jobs.items) c.in-Some.ensures c.loop.invariant)
+    (subst (λ (waiting : List (Part g.row.H.Denot)). AreGiven (λ job. job.part) (λ job. job.pass) c.args.front.now c.args.parts.items c.args.passes.items waiting c.loop.left.items c.loop.jobs.items) c.in-Some.ensures c.loop.invariant)
 
 pub returns-clause-parts : goal.returns-clause-parts
 returns-clause-parts g c =

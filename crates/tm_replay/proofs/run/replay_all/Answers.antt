@@ -1,4 +1,4 @@
-use Rattle.std.proofs.Common.{◌≡◌, ap, sym, ◌∙◌, subst}
+use Rattle.std.proofs.Common.{subst}
 use Rattle.tm_desk.specs.Desks.{desk_book}
 use Rattle.tm_machine.specs.Office.{list_of}
 use Rattle.tm_parts.specs.Replayed.{Replayed}

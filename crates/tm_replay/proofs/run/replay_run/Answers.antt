@@ -1,4 +1,4 @@
-use Rattle.std.proofs.Common.{◌≡◌, ap, sym, ◌∙◌, subst}
+use Rattle.std.proofs.Common.{sym, ◌∙◌}
 use Rattle.tm_desk.specs.Desks.{desk_book}
 use Rattle.tm_replay.proofs.Whole.{replayed-run, replayed-policy}
 use Rattle.tm_replay.proofs.run.replay_run.Goals as goal

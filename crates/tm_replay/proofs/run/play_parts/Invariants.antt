@@ -1,5 +1,5 @@
 use Rattle.tm_publish.specs.Boards.{blank_name, blank_parts, blank_history}
-use Rattle.tm_replay.proofs.run.play_trace.Given as goal
+use Rattle.tm_replay.proofs.run.play_parts.Given as goal
 
 -- the ledger and the history that were just made
 abbrev pub ghosts-play_as-L-Ledger : goal.ghosts-play_as-L-Ledger

@@ -1,7 +1,7 @@
 use Rattle.std.proofs.Common.{◌≡◌, List}
 use Rattle.tm_types.specs.declared.step.Made.{Made}
 use Rattle.tm_publish.specs.Words.{home, HasSeen, made_of}
-use Rattle.tm_replay.proofs.job.arrive.Given as goal
+use Rattle.tm_replay.proofs.looks.arrive.Given as goal
 
 abbrev pub invariant-loop : goal.invariant-loop
 invariant-loop g l =
