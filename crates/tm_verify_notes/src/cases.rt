@@ -27,7 +27,7 @@ pub struct Stand {
 /// The processes of a tree. One that no line has changed yet stands in the tree's first domain,
 /// without ids, parent and floor.
 #[derive(Drop)]
-struct Stands {
+pub struct Stands {
     home: Option<u32>,
     changed: BTreeMap<u32, Stand>,
 }
@@ -86,7 +86,7 @@ pub fn raised_by_looks(floor: u64, looks: &[Look]) -> u64
 impl Stands {
     /// Every process stands in this domain; None where the tree's first domain isn't there.
     #[tactic(auto, unfolding(crate::specs::Cases::stands))]
-    fn new(alloc: Global, home: Option<u32>) -> Stands
+    pub fn new(alloc: Global, home: Option<u32>) -> Stands
         ensures { stands result ≡ first_stand home }
     {
         Stands {
@@ -97,7 +97,7 @@ impl Stands {
 
     /// The process of that pid.
     #[tactic(auto, unfolding(crate::specs::Cases::stands))]
-    fn at(&self, pid: u32) -> Stand
+    pub fn at(&self, pid: u32) -> Stand
         ensures { stand_of result ≡ stands self.now pid }
     {
         match self.changed.get(&pid) {
@@ -116,7 +116,7 @@ impl Stands {
     }
 
     /// An `ids` line.
-    fn set_ids(&mut self, pid: u32, ids: Ids) -> Result<(), NoMemory>
+    pub fn set_ids(&mut self, pid: u32, ids: Ids) -> Result<(), NoMemory>
         ensures { OnOk result (stands self.new
             ≡ with_situation (stands self.old) pid (with_ids (stands self.old pid) ids)) }
     {
@@ -137,7 +137,7 @@ impl Stands {
     }
 
     /// A `fork` line.
-    fn fork(&mut self, pid: u32, child: u32) -> Result<(), NoMemory>
+    pub fn fork(&mut self, pid: u32, child: u32) -> Result<(), NoMemory>
         ensures { OnOk result (stands self.new
             ≡ with_situation (stands self.old) child (forked (stands self.old pid) child)) }
     {
@@ -163,7 +163,7 @@ impl Stands {
 
     /// A take: the process is in the domain after, and its floor is above all that the take has
     /// seen.
-    fn take(&mut self, pid: u32, taken: &Take) -> Result<(), NoMemory>
+    pub fn take(&mut self, pid: u32, taken: &Take) -> Result<(), NoMemory>
         ensures { OnOk result (stands self.new
             ≡ with_situation (stands self.old) pid (after_take (stands self.old pid) taken.now)) }
     {

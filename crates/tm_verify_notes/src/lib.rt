@@ -12,7 +12,7 @@ mod steps;
 mod sums;
 mod takes;
 
-pub use cases::{DoCase, Stand, all_cases};
+pub use cases::{DoCase, Stand, Stands, all_cases, raised_by_looks};
 pub use flat::{LookOn, all_looks, no_parts};
 pub use given::Given;
 pub use looks::{do_follow, reply_at, retry_written, step_at};

@@ -1,0 +1,4 @@
+pub mod AskedLaws
+pub mod PassLaws
+pub mod SeenLaws
+pub mod VerifiedLaws

@@ -1,0 +1,13 @@
+-- What a trace asks.
+use Rattle.std.specs.Prelude.{IsTrue}
+use Rattle.std.specs.List.{AllByRecursion, list_all}
+use Rattle.tm_types.specs.declared.request.Tree.{Tree}
+use Rattle.tm_rules.specs.Words.{Trace}
+use Rattle.tm_rules.specs.Requests.{item_is_request}
+use Rattle.tm_grammar.specs.Tomoyo.{tomoyo_grammar}
+
+-- each `do` line asks a request
+abbrev pub IsAsking : Trace → Type 0
+IsAsking trace =
+    AllByRecursion
+    (λ (tree : Tree). IsTrue (list_all (item_is_request tomoyo_grammar.is_path) tree.records)) trace

@@ -1,0 +1,4 @@
+pub mod Asking
+pub mod Passing
+pub mod Seeing
+pub mod Verified

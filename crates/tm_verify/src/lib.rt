@@ -1,0 +1,12 @@
+//! Whether a given run is legal, and if not, which clause it breaks first, and where.
+//! Stands on tm_verify_steps for the clauses by what was noted, and on tm_core for what looks show.
+//! Promises that the clauses before hold, and that the named one fails at the named place first.
+#![tactic(auto)]
+
+mod judging;
+mod pass;
+mod runs;
+
+pub use runs::{judge_run, legal};
+pub use tm_verify_laws::Broken;
+pub use tm_verify_notes::Given;
