@@ -1,0 +1,26 @@
+use Rattle.std.proofs.Common.{◌≡◌, ◌∙◌, List, Bool, ap, subst}
+use Rattle.std.specs.Prelude.{Option}
+use Rattle.tm_types.specs.declared.step.Start.{Start}
+use Rattle.tm_legal.specs.Steps.{State}
+use Rattle.tm_rules.specs.Words.{Trace}
+use Rattle.tm_desk.specs.Desks.{desk_book}
+use Rattle.tm_machine.specs.Office.{list_of}
+use Rattle.tm_parts.specs.Parts.{PlayedTogether}
+use Rattle.tm_steal_rows.specs.Playing.{HandDid}
+use Rattle.tm_steal_rows.specs.Gathering.{homes_of, IsGathered}
+use Rattle.tm_steal.proofs.run.steal_trace.Goals as goal
+
+pub returns-clause-played : goal.returns-clause-played
+returns-clause-played g c =
+    let start : Start = c.args.machine.start in
+    let trace : Trace = c.args.trace.now in
+    let homes : c.in_ok-homes.homes.items ≡ homes_of start.policy trace = c.in_ok-homes.ensures ∙ ap (homes_of c.args.machine.state.policy) c.as_slice.ensures ∙ ap (λ (s : State). homes_of s.policy trace) c.requires.opened in
+    let desk : c.opening.result.now.desk ≡ start.desk = ap (λ (s : Start). s.desk) c.opening.ensures in (
+      c.in_ok-board.hands.items,
+      record {
+        given = c.in_ok-machine.given.items;
+        played = subst (λ (t : Trace). PlayedTogether (HandDid t) start (desk_book c.args.desk.now) c.in_ok-board.hands.items (list_of c.in_ok-machine.machine) c.in_ok-machine.given.items) (c.in_ok-board.ensures.trace ∙ c.as_slice-2.ensures) c.in_ok-machine.ensures.played;
+        gathered = subst (λ (b : Bool). IsGathered trace (homes_of start.policy trace) b c.in_ok-machine.given.items c.in_ok-rows.rows.items) desk
+            (subst (λ (hs : List (Option _)). IsGathered trace hs c.opening.result.now.desk c.in_ok-machine.given.items c.in_ok-rows.rows.items) homes (subst (λ (t : Trace). IsGathered t c.in_ok-homes.homes.items c.opening.result.now.desk c.in_ok-machine.given.items c.in_ok-rows.rows.items) c.as_slice-4.ensures c.in_ok-rows.ensures));
+      },
+    )

@@ -1,0 +1,34 @@
+-- What the workers share, and what each comes to.
+use Rattle.std.specs.Prelude.{◌≡◌, ◌≤◌, ℕ, true, List}
+use Rattle.std.specs.List.{AllByRecursion, list_all}
+use Rattle.tm_types.specs.declared.request.Tree.{Tree}
+use Rattle.tm_types.specs.declared.step.Book.{Book}
+use Rattle.tm_types.specs.declared.step.Made.{Made}
+use Rattle.tm_types.specs.declared.step.Start.{Start}
+use Rattle.tm_rules.specs.Words.{Trace}
+use Rattle.tm_rules.specs.Requests.{item_is_request}
+use Rattle.tm_grammar.specs.Tomoyo.{tomoyo_grammar}
+use Rattle.tm_seat.specs.declared.tree.PlayedTree.{PlayedTree}
+use Rattle.tm_seat.specs.Rows.{Shift}
+use Rattle.tm_steal_rows.specs.declared.played.Played.{Played}
+use Rattle.tm_steal_rows.specs.Lines.{places_from}
+use Rattle.tm_steal_rows.specs.Playing.{IsStealing}
+use Rattle.tm_steal_rows.specs.Stolen.{Stolen}
+use Rattle.tm_steal.specs.declared.board.Board.{Board}
+use Rattle.tm_steal.specs.declared.board.Hand.{Hand}
+
+-- the board knows the places of its trace's requests, each of which can be asked, and has no more
+-- trees than the opening
+pub record IsBoard (start : Start) (board : Board) : Type 0 where
+  pub places : board.places.items ≡ places_from 0 board.trace.now
+  pub asked : AllByRecursion (λ (tree : Tree). list_all (item_is_request tomoyo_grammar.is_path) tree.records ≡ true) board.trace.now
+  pub trees : board.trees ≤ start.trees
+
+-- a worker goes on, whatever it has stolen
+abbrev pub GoesOn : Start → Trace → List Made → List ℕ → List Played → List Made → List ℕ → List Played → Type 0
+GoesOn start trace old before all new own more =
+    (shift : Shift) → IsStealing start trace shift old before all → IsStealing start trace shift new own more
+
+-- workers have played a trace together, and these rows were gathered of it
+abbrev pub AreStolen : Start → Trace → Book → List Made → List PlayedTree → Type 0
+AreStolen start trace book list rows = (hands : List Hand) × Stolen start trace book hands list rows

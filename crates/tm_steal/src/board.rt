@@ -1,0 +1,188 @@
+//! What the workers share: the processes, the requests, and who can be asked for a process.
+ghost use Rattle.std.specs.Prelude.{◌≡◌, length, IfOk};
+ghost use Rattle.tm_steal_rows.specs.Lines.{places_from};
+
+use crate::processes::{Process, processes_of};
+use crossbeam_deque::{Steal, Stealer, Worker};
+use std::alloc::{AllocError, Global};
+use std::sync::atomic::{AtomicU64, Ordering};
+use tm_list::NoMemory;
+use tm_steal_rows::{LinePlace, places_of};
+use tm_take::ProcessSituation;
+use tm_types::request::{Ids, Proc, Tree};
+
+/// A process that can be played: its place among all processes, and where it stands at its start.
+#[derive(Clone, Copy, Drop)]
+pub(crate) struct Job {
+    pub(crate) process: usize,
+    pub(crate) now: ProcessSituation,
+}
+
+/// What a worker has for itself: its number, from 0, and the processes that it plays next, first in
+/// first out, from which others steal.
+#[derive(Drop)]
+pub(crate) struct Hand {
+    pub(crate) number: u32,
+    pub(crate) own: Worker<Job>,
+}
+
+/// What all workers share: the trace with its processes and the places of its requests in their
+/// order, how many trees it has, a handle to steal from each worker, how many processes have ended, and whether
+/// somebody has given up.
+#[derive(Drop)]
+pub(crate) struct Board<'a> {
+    pub(crate) trace: &'a [Tree],
+    pub(crate) places: Vec<LinePlace>,
+    pub(crate) processes: Vec<Process>,
+    pub(crate) trees: u32,
+    pub(crate) stealers: Vec<Stealer<Job>>,
+    pub(crate) ended: AtomicU64,
+    pub(crate) given_up: AtomicU64,
+}
+
+impl Board<'_> {
+    /// Whether all processes have ended.
+    pub(crate) fn all_ended(&self) -> bool {
+        self.ended.load(Ordering::SeqCst) >= self.processes.len() as u64
+    }
+
+    /// A process more has ended.
+    pub(crate) fn end_one(&self) {
+        self.ended.fetch_add(1, Ordering::SeqCst);
+    }
+
+    /// Whether somebody has given up.
+    pub(crate) fn is_given_up(&self) -> bool {
+        self.given_up.load(Ordering::SeqCst) != 0
+    }
+
+    /// Tells the others that somebody has given up.
+    pub(crate) fn give_up(&self) {
+        self.given_up.store(1, Ordering::SeqCst);
+    }
+
+    /// A process that another worker has waiting, if one is found.
+    pub(crate) fn steal(&self) -> Option<Job> {
+        for stealer in self.stealers.as_slice() {
+            if let Steal::Success(job) = stealer.steal() {
+                return Some(job);
+            }
+        }
+        None
+    }
+}
+
+impl Hand {
+    /// The next process: the worker's own first one, or one of another.
+    pub(crate) fn next_job(&mut self, board: &Board<'_>) -> Option<Job> {
+        match self.own.pop() {
+            Some(job) => Some(job),
+            None => board.steal(),
+        }
+    }
+
+    /// A process more that can be played.
+    pub(crate) fn add(&mut self, job: Job) -> Result<(), NoMemory> {
+        match self.own.push(job) {
+            Ok(()) => Ok(()),
+            Err(_) => Err(AllocError),
+        }
+    }
+}
+
+// The first process of a tree, as the tree begins with it.
+fn first_now(pid: u32, home: Option<u32>) -> ProcessSituation {
+    let ids = Ids {
+        uid: 0,
+        euid: 0,
+        suid: 0,
+        fsuid: 0,
+        gid: 0,
+        egid: 0,
+        sgid: 0,
+        fsgid: 0,
+    };
+    ProcessSituation {
+        process: Proc { pid, ppid: 0, ids },
+        domain: home,
+    }
+}
+
+// So many empty hands.
+fn empty_hands(alloc: Global, workers: u32) -> Result<Vec<Hand>, NoMemory> {
+    let mut hands = Vec::new(alloc);
+    for number in 0..workers {
+        let own = Worker::new_fifo(alloc, 64)?;
+        hands.push(Hand { number, own })?;
+    }
+    Ok(hands)
+}
+
+// A handle to steal from each of these hands.
+fn stealers_of(alloc: Global, hands: &[Hand]) -> Result<Vec<Stealer<Job>>, NoMemory> {
+    let mut stealers = Vec::new(alloc);
+    for hand in hands {
+        stealers.push(hand.own.stealer()?)?;
+    }
+    Ok(stealers)
+}
+
+// Deals the first process of each tree, which starts in this domain: that of the tree of number t
+// goes to the worker, from 0, whose number is what t less 1 leaves, divided by the number of workers.
+fn deal_firsts(
+    firsts: &[(u32, usize)],
+    homes: &[Option<u32>],
+    hands: &mut Vec<Hand>,
+) -> Result<(), NoMemory> {
+    let workers = hands.len();
+    if workers == 0 {
+        return Err(AllocError);
+    }
+    let mut tree: usize = 0;
+    for (pid, process) in firsts {
+        let Some(home) = homes.get(tree) else {
+            return Err(AllocError);
+        };
+        let job = Job {
+            process: *process,
+            now: first_now(*pid, *home),
+        };
+        hands[tree % workers].add(job)?;
+        tree += 1;
+    }
+    Ok(())
+}
+
+/// The board of a trace and of so many workers, whose trees start in these domains, and the workers'
+/// hands, each with the first processes that are dealt to it.
+///
+/// Errors: want of memory.
+pub(crate) fn board_of<'a>(
+    alloc: Global,
+    trace: &'a [Tree],
+    homes: &[Option<u32>],
+    workers: u32,
+) -> Result<(Board<'a>, Vec<Hand>), NoMemory>
+    ensures places { IfOk result (λ r. r.0.places.items ≡ places_from 0 trace.now) }
+    ensures trace { IfOk result (λ r. r.0.trace.now ≡ trace.now) }
+    ensures trees { IfOk result (λ r. r.0.trees ≡ length trace.now) }
+{
+    let Ok(trees) = u32::try_from(trace.len()) else {
+        return Err(AllocError);
+    };
+    let places = places_of(alloc, trace)?;
+    let processes = processes_of(alloc, trace)?;
+    let mut hands = empty_hands(alloc, workers)?;
+    deal_firsts(processes.firsts.as_slice(), homes, &mut hands)?;
+    let stealers = stealers_of(alloc, hands.as_slice())?;
+    let board = Board {
+        trace,
+        places,
+        processes: processes.all,
+        trees,
+        stealers,
+        ended: AtomicU64::new(0),
+        given_up: AtomicU64::new(0),
+    };
+    Ok((board, hands))
+}

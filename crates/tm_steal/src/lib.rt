@@ -1,0 +1,11 @@
+//! A trace played by threads that share its processes: who has none left takes one from another.
+//! Stands on tm_steal_rows for what is played and gathered, on tm_replay for the threads.
+//! Promises that whatever was stolen, and whatever the threads' order was, the run is a legal one.
+#![tactic(auto)]
+
+mod board;
+mod processes;
+mod run;
+mod thief;
+
+pub use run::{steal_all, steal_run};

@@ -1,0 +1,258 @@
+//! A worker: its own processes, and those that it steals, until all have ended.
+ghost use Rattle.std.specs.Prelude.{◌≡◌, true, Some, IfOk, OnOk, slice_get};
+ghost use Rattle.tm_types.specs.declared.step.Start.{Start};
+ghost use Rattle.tm_rules.specs.Requests.{is_request};
+ghost use Rattle.tm_grammar.specs.Tomoyo.{tomoyo_grammar};
+ghost use Rattle.tm_steal_rows.specs.Playing.{all_requests};
+ghost use Rattle.tm_seat.specs.Seats.{Begins};
+ghost use Rattle.tm_parts.specs.Parts.{CanBegin};
+ghost use Rattle.tm_steal.specs.Boards.{IsBoard, GoesOn};
+
+use crate::board::{Board, Hand, Job};
+use crate::processes::Line;
+use std::alloc::{AllocError, Global};
+use std::sync::Wait;
+use std::thread;
+use tm_list::{Copied, NoMemory};
+use tm_parts::Work;
+use tm_seat::Seat;
+use tm_steal_rows::{
+    Played, end_trees, lines_can_be_asked, play_line, request_at, workers_steal_on,
+};
+use tm_take::ProcessSituation;
+use tm_types::request::{Proc, Request};
+
+// The request of a line, copied, since any worker may need it.
+fn request_of(board: &Board<'_>, alloc: Global, line: u64) -> Result<Request, NoMemory>
+    requires { (start : Start) × IsBoard start board.now }
+    ensures line { IfOk result (λ request.
+        slice_get (all_requests board.now.trace.now) line ≡ Some request) }
+    ensures asked { IfOk result (λ request. is_request tomoyo_grammar.is_path request ≡ true) }
+{
+    lines_can_be_asked();
+    match request_at(board.trace, board.places.as_slice(), line) {
+        Some(request) => request.copy(alloc),
+        None => Err(AllocError),
+    }
+}
+
+// The request of a line of a process that stands here: its take, and the domain after it.
+fn play_request<S: Seat>(
+    board: &Board<'_>,
+    seat: &mut S,
+    alloc: Global,
+    tree: u32,
+    place: u32,
+    line: u64,
+    now: ProcessSituation,
+    played: &mut Vec<Played>,
+) -> Result<u32, NoMemory>
+    requires can { CanBegin (S.opening seat.old) }
+    requires board { IsBoard (S.opening seat.old) board.now }
+    ensures steals { OnOk result (GoesOn (S.opening seat.old) board.now.trace.now
+        (S.at seat.old) (S.own seat.old) played.old.items (S.at seat.new) (S.own seat.new) played.new.items) }
+    ensures opening { S.opening seat.new ≡ S.opening seat.old }
+    ensures grows { Begins (S.at seat.old) (S.at seat.new) }
+{
+    let Some(domain) = now.domain else {
+        return Err(AllocError);
+    };
+    let (there, since) = seat.arrive(domain);
+    if !there {
+        return Err(AllocError);
+    }
+    let request = request_of(board, alloc, line)?;
+    let taken = play_line(seat, alloc, tree, place, line, now, domain, request, since)?;
+    let after = taken.take.after;
+    played.push(Played::Take(taken))?;
+    Ok(after)
+}
+
+// A child as its parent leaves it.
+fn child_of(now: ProcessSituation, child: u32) -> ProcessSituation {
+    let process = Proc {
+        pid: child,
+        ppid: now.process.pid,
+        ids: now.process.ids,
+    };
+    ProcessSituation {
+        process,
+        domain: now.domain,
+    }
+}
+
+// A line of a process that stands here, and where it stands afterwards.
+fn pass_line<S: Seat>(
+    board: &Board<'_>,
+    seat: &mut S,
+    alloc: Global,
+    hand: &mut Hand,
+    tree: u32,
+    line: Line,
+    now: ProcessSituation,
+    played: &mut Vec<Played>,
+) -> Result<ProcessSituation, NoMemory>
+    requires can { CanBegin (S.opening seat.old) }
+    requires board { IsBoard (S.opening seat.old) board.now }
+    ensures steals { OnOk result (GoesOn (S.opening seat.old) board.now.trace.now
+        (S.at seat.old) (S.own seat.old) played.old.items (S.at seat.new) (S.own seat.new) played.new.items) }
+    ensures opening { S.opening seat.new ≡ S.opening seat.old }
+    ensures grows { Begins (S.at seat.old) (S.at seat.new) }
+{
+    let ProcessSituation { process, domain } = now;
+    match line {
+        Line::Ids(ids) => Ok(ProcessSituation {
+            process: Proc { ids, ..process },
+            domain,
+        }),
+        Line::Fork(place, child) => {
+            hand.add(Job {
+                process: place,
+                now: child_of(now, child),
+            })?;
+            Ok(now)
+        }
+        Line::Do(number, place) => {
+            let after = play_request(board, seat, alloc, tree, place, number, now, played)?;
+            Ok(ProcessSituation {
+                process,
+                domain: Some(after),
+            })
+        }
+    }
+}
+
+// A process: its lines, one after another. Each child can be played as soon as it is forked.
+fn play_process<S: Seat>(
+    board: &Board<'_>,
+    seat: &mut S,
+    alloc: Global,
+    hand: &mut Hand,
+    job: Job,
+    played: &mut Vec<Played>,
+) -> Result<(), NoMemory>
+    requires can { CanBegin (S.opening seat.old) }
+    requires board { IsBoard (S.opening seat.old) board.now }
+    ensures steals { OnOk result (GoesOn (S.opening seat.old) board.now.trace.now
+        (S.at seat.old) (S.own seat.old) played.old.items (S.at seat.new) (S.own seat.new) played.new.items) }
+    ensures opening { S.opening seat.new ≡ S.opening seat.old }
+    ensures grows { Begins (S.at seat.old) (S.at seat.new) }
+{
+    let Some(process) = board.processes.get(job.process) else {
+        return Err(AllocError);
+    };
+    let mut now = job.now;
+    for line in process.lines.as_slice() {
+        now = pass_line(board, seat, alloc, hand, process.tree, *line, now, played)?;
+    }
+    Ok(())
+}
+
+// The next process, if there is one: whether there was.
+fn play_next<S: Seat>(
+    board: &Board<'_>,
+    seat: &mut S,
+    alloc: Global,
+    hand: &mut Hand,
+    played: &mut Vec<Played>,
+) -> Result<bool, NoMemory>
+    requires can { CanBegin (S.opening seat.old) }
+    requires board { IsBoard (S.opening seat.old) board.now }
+    ensures steals { OnOk result (GoesOn (S.opening seat.old) board.now.trace.now
+        (S.at seat.old) (S.own seat.old) played.old.items (S.at seat.new) (S.own seat.new) played.new.items) }
+    ensures opening { S.opening seat.new ≡ S.opening seat.old }
+    ensures grows { Begins (S.at seat.old) (S.at seat.new) }
+{
+    match hand.next_job(board) {
+        Some(job) => {
+            play_process(board, seat, alloc, hand, job, played)?;
+            board.end_one();
+            Ok(true)
+        }
+        None => Ok(false),
+    }
+}
+
+// Processes, until all have ended, or somebody has given up.
+fn play_all<S: Seat, W: Wait>(
+    board: &Board<'_>,
+    rt: &W,
+    seat: &mut S,
+    alloc: Global,
+    hand: &mut Hand,
+    played: &mut Vec<Played>,
+) -> Result<(), NoMemory>
+    requires can { CanBegin (S.opening seat.old) }
+    requires board { IsBoard (S.opening seat.old) board.now }
+    ensures steals { OnOk result (GoesOn (S.opening seat.old) board.now.trace.now
+        (S.at seat.old) (S.own seat.old) played.old.items (S.at seat.new) (S.own seat.new) played.new.items) }
+    ensures opening { S.opening seat.new ≡ S.opening seat.old }
+    ensures grows { Begins (S.at seat.old) (S.at seat.new) }
+{
+    for _ in rt.forever() {
+        if board.all_ended() {
+            return Ok(());
+        }
+        if board.is_given_up() {
+            return Err(AllocError);
+        }
+        if !play_next(board, seat, alloc, hand, played)? {
+            thread::yield_now();
+        }
+    }
+    unreachable!()
+}
+
+// All that a worker does; the first one ends the trees.
+fn play_hand<S: Seat, W: Wait>(
+    board: &Board<'_>,
+    rt: &W,
+    seat: &mut S,
+    alloc: Global,
+    hand: &mut Hand,
+    supervised: bool,
+    played: &mut Vec<Played>,
+) -> Result<(), NoMemory>
+    requires can { CanBegin (S.opening seat.old) }
+    requires board { IsBoard (S.opening seat.old) board.now }
+    ensures steals { OnOk result (GoesOn (S.opening seat.old) board.now.trace.now
+        (S.at seat.old) (S.own seat.old) played.old.items (S.at seat.new) (S.own seat.new) played.new.items) }
+    ensures opening { S.opening seat.new ≡ S.opening seat.old }
+    ensures grows { Begins (S.at seat.old) (S.at seat.new) }
+{
+    play_all(board, rt, seat, alloc, hand, played)?;
+    if hand.number == 0 {
+        end_trees(seat, alloc, board.trees, supervised, played)?;
+    }
+    Ok(())
+}
+
+impl Work<Hand, Played> for Board<'_> {
+    ghost use Rattle.tm_steal_rows.specs.Playing.{HandDid};
+    ghost use Rattle.tm_steal.specs.Boards.{IsBoard};
+
+    ghost ready = { λ board start _. IsBoard start board };
+
+    ghost did = { λ board start floor hand done. HandDid board.trace.now start floor hand done };
+
+    fn work<S: Seat, W: Wait>(
+        &self,
+        rt: &W,
+        seat: &mut S,
+        alloc: Global,
+        hand: Hand,
+        supervised: bool,
+    ) -> Result<Vec<Played>, NoMemory> {
+        workers_steal_on();
+        let mut hand = hand;
+        let mut played = Vec::new(alloc);
+        match play_hand(self, rt, seat, alloc, &mut hand, supervised, &mut played) {
+            Ok(()) => Ok(played),
+            Err(fault) => {
+                self.give_up();
+                drop(played);
+                Err(fault)
+            }
+        }
+    }
+}

@@ -1,0 +1,10 @@
+mod Owning
+mod Laying
+mod Walking
+mod Raising
+mod RowSteps
+pub mod Stealing
+mod Counting
+mod Gathered
+mod Jointly
+mod LineLaws

@@ -1,0 +1,106 @@
+-- What a worker plays of a trace: takes of `do` lines, whichever processes it has taken from
+-- others, and the trees' Ends.
+use Rattle.std.specs.Prelude.{◌≡◌, ⊤, ℕ, suc, List, [], ◌∷◌, ◌++◌, length, map, flat_map, Some, slice_get}
+use Rattle.std.specs.List.{AllByRecursion}
+use Rattle.tm_types.specs.declared.request.Item.{Item}
+use Rattle.tm_types.specs.declared.request.Request.{Request}
+use Rattle.tm_types.specs.declared.request.Tree.{Tree}
+use Rattle.tm_types.specs.declared.step.Made.{Made}
+use Rattle.tm_types.specs.declared.step.Maker.{Maker}
+use Rattle.tm_types.specs.declared.step.Start.{Start}
+use Rattle.tm_types.specs.declared.step.Step.{Step}
+use Rattle.tm_rules.specs.Words.{Trace}
+use Rattle.tm_legal.specs.Legal.{own_numbers}
+use Rattle.tm_made.specs.Made.{made_step}
+use Rattle.tm_take.specs.Situations.{situation_of}
+use Rattle.tm_seat.specs.Seats.{Begins, MadeBy}
+use Rattle.tm_seat.specs.Playing.{TakeIsLegal, LooksSince}
+use Rattle.tm_seat.specs.Rows.{Shift}
+use Rattle.tm_parts.specs.Parts.{Deed, ClaimedBy}
+use Rattle.tm_steal_rows.specs.declared.played.Played.{Played}
+use Rattle.tm_steal_rows.specs.declared.played.PlayedTake.{PlayedTake}
+
+-- Requests by their lines
+
+-- the request of a `do` line
+abbrev pub request_of_do : Item → List Request
+request_of_do (Item.Do pid request) = request ∷ []
+request_of_do (Item.Ids pid ids) = []
+request_of_do (Item.Fork pid child) = []
+
+-- the requests of a tree's records, in order
+abbrev pub requests_in : List Item → List Request
+requests_in items = flat_map request_of_do items
+
+-- the requests of a trace, tree by tree
+abbrev pub all_requests : Trace → List Request
+all_requests trace = flat_map (λ (tree : Tree). requests_in tree.records) trace
+
+-- What was played
+
+-- a take is legal by a list for the request of its line, wherever the walk has its process, if only
+-- it stands as it did when the take began, with a floor that was known then
+pub record TakeIsPlayed (start : Start) (trace : Trace) (list : List Made) (played : PlayedTake) : Type 0 where
+  pub request : Request
+  pub asked : slice_get (all_requests trace) played.line ≡ Some request
+  pub known : List Made
+  pub since : length known ≡ played.since
+  pub legal : TakeIsLegal start known list (situation_of played.stood) request played.take
+  pub pid : played.take.pid ≡ played.stood.process.pid
+
+-- a take was played, or a tree's End was made
+abbrev pub IsPlayed : Start → Trace → List Made → Played → Type 0
+IsPlayed start trace list (Played.Take played) = TakeIsPlayed start trace list played
+IsPlayed start trace list (Played.End tree number) = made_step list number ≡ Some (Step.End tree)
+
+-- the numbers of its steps
+abbrev pub own_of : Played → List ℕ
+own_of (Played.Take played) = own_numbers (played.take ∷ [])
+own_of (Played.End tree number) = number ∷ []
+
+-- the numbers of the steps of all these
+abbrev pub all_own : List Played → List ℕ
+all_own all = flat_map own_of all
+
+-- who makes its steps
+abbrev pub maker_of : Played → Maker
+maker_of (Played.Take played) = Maker.Process played.take.pid
+maker_of (Played.End tree number) = Maker.Tree tree
+
+-- no look of it is older than that version
+abbrev pub IsSince : ℕ → Played → Type 0
+IsSince version (Played.Take played) = LooksSince version played.take
+IsSince version (Played.End tree number) = ⊤
+
+-- Workers
+
+-- a worker that has played these, by what its seat knows and has made
+pub record IsStealing (start : Start) (trace : Trace) (shift : Shift) (list : List Made) (own : List ℕ)
+    (all : List Played) : Type 0 where
+  pub begins : Begins shift.known list
+  pub each : AllByRecursion (IsPlayed start trace list) all
+  pub made : own ≡ shift.before ++ all_own all
+  pub makers : MadeBy (map maker_of all) shift.known shift.before list own
+  pub fresh : AllByRecursion (IsSince (length shift.known)) all
+
+-- these more
+abbrev pub StealsOn : Start → Trace → List Made → List ℕ → List Made → List ℕ → List Played → Type 0
+StealsOn start trace old before new own more =
+    (shift : Shift) (all : List Played) → IsStealing start trace shift old before all
+    → IsStealing start trace shift new own (all ++ more)
+
+-- the Ends of trees in order, where the first tree has number t
+abbrev pub ends_from : ℕ → List ℕ → List Played
+ends_from t [] = []
+ends_from t (number ∷ numbers) = Played.End t number ∷ ends_from (suc t) numbers
+
+-- a worker has played these, and none of its looks is older than that version
+pub record ThiefDid (start : Start) (trace : Trace) (floor : ℕ) (done : Deed Played) : Type 0 where
+  pub each : AllByRecursion (IsPlayed start trace done.known) done.rows
+  pub own_is : done.own ≡ all_own done.rows
+  pub claims : ClaimedBy (map maker_of done.rows) done.known done.own
+  pub fresh : AllByRecursion (IsSince floor) done.rows
+
+-- the same, whichever hand it has been given
+abbrev pub HandDid : {H : Type 0} → Trace → Start → ℕ → H → Deed Played → Type 0
+HandDid trace start floor hand done = ThiefDid start trace floor done

@@ -1,0 +1,17 @@
+//! What workers play of a trace whose processes they take from each other, and the rows that are
+//! gathered of it. Stands on tm_seat for takes, on tm_parts for runs; on no engine and no threads.
+//! Promises that what is gathered, each worker's part compared by value, is a legal run.
+#![tactic(auto)]
+
+mod law;
+mod lines;
+mod owners;
+mod played;
+mod rows;
+mod slots;
+mod walk;
+
+pub use law::{lines_can_be_asked, stolen_runs_are_legal, workers_steal_on};
+pub use lines::{LinePlace, places_of, request_at};
+pub use played::{Played, PlayedTake, end_trees, play_line};
+pub use rows::gather;

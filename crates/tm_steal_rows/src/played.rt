@@ -1,0 +1,128 @@
+//! What a worker plays that takes processes from others.
+ghost use Rattle.std.specs.Prelude.{◌≡◌, ◌<◌, ◌≤◌, ◌++◌, ◌∷◌, [], ℕ, true, List, length, if◌then◌else◌, Some, IfOk, OnOk, slice_get};
+ghost use Rattle.tm_types.specs.declared.step.Made.{Made};
+ghost use Rattle.tm_rules.specs.Requests.{is_request};
+ghost use Rattle.tm_rules.specs.Words.{Trace};
+ghost use Rattle.tm_grammar.specs.Tomoyo.{tomoyo_grammar};
+ghost use Rattle.tm_legal.specs.Play.{IsOpened, IsNamed};
+ghost use Rattle.tm_legal.specs.Stages.{DomainIn};
+ghost use Rattle.tm_seat.specs.Seats.{state_of, FitsFrom, Begins};
+ghost use Rattle.tm_steal_rows.specs.Playing.{all_requests, StealsOn, ends_from};
+ghost use Rattle.tm_steal_rows.specs.declared.played.Played.{Played};
+
+use std::alloc::Global;
+use tm_list::NoMemory;
+use tm_seat::{Seat, play_take};
+use tm_take::ProcessSituation;
+use tm_types::request::Request;
+use tm_types::step::{Made, Maker, Settled, Step, Take};
+
+/// A take that was played: the place of its line among the `do` lines of the trace, from 0, where
+/// its process stood, how many steps were known when it began, and the take.
+#[derive(Drop)]
+pub struct PlayedTake {
+    pub line: u64,
+    pub stood: ProcessSituation,
+    pub since: u64,
+    pub take: Take,
+}
+
+/// What a worker has played: a take, or the End of the tree of a number, with the number of its
+/// step.
+#[derive(Drop)]
+pub enum Played {
+    Take(PlayedTake),
+    End(u32, u64),
+}
+
+/// Plays the request of a line, whose process stands here, in the domain of this number, by a seat
+/// that knows at least so many steps.
+///
+/// Errors: want of memory, or that no answer can come any more.
+pub fn play_line<S: Seat>(
+    seat: &mut S,
+    alloc: Global,
+    tree: u32,
+    place: u32,
+    line: u64,
+    now: ProcessSituation,
+    domain: u32,
+    request: Request,
+    since: u64,
+) -> Result<PlayedTake, NoMemory>
+    requires opened { IsOpened (S.opening seat.old).policy }
+    requires named { IsNamed tomoyo_grammar.is_path (S.opening seat.old).policy }
+    requires asked { is_request tomoyo_grammar.is_path request ≡ true }
+    requires stands { now.domain ≡ Some domain }
+    requires there { DomainIn (state_of (S.opening seat.old) (S.at seat.old)).policy domain }
+    requires since { since ≤ length (S.at seat.old) }
+    ensures steals { IfOk result (λ played. (trace : Trace)
+        → slice_get (all_requests trace) line ≡ Some request
+        → StealsOn (S.opening seat.old) trace (S.at seat.old) (S.own seat.old)
+        (S.at seat.new) (S.own seat.new) (Played.Take played ∷ [])) }
+    ensures of_line { IfOk result (λ played.
+        (played.line ≡ line) × (played.stood ≡ now) × (played.since ≡ since)) }
+    ensures there { IfOk result (λ played.
+        DomainIn (state_of (S.opening seat.old) (S.at seat.new)).policy played.take.after) }
+    ensures fitted { IfOk result (λ played. FitsFrom (S.opening seat.old) (S.at seat.new)) }
+    ensures opening { S.opening seat.new ≡ S.opening seat.old }
+    ensures grows { Begins (S.at seat.old) (S.at seat.new) }
+{
+    seat.begin(tree, place);
+    let take = play_take(seat, alloc, now, domain, request)?;
+    Ok(PlayedTake {
+        line,
+        stood: now,
+        since,
+        take,
+    })
+}
+
+// A tree's End.
+fn end_tree<S: Seat>(seat: &mut S, alloc: Global, tree: u32) -> Result<u64, NoMemory>
+    requires above { 0 < tree }
+    requires inside { tree ≤ (S.opening seat.old).trees }
+    ensures steals { IfOk result (λ number. (trace : Trace) →
+        StealsOn (S.opening seat.old) trace (S.at seat.old) (S.own seat.old)
+        (S.at seat.new) (S.own seat.new) (Played.End tree number ∷ [])) }
+    ensures opening { S.opening seat.new ≡ S.opening seat.old }
+    ensures grows { Begins (S.at seat.old) (S.at seat.new) }
+{
+    let made = Made {
+        maker: Maker::Tree(tree),
+        step: Step::End(tree),
+    };
+    let Settled { number, .. } = seat.settle(alloc, made)?;
+    Ok(number)
+}
+
+/// Makes the Ends of all trees, by their numbers from 1, where a supervisor stands, and puts them
+/// behind what was played.
+///
+/// Errors: want of memory.
+pub fn end_trees<S: Seat>(
+    seat: &mut S,
+    alloc: Global,
+    trees: u32,
+    supervised: bool,
+    all: &mut Vec<Played>,
+) -> Result<(), NoMemory>
+    requires inside { trees ≤ (S.opening seat.old).trees }
+    ensures ends { OnOk result ((numbers : List ℕ)
+        × (length numbers ≡ (if supervised then trees else 0))
+        × (all.new.items ≡ all.old.items ++ ends_from 1 numbers)
+        × ((trace : Trace) → StealsOn (S.opening seat.old) trace (S.at seat.old) (S.own seat.old)
+        (S.at seat.new) (S.own seat.new) (ends_from 1 numbers))) }
+    ensures opening { S.opening seat.new ≡ S.opening seat.old }
+    ensures grows { Begins (S.at seat.old) (S.at seat.new) }
+{
+    if !supervised {
+        return Ok(());
+    }
+    for before in 0..trees {
+        let tree = before + 1;
+        let number = end_tree(seat, alloc, tree)?;
+        all.push(Played::End(tree, number))?;
+    }
+    Ok(())
+}

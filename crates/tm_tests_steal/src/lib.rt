@@ -1,0 +1,7 @@
+//! The tests of stolen subtrees: what workers give back, as values, and the rows that are gathered.
+//! Stands on tm_steal_rows; nothing stands on it.
+//! Promises nothing; the name of each test says what it shows.
+#![tactic(auto)]
+
+#[cfg(test)]
+mod rows;

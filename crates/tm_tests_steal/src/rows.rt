@@ -1,0 +1,230 @@
+//! Rows that are gathered of what two workers give back, and what is refused.
+use std::alloc::Global;
+use tm_list::{NoMemory, Seq};
+use tm_steal_rows::{Played, PlayedTake, gather, places_of, request_at};
+use tm_take::ProcessSituation;
+use tm_types::entry::Args;
+use tm_types::request::{Attributes, Ids, Item, Proc, Request, Tree};
+use tm_types::step::{Look, Take};
+use tm_types::verdict::{Move, Reason};
+
+/// A take: the worker that has played it, its line, its process with its parent, the domain that
+/// the process was in, how many steps were known, the version of its look, and the domain after.
+type Row = [u32; 8];
+
+/// An End: the worker that has made it, the tree, and its number.
+type End = [u32; 3];
+
+// The first worker plays process 5, the second one its child 6 and process 7 of the other tree.
+const TAKES: [Row; 4] = [
+    [0, 0, 5, 0, 0, 0, 3, 1],
+    [1, 3, 7, 0, 2, 0, 2, 2],
+    [0, 2, 5, 0, 1, 3, 5, 1],
+    [1, 1, 6, 5, 1, 4, 4, 1],
+];
+
+const ENDS: [End; 2] = [[0, 1, 9], [0, 2, 10]];
+
+fn no_ids() -> Ids {
+    Ids {
+        uid: 0,
+        euid: 0,
+        suid: 0,
+        fsuid: 0,
+        gid: 0,
+        egid: 0,
+        sgid: 0,
+        fsgid: 0,
+    }
+}
+
+/// A request of this permission.
+fn request(alloc: Global, perm: u8) -> Result<Request, NoMemory> {
+    let attributes = Attributes {
+        real_path: None,
+        argv: Seq::new(alloc),
+        envp: Seq::new(alloc),
+        target: None,
+        stats: Seq::new(alloc),
+    };
+    let domain = Seq::from_bytes(alloc, b"<kernel>")?;
+    Request::new(alloc, Args::Manual(domain), perm, attributes)
+}
+
+/// A tree whose first process forks a child where there is one; each request is of another
+/// permission.
+fn tree(alloc: Global, pid: u32, child: Option<u32>, perm: u8) -> Result<Tree, NoMemory> {
+    let mut records = Seq::new(alloc);
+    records.push(Item::Do(pid, request(alloc, perm)?))?;
+    if let Some(child) = child {
+        records.push(Item::Fork(pid, child))?;
+        records.push(Item::Do(child, request(alloc, 1)?))?;
+        records.push(Item::Do(pid, request(alloc, 2)?))?;
+    }
+    Ok(Tree {
+        start: Seq::from_bytes(alloc, b"<kernel>")?,
+        pid,
+        records,
+    })
+}
+
+/// Two trees: process 5 with its child 6, and process 7.
+fn trace(alloc: Global) -> Result<Vec<Tree>, NoMemory> {
+    let mut trees = Vec::new(alloc);
+    trees.push(tree(alloc, 5, Some(6), 0)?)?;
+    trees.push(tree(alloc, 7, None, 3)?)?;
+    Ok(trees)
+}
+
+fn take(alloc: Global, row: &Row) -> Result<Take, NoMemory> {
+    let mut looks = Seq::new(alloc);
+    looks.push(Look {
+        version: u64::from(row[6]),
+        mode: None,
+        reason: Reason::Disabled,
+        step: Move::Stay,
+        own: Seq::new(alloc),
+        heard: None,
+    })?;
+    Ok(Take {
+        pid: row[2],
+        before: row[4],
+        after: row[7],
+        granted: true,
+        looks,
+        audit: None,
+    })
+}
+
+fn played(alloc: Global, row: &Row) -> Result<Played, NoMemory> {
+    let process = Proc {
+        pid: row[2],
+        ppid: row[3],
+        ids: no_ids(),
+    };
+    Ok(Played::Take(PlayedTake {
+        line: u64::from(row[1]),
+        stood: ProcessSituation {
+            process,
+            domain: Some(row[4]),
+        },
+        since: u64::from(row[5]),
+        take: take(alloc, row)?,
+    }))
+}
+
+/// What a worker gives back.
+fn given_by(
+    alloc: Global,
+    worker: u32,
+    takes: &[Row],
+    ends: &[End],
+) -> Result<Seq<Played>, NoMemory> {
+    let mut all = Seq::new(alloc);
+    for row in takes {
+        if row[0] == worker {
+            all.push(played(alloc, row)?)?;
+        }
+    }
+    for end in ends {
+        if end[0] == worker {
+            all.push(Played::End(end[1], u64::from(end[2])))?;
+        }
+    }
+    Ok(all)
+}
+
+/// The pids of all rows' takes and the Ends, in order; None where the rows are refused.
+fn gathered(
+    alloc: Global,
+    takes: &[Row],
+    ends: &[End],
+    supervised: bool,
+) -> Result<Option<Vec<u64>>, NoMemory> {
+    let trees = trace(alloc)?;
+    let mut homes = Vec::new(alloc);
+    homes.push(Some(0))?;
+    homes.push(Some(2))?;
+    let mut given = Vec::new(alloc);
+    given.push(given_by(alloc, 0, takes, ends)?)?;
+    given.push(given_by(alloc, 1, takes, ends)?)?;
+    let Ok(rows) = gather(alloc, trees.as_slice(), homes, supervised, given) else {
+        return Ok(None);
+    };
+    let mut told = Vec::new(alloc);
+    for row in rows.as_slice() {
+        told.push(u64::from(row.number))?;
+        for take in row.takes.as_slice() {
+            told.push(u64::from(take.pid))?;
+        }
+        told.push(row.end.unwrap_or(0))?;
+    }
+    Ok(Some(told))
+}
+
+#[test]
+fn a_row_for_each_tree_where_all_agrees(rt: HostRuntime) -> Result<(), NoMemory> {
+    let alloc = rt.alloc();
+    let told = gathered(alloc, TAKES.as_slice(), ENDS.as_slice(), true)?;
+    let told = told.unwrap_or(Vec::new(alloc));
+    assert_eq!(rt; told.as_slice(), [1u64, 5, 6, 5, 9, 2, 7, 10].as_slice());
+    let alone = gathered(alloc, TAKES.as_slice(), &[], false)?;
+    let alone = alone.unwrap_or(Vec::new(alloc));
+    assert_eq!(rt; alone.as_slice(), [1u64, 5, 6, 5, 0, 2, 7, 0].as_slice());
+    Ok(())
+}
+
+// A take, its number, and another number in its place.
+const WRONG_TAKES: [(usize, usize, u32); 9] = [
+    (3, 3, 4),
+    (3, 4, 0),
+    (3, 5, 2),
+    (2, 0, 1),
+    (2, 1, 1),
+    (2, 1, 7),
+    (1, 2, 6),
+    (2, 6, 9),
+    (0, 7, 2),
+];
+
+#[test]
+fn takes_that_do_not_agree_are_refused(rt: HostRuntime) -> Result<(), NoMemory> {
+    for (row, place, number) in WRONG_TAKES {
+        let mut takes = TAKES;
+        takes[row][place] = number;
+        let told = gathered(rt.alloc(), takes.as_slice(), ENDS.as_slice(), true)?;
+        assert!(rt; told.is_none(), "{row} {place}");
+    }
+    let few = gathered(rt.alloc(), &TAKES[1..], ENDS.as_slice(), true)?;
+    assert!(rt; few.is_none());
+    Ok(())
+}
+
+// The same of an End.
+const WRONG_ENDS: [(usize, usize, u32); 4] = [(0, 2, 5), (0, 0, 1), (0, 1, 2), (1, 1, 1)];
+
+#[test]
+fn ends_that_do_not_agree_are_refused(rt: HostRuntime) -> Result<(), NoMemory> {
+    for (end, place, number) in WRONG_ENDS {
+        let mut ends = ENDS;
+        ends[end][place] = number;
+        let told = gathered(rt.alloc(), TAKES.as_slice(), ends.as_slice(), true)?;
+        assert!(rt; told.is_none(), "{end} {place}");
+    }
+    let few = gathered(rt.alloc(), TAKES.as_slice(), &ENDS[..1], true)?;
+    let many = gathered(rt.alloc(), TAKES.as_slice(), &ENDS[..1], false)?;
+    assert!(rt; few.is_none() && many.is_none());
+    Ok(())
+}
+
+#[test]
+fn each_line_has_its_request(rt: HostRuntime) -> Result<(), NoMemory> {
+    let trees = trace(rt.alloc())?;
+    let places = places_of(rt.alloc(), trees.as_slice())?;
+    for line in 0u64..5 {
+        let found = request_at(trees.as_slice(), places.as_slice(), line).map(|asked| asked.perm());
+        let wanted = (line < 4).then_some(line as u8);
+        assert_eq!(rt; found, wanted);
+    }
+    Ok(())
+}
