@@ -62,6 +62,7 @@ fetches-stopped files want state rose (Status.BadScript name line kind) a b caus
 fetches-stopped files want state rose (Status.TooMany what) a b cause last = absurd cause
 fetches-stopped files want state rose (Status.BadRules line kind) a b cause last = absurd cause
 fetches-stopped files want state rose (Status.BadAudit line) a b cause last = absurd cause
+fetches-stopped files want state rose (Status.BadRun line) a b cause last = absurd cause
 fetches-stopped files want state rose (Status.WriteFault name) a b cause last = absurd cause
 fetches-stopped files want state rose Status.OutOfMemory a b cause last = first-last files want.name a b last
 
@@ -79,6 +80,7 @@ stores-unfetched files held wants rose (Status.BadScript name line kind) a b sto
 stores-unfetched files held wants rose (Status.TooMany what) a b stops none = none
 stores-unfetched files held wants rose (Status.BadRules line kind) a b stops none = none
 stores-unfetched files held wants rose (Status.BadAudit line) a b stops none = none
+stores-unfetched files held wants rose (Status.BadRun line) a b stops none = none
 stores-unfetched files held wants rose (Status.WriteFault name) a b stops none = absurd stops.cause
 stores-unfetched files held wants rose Status.OutOfMemory a b stops none = first-none files a b none
 
@@ -96,6 +98,7 @@ fetches-carried files outcome old new (Status.BadScript name line kind) a b h al
 fetches-carried files outcome old new (Status.TooMany what) a b h all = all
 fetches-carried files outcome old new (Status.BadRules line kind) a b h all = all
 fetches-carried files outcome old new (Status.BadAudit line) a b h all = all
+fetches-carried files outcome old new (Status.BadRun line) a b h all = all
 fetches-carried files outcome old new (Status.WriteFault name) a b h all = all
 fetches-carried files outcome old new Status.OutOfMemory a b h all = first-all files a b all
 
@@ -113,6 +116,7 @@ stores-after files (Status.BadScript name line kind) a b c none h = none-before 
 stores-after files (Status.TooMany what) a b c none h = none-before a b c [] none h
 stores-after files (Status.BadRules line kind) a b c none h = none-before a b c [] none h
 stores-after files (Status.BadAudit line) a b c none h = none-before a b c [] none h
+stores-after files (Status.BadRun line) a b c none h = none-before a b c [] none h
 stores-after files (Status.WriteFault (OutName.File name)) a b c none h = record { before = h.before; after = h.after; all = h.all; noted = none-before a b c (h.before ++ name ∷ []) none h.noted }
 stores-after files (Status.WriteFault OutName.StandardOutput) a b c none h = none-before a b c files none h
 stores-after files Status.OutOfMemory a b c none h = record { made = h.made; left = h.left; all = h.all; noted = none-before a b c h.made none h.noted }

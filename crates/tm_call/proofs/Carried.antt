@@ -47,3 +47,4 @@ carried-after outcome old mid new (Status.BadScript name line kind) quiet h = ab
 carried-after outcome old mid new (Status.TooMany what) quiet h = absurd h.0
 carried-after outcome old mid new (Status.BadRules line kind) quiet h = absurd h.0
 carried-after outcome old mid new (Status.BadAudit line) quiet h = absurd h.0
+carried-after outcome old mid new (Status.BadRun line) quiet h = absurd h.0

@@ -44,6 +44,7 @@ cause-earlier want state a b c (Status.BadScript name line kind) le h = h
 cause-earlier want state a b c (Status.TooMany what) le h = h
 cause-earlier want state a b c (Status.BadRules line kind) le h = h
 cause-earlier want state a b c (Status.BadAudit line) le h = h
+cause-earlier want state a b c (Status.BadRun line) le h = h
 cause-earlier want state a b c (Status.WriteFault name) le h = h
 cause-earlier want state a b c Status.OutOfMemory le h = h
 

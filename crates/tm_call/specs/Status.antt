@@ -20,6 +20,7 @@ exit_code (Status.BadScript name line kind) = 8
 exit_code (Status.TooMany what) = 9
 exit_code (Status.WriteFault name) = 10
 exit_code Status.OutOfMemory = 11
+exit_code (Status.BadRun line) = 13
 exit_code (Status.BadRules line kind) = 14
 exit_code (Status.BadAudit line) = 15
 
@@ -55,5 +56,6 @@ status_text (Status.BadScript name line kind) = line_text (file_text name) line 
 status_text (Status.TooMany what) = codes "too many " ++ what_text what
 status_text (Status.WriteFault name) = codes "can't write " ++ out_text name
 status_text Status.OutOfMemory = codes "out of memory"
+status_text (Status.BadRun line) = line_text (codes "run") line (codes "bad run")
 status_text (Status.BadRules line kind) = line_text (codes "sorter") line (script_text kind)
 status_text (Status.BadAudit line) = line_text (codes "audit") line (codes "bad audit")

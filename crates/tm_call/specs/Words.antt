@@ -10,6 +10,7 @@ command_of word =
     if bytes_eq word (codes "print") then Ok Command.Print
     else if bytes_eq word (codes "step") then Ok Command.Step
     else if bytes_eq word (codes "learn") then Ok Command.Learn
+    else if bytes_eq word (codes "verify") then Ok Command.Verify
     else if bytes_eq word (codes "sort") then Ok Command.Sort
     else Err 0
 
@@ -66,13 +67,22 @@ abbrev pub with_rerun : ℕ → List (List ℕ) → Result Command ℕ
 with_rerun workers [] = Ok (Command.ReplayRerun workers)
 with_rerun workers (word ∷ words) = Err 3
 
--- the words after `replay` and a number of workers: none, or `rerun`
+-- the words after `replay`, a number of workers and `steal`: none
+abbrev pub with_steal : ℕ → List (List ℕ) → Result Command ℕ
+with_steal workers [] = Ok (Command.ReplaySteal workers)
+with_steal workers (word ∷ words) = Err 3
+
+-- the words after `replay` and a number of workers: none, `rerun`, or `steal`
 abbrev pub with_workers : Option ℕ → List (List ℕ) → Result Command ℕ
 with_workers None words = Err 1
 with_workers (Some workers) [] = Ok (Command.Replay workers)
-with_workers (Some workers) (word ∷ words) = if bytes_eq word (codes "rerun") then with_rerun workers words else Err 2
+with_workers (Some workers) (word ∷ words) =
+    if bytes_eq word (codes "rerun") then with_rerun workers words
+    else if bytes_eq word (codes "steal") then with_steal workers words
+    else Err 2
 
--- the words after `replay`: a number of workers, and `rerun` where its run is rerun
+-- the words after `replay`: a number of workers, and `rerun` where its run is rerun, or `steal`
+-- where processes are stolen
 abbrev pub replay_of : List (List ℕ) → Result Command ℕ
 replay_of [] = Err 1
 replay_of (word ∷ words) = with_workers (workers_of word) words
@@ -85,6 +95,7 @@ run_words (word ∷ words) = if bytes_eq word (codes "replay") then replay_of wo
 -- a command that is done without threads
 abbrev pub is_alone : Command → Bool
 is_alone (Command.Replay workers) = false
+is_alone (Command.ReplaySteal workers) = false
 is_alone (Command.ReplayRerun workers) = false
 is_alone _ = true
 
@@ -93,5 +104,6 @@ is_alone _ = true
 abbrev pub IsSized : Command → Type 0
 IsSized (Command.Gen seed size) = size ≤ 4096
 IsSized (Command.Replay workers) = (0 < workers) × (workers ≤ 16)
+IsSized (Command.ReplaySteal workers) = (0 < workers) × (workers ≤ 16)
 IsSized (Command.ReplayRerun workers) = (0 < workers) × (workers ≤ 16)
 IsSized _ = ⊤

@@ -41,6 +41,7 @@ pub enum Status {
     TooMany(What),
     WriteFault(OutName),
     OutOfMemory,
+    BadRun(u64),
     BadRules(u64, ScriptKind),
     BadAudit(u64),
 }
@@ -63,6 +64,7 @@ impl Status {
             Status::TooMany(_) => 9,
             Status::WriteFault(_) => 10,
             Status::OutOfMemory => 11,
+            Status::BadRun(_) => 13,
             Status::BadRules(_, _) => 14,
             Status::BadAudit(_) => 15,
         }
@@ -121,6 +123,7 @@ impl fmt::Display for Status {
             Status::TooMany(what) => write!(f, "too many {what}"),
             Status::WriteFault(name) => write!(f, "can't write {name}"),
             Status::OutOfMemory => f.write_str("out of memory"),
+            Status::BadRun(line) => write!(f, "run line {line}: bad run"),
             Status::BadRules(line, kind) => write!(f, "sorter line {line}: {kind}"),
             Status::BadAudit(line) => write!(f, "audit line {line}: bad audit"),
         }

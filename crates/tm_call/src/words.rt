@@ -1,20 +1,22 @@
 //! The words of a call: which command they name, or the first place at which no form goes on.
 ghost use Rattle.std.specs.Prelude.{◌≡◌, ◌<◌, ◌≤◌, true, map, string_bytes, IfOk, IfSome};
 ghost use Rattle.tm_call.specs.Words.{read_words, command_of, alone, seed_of, size_of, sized, gen_of, is_alone, IsSized};
-ghost use Rattle.tm_call.specs.Words.{run_words, workers_of, with_rerun, replay_of};
+ghost use Rattle.tm_call.specs.Words.{run_words, workers_of, with_rerun, with_steal, replay_of};
 
 use tm_number::plain_number;
 
-/// What the words can ask for; of `gen` with its seed and its size, and of `replay`, without and
-/// with `rerun`, with its number of workers.
+/// What the words can ask for; of `gen` with its seed and its size, and of `replay`, alone, with
+/// `steal` and with `rerun`, with its number of workers.
 #[derive(Clone, Copy)]
 pub enum Command {
     Print,
     Step,
     Learn,
+    Verify,
     Sort,
     Gen(u64, u32),
     Replay(u32),
+    ReplaySteal(u32),
     ReplayRerun(u32),
 }
 
@@ -32,6 +34,9 @@ fn named_by(word: &str) -> Result<Command, u64>
     }
     if word == "learn" {
         return Ok(Command::Learn);
+    }
+    if word == "verify" {
+        return Ok(Command::Verify);
     }
     if word == "sort" {
         return Ok(Command::Sort);
@@ -160,6 +165,19 @@ fn with_rerun(workers: u32, others: &[String]) -> Result<Command, u64>
     }
 }
 
+// The words after `replay`, a number of workers and `steal`.
+fn with_steal(workers: u32, others: &[String]) -> Result<Command, u64>
+    requires some { 0 < workers }
+    requires few { workers ≤ 16 }
+    ensures exact { result ≡ with_steal workers (map string_bytes others.now) }
+    ensures sized { IfOk result IsSized }
+{
+    match others {
+        [] => Ok(Command::ReplaySteal(workers)),
+        [_, ..] => Err(3),
+    }
+}
+
 // The words after `replay`.
 fn replay_of(others: &[String]) -> Result<Command, u64>
     ensures exact { result ≡ replay_of (map string_bytes others.now) }
@@ -174,6 +192,8 @@ fn replay_of(others: &[String]) -> Result<Command, u64>
                 [word, others @ ..] => {
                     if word.as_str() == "rerun" {
                         with_rerun(workers, others)
+                    } else if word.as_str() == "steal" {
+                        with_steal(workers, others)
                     } else {
                         Err(2)
                     }

@@ -1,6 +1,6 @@
 -- What was read can be played.
 use Rattle.std.proofs.Common.{◌≡◌, ℕ, ◌+◌, Bool, true, false, not, ◌&&◌, List, [], ◌∷◌, length, refl, sym, ap, ◌∙◌, subst}
-use Rattle.std.specs.Prelude.{Option, Some, None, Result, Ok, Err, IsSome, is_some, if◌then◌else◌}
+use Rattle.std.specs.Prelude.{Option, Some, None, Result, Ok, Err, IsSome, is_some, nat_lt, if◌then◌else◌}
 use Rattle.std.specs.List.{AllByRecursion, position_from, list_all}
 use Rattle.tm_word.specs.Words.{Text}
 use Rattle.tm_word.specs.Gives.{◌>>=◌}
@@ -21,18 +21,21 @@ use Rattle.tm_grammar.proofs.IsOne.{is_one}
 use Rattle.tm_trace.specs.Reading.{trace_of}
 use Rattle.tm_trace.proofs.EachAsked.{requests_bounded}
 use Rattle.tm_trace.proofs.TraceRead.{trace_read}
+use Rattle.tm_run.specs.Reading as run
+use Rattle.tm_types.specs.declared.step.Run.{Run}
 use Rattle.tm_script.specs.Edits.{edits_of}
 use Rattle.tm_script.specs.Answers.{answers_of}
 use Rattle.tm_script.specs.Schedule.{schedule_of}
-use Rattle.tm_script.specs.Written.{is_rule, is_book, has_supervisor}
+use Rattle.tm_script.specs.Written.{is_rule, is_book, has_supervisor, edit_count}
 use Rattle.tm_script.proofs.ReadLaws.{books_right}
 use Rattle.tm_legal.specs.Play.{CanPlay, ends_so, book_ends}
 use Rattle.tm_legal.proofs.Loads.{loads_opened}
 use Rattle.tm_call.specs.declared.status.What.{What}
 use Rattle.tm_call_input.specs.declared.reading.Loaded.{Loaded}
+use Rattle.tm_call_input.specs.declared.reading.Judging.{Judging}
 use Rattle.tm_call.specs.Fetches.{Texts, content}
 use Rattle.tm_call_input.specs.Policies.{policy_files, policy_of}
-use Rattle.tm_call_input.specs.Reading.{of_policy, of_trace, of_script, excess, homeless, within_limits, with_homes, admitted, parts_reading, scene_reading, step_reading, scene_of}
+use Rattle.tm_call_input.specs.Reading.{of_policy, of_trace, of_script, of_run, record_count, excess, homeless, within_limits, with_homes, admitted, parts_reading, scene_reading, step_reading, judging_reading, scene_of}
 
 -- Readings in steps
 
@@ -132,6 +135,81 @@ step-read texts loaded e =
     let (schedule, s, after_schedule) =
     bound (of_script FileName.Schedule (schedule_of (length parts.trace) (length parts.editors) (content texts FileName.Schedule))) _ loaded after_parts in
     are-read texts parts loaded schedule (parts-are texts parts p) after_schedule
+
+-- what is within all limits with some turns is so without turns
+fewer : (a b c d e : Bool) (v w x y z : What)
+    → (if a then Some v else if b then Some w else if c then Some x else if d then Some y else if e then Some z else None) ≡ None
+    → (if a then Some v else if b then Some w else if c then Some x else if d then Some y else None) ≡ None
+fewer true b c d e v w x y z h = absurd cc
+fewer false true c d e v w x y z h = absurd cc
+fewer false false true d e v w x y z h = absurd cc
+fewer false false false true e v w x y z h = absurd cc
+fewer false false false false e v w x y z h = refl
+
+no-excess : (o : Option What) (loaded few : Loaded) → within_limits o loaded ≡ Ok few → o ≡ None
+no-excess None loaded few e = refl
+no-excess (Some what) loaded few e = absurd cc
+
+-- what is admitted with turns is admitted without them
+admitted-alone : (text : Text) (parts loaded : Loaded) (turns : List Turn) → parts.schedule ≡ []
+    → admitted text (record parts { schedule = turns }) ≡ Ok loaded → admitted text parts ≡ Ok (record loaded { schedule = [] })
+admitted-alone text parts loaded turns none e =
+    let turned : Loaded = record parts { schedule = turns } in
+    let (few, within, homes) = bound (within_limits (excess turned) turned) (λ few. with_homes text (homeless few.policy few.trace) few) loaded e in
+    let same : few ≡ turned = within-read (excess turned) turned few within in
+    let told = homes-read text (homeless few.policy few.trace) few loaded homes in
+    let is : loaded ≡ turned = told.0 ∙ same in
+    let home : homeless parts.policy parts.trace ≡ None = subst (λ (l : Loaded). homeless l.policy l.trace ≡ None) same told.1 in
+    let limits : excess parts ≡ None =
+    rw none (fewer (nat_lt 200000 (record_count parts.trace)) (nat_lt 4096 (length parts.trace)) (nat_lt 10000 (edit_count parts.editors)) (nat_lt 8 (length parts.editors)) (nat_lt 1000000 (length turns))
+    What.Records What.Trees What.Edits What.Editors What.Turns (no-excess (excess turned) turned few within)) in
+    let left : record loaded { schedule = [] } ≡ parts = ap (λ (l : Loaded). record l { schedule = [] }) is ∙ unturned parts none in
+    rw (limits, home) (ap (λ (l : Loaded). Ok l) (sym left))
+  where
+    unturned : (parts : Loaded) → parts.schedule ≡ [] → record parts { schedule = [] } ≡ parts
+    unturned parts none = ap (λ (turns : List Turn). record parts { schedule = turns }) (sym none)
+
+-- the parts have no schedule
+parts-alone : (texts : Texts) (parts : Loaded) → parts_reading texts ≡ Ok parts → parts.schedule ≡ []
+unfolding parts_reading
+parts-alone texts parts e =
+    let (policy, p, after_policy) = bound (of_policy (policy_of texts)) _ parts e in
+    let (trace, t, after_trace) = bound (of_trace (trace_of (content texts FileName.Trace))) _ parts after_policy in
+    let (editors, d, after_editors) = bound (of_script FileName.Edits (edits_of (content texts FileName.Edits))) _ parts after_trace in
+    let (book, b, after_book) = bound (of_script FileName.Answers (answers_of (content texts FileName.Answers))) _ parts after_editors in
+    ap (λ (l : Loaded). l.schedule) (sym (done-is (record { policy = policy; trace = trace; editors = editors; book = book; schedule = [] }) parts after_book))
+
+-- what is read with a schedule is read without one
+pub step-scene : (texts : Texts) (loaded : Loaded) → step_reading texts ≡ Ok loaded → scene_reading texts ≡ Ok (record loaded { schedule = [] })
+unfolding step_reading scene_reading
+step-scene texts loaded e =
+    let (parts, p, after_parts) = bound (parts_reading texts) _ loaded e in
+    let (schedule, s, after_schedule) =
+    bound (of_script FileName.Schedule (schedule_of (length parts.trace) (length parts.editors) (content texts FileName.Schedule))) _ loaded after_parts in
+    rw p (admitted-alone (content texts FileName.Trace) parts loaded schedule (parts-alone texts parts p) after_schedule)
+
+-- what is judged: its scene is read, and then its run
+pub record IsJudgingRead (texts : Texts) (judging : Judging) : Type 0 where
+  pub scene : scene_reading texts ≡ Ok judging.scene
+  pub run_is : run.run_of (content texts FileName.Run) ≡ Ok judging.run
+
+run-read : (r : Result Run ℕ) (x : Run) → of_run r ≡ Ok x → r ≡ Ok x
+run-read (Ok y) x e = let same : y ≡ x = cc in ap Ok same
+run-read (Err line) x e = absurd cc
+
+abbrev judged : Judging → Result Judging Status
+judged judging = Ok judging
+
+judging-is : (x y : Judging) → judged x ≡ judged y → x ≡ y
+judging-is x y e = cc
+
+pub judging-read : (texts : Texts) (judging : Judging) → judging_reading texts ≡ Ok judging → IsJudgingRead texts judging
+unfolding judging_reading
+judging-read texts judging e =
+    let (scene, s, after_scene) = bound (scene_reading texts) _ judging e in
+    let (given, r, after_run) = bound (of_run (run.run_of (content texts FileName.Run))) _ judging after_scene in
+    let same : record { scene = scene; run = given } ≡ judging = judging-is (record { scene = scene; run = given }) judging after_run in
+    subst (IsJudgingRead texts) same (record { scene = s; run_is = run-read (run.run_of (content texts FileName.Run)) given r })
 
 -- Playing
 

@@ -1,5 +1,5 @@
 -- How the readings of files are refused.
-use Rattle.std.proofs.Common.{◌≡◌, ℕ, Option, Some, None, Result, Ok, Err, ap, refl, subst, ◌⊎◌, inl, inr, length}
+use Rattle.std.proofs.Common.{◌≡◌, ℕ, Option, Some, None, Result, Ok, Err, ap, refl, sym, subst, ◌⊎◌, inl, inr, length}
 use Rattle.std.specs.Prelude.{unwrap_or}
 use Rattle.tm_word.specs.Words.{Text}
 use Rattle.tm_word.specs.Gives.{◌>>=◌, Fails}
@@ -14,12 +14,14 @@ use Rattle.tm_types.specs.declared.step.FileKind.{FileKind}
 use Rattle.tm_types.specs.declared.step.EditReply.{EditReply}
 use Rattle.tm_types.specs.declared.step.LoadFault.{LoadFault}
 use Rattle.tm_trace.specs.Reading.{trace_of, tree_line_at}
+use Rattle.tm_types.specs.declared.step.Run.{Run}
+use Rattle.tm_run.specs.Reading as run
 use Rattle.tm_script.specs.Edits.{edits_of}
 use Rattle.tm_script.specs.Answers.{answers_of}
 use Rattle.tm_script.specs.Schedule.{schedule_of}
 use Rattle.tm_call.specs.Fetches.{Texts, content}
 use Rattle.tm_call_input.specs.Policies.{policy_of, fault_status, load_refusal}
-use Rattle.tm_call_input.specs.Reading.{of_policy, of_trace, of_script, excess, homeless, within_limits, with_homes, admitted, refused, parts_reading, scene_reading, step_reading, step_refusal, status_cause, RefusedBy}
+use Rattle.tm_call_input.specs.Reading.{of_policy, of_trace, of_script, of_run, excess, homeless, within_limits, with_homes, admitted, refused, parts_reading, scene_reading, step_reading, judging_reading, step_refusal, status_cause, RefusedBy}
 
 -- What isn't read
 
@@ -103,6 +105,23 @@ pub step-refused : (texts : Texts) (status : Status) → step_refusal texts ≡ 
 unfolding step_refusal
 step-refused texts status e = step-fails texts status (was-refused (step_reading texts) status e)
 
+-- a fault of a given run
+abbrev pub IsRunFault : Status → Type 0
+IsRunFault status = (line : ℕ) × (status ≡ Status.BadRun line)
+
+run-fault : (r : Result Run ℕ) (status : Status) → of_run r ≡ Err status → IsRunFault status
+run-fault (Ok x) status e = absurd cc
+run-fault (Err line) status e = let same : Status.BadRun line ≡ status = cc in (line, sym same)
+
+-- what is judged is refused as its scene is, or by its run
+pub judging-refused : (texts : Texts) (status : Status) → refused (judging_reading texts) ≡ Some status
+    → (refused (scene_reading texts) ≡ Some status) ⊎ IsRunFault status
+unfolding judging_reading
+judging-refused texts status e =
+    failed (λ (s : Status). (refused (scene_reading texts) ≡ Some s) ⊎ IsRunFault s) (scene_reading texts) _ status (λ s is. inl (ap refused is))
+    (λ scene after_scene. failed (λ (s : Status). (refused (scene_reading texts) ≡ Some s) ⊎ IsRunFault s) (of_run (run.run_of (content texts FileName.Run))) _ status
+    (λ s is. inr (run-fault (run.run_of (content texts FileName.Run)) s is)) (λ given after_run. absurd cc) after_scene) (was-refused (judging_reading texts) status e)
+
 -- The statuses of refusals
 
 abbrev pub IsRefusal : Status → Type 0
@@ -132,6 +151,7 @@ later-kind (Status.BadPolicy file line reply) h = tt
 later-kind (Status.UndefinedProfile domain) h = tt
 later-kind (Status.BadRules line kind) h = h
 later-kind (Status.BadAudit line) h = h
+later-kind (Status.BadRun line) h = h
 later-kind (Status.WriteFault name) h = h
 later-kind Status.OutOfMemory h = tt
 
@@ -184,4 +204,5 @@ refuses read (Status.BadScript name line kind) h = ap refused h
 refuses read (Status.TooMany what) h = ap refused h
 refuses read (Status.BadRules line kind) h = ap refused h
 refuses read (Status.BadAudit line) h = ap refused h
+refuses read (Status.BadRun line) h = ap refused h
 refuses read (Status.WriteFault name) h = ap refused h

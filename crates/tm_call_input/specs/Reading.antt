@@ -13,6 +13,7 @@ use Rattle.tm_types.specs.declared.step.Start.{Start}
 use Rattle.tm_types.specs.declared.step.LoadFault.{LoadFault}
 use Rattle.tm_io.specs.declared.names.FileName.{FileName}
 use Rattle.tm_trace.specs.Reading.{trace_of, tree_line_at}
+use Rattle.tm_run.specs.Reading.{run_of}
 use Rattle.tm_script.specs.Edits.{edits_of}
 use Rattle.tm_script.specs.Answers.{answers_of}
 use Rattle.tm_script.specs.Schedule.{schedule_of}
@@ -22,6 +23,7 @@ use Rattle.tm_core.specs.Scenes as scenes
 use Rattle.tm_call.specs.declared.status.Status.{Status}
 use Rattle.tm_call.specs.declared.status.What.{What}
 use Rattle.tm_call_input.specs.declared.reading.Loaded.{Loaded}
+use Rattle.tm_call_input.specs.declared.reading.Judging.{Judging}
 use Rattle.tm_call.specs.Fetches.{Texts, content}
 use Rattle.tm_call_input.specs.Policies.{policy_of, fault_status}
 
@@ -42,6 +44,11 @@ of_trace (Err fault) = Err (Status.BadTrace fault.0 fault.1)
 abbrev pub of_script : {A : Type 0} → FileName → Result A (ℕ × ScriptKind) → Result A Status
 of_script name (Ok x) = Ok x
 of_script name (Err fault) = Err (Status.BadScript name fault.0 fault.1)
+
+-- how a fault of a given run ends the call
+abbrev pub of_run : {A : Type 0} → Result A ℕ → Result A Status
+of_run (Ok x) = Ok x
+of_run (Err line) = Err (Status.BadRun line)
 
 -- how many `do`, `ids` and `fork` lines a trace has
 abbrev pub record_count : Trace → ℕ
@@ -90,6 +97,14 @@ parts_reading texts = do
 -- what is played or judged without a schedule
 unfoldable pub scene_reading : Texts → Result Loaded Status
 scene_reading texts = parts_reading texts >>= λ parts. admitted (content texts FileName.Trace) parts
+
+-- a scene with the run that a text gives
+abbrev pub with_run : Text → Loaded → Result Judging Status
+with_run text scene = of_run (run_of text) >>= λ run. Ok (record { scene = scene; run = run })
+
+-- a given run is read after all that it is judged by
+unfoldable pub judging_reading : Texts → Result Judging Status
+judging_reading texts = scene_reading texts >>= λ scene. with_run (content texts FileName.Run) scene
 
 -- what is played by a schedule, which is read before anything is compared with its limit
 unfoldable pub step_reading : Texts → Result Loaded Status

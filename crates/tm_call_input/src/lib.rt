@@ -1,5 +1,5 @@
-//! What the files of a call hold: the policy, the trace, the edits, the answers and the schedule.
-//! Stands on tm_call, and on the crates that load policies and read traces and scripts.
+//! What the files of a call hold: the policy, the trace, the scripts, and a run to be judged.
+//! Stands on tm_call, and on the crates that load policies and read traces, scripts and runs.
 //! Promises that all is read as defined, or that the first that is refused is named.
 #![tactic(auto)]
 
@@ -7,4 +7,4 @@ mod policies;
 mod reading;
 
 pub use policies::{load_files, load_indexed_files};
-pub use reading::{Loaded, homeless, read_scene, read_step};
+pub use reading::{Judging, Loaded, homeless, read_judging, read_scene, read_step};

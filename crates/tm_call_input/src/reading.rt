@@ -11,7 +11,7 @@ ghost use Rattle.tm_script.specs.Written.{edit_count};
 ghost use Rattle.tm_io.specs.declared.names.FileName.{FileName};
 ghost use Rattle.tm_call.specs.Fetches.{content};
 ghost use Rattle.tm_call_input.specs.Policies.{OthersStay, policy_of};
-ghost use Rattle.tm_call_input.specs.Reading.{status_cause, of_policy, of_trace, of_script, record_count, excess, homeless, admitted, parts_reading, scene_reading, step_reading};
+ghost use Rattle.tm_call_input.specs.Reading.{status_cause, of_policy, of_trace, of_script, record_count, excess, homeless, admitted, parts_reading, scene_reading, step_reading, with_run, judging_reading};
 
 use crate::policies::load_indexed_files;
 use std::alloc::Global;
@@ -20,10 +20,11 @@ use tm_indexed::Indexed;
 use tm_io::{FileList, FileName};
 use tm_list::Seq;
 use tm_rep::Rep;
+use tm_run::read_run;
 use tm_script::{read_answers, read_edits, read_schedule};
 use tm_trace::{read_trace, tree_line_at};
 use tm_types::request::{ScriptFault, Trace, TraceFault, TraceKind, Tree};
-use tm_types::step::{Book, Editor, Turn};
+use tm_types::step::{Book, Editor, Run, RunFault, Turn};
 
 /// What is played: the opening, the trace, the editors with their edits, the supervisor's book, and
 /// the schedule, which has no turn where none is read.
@@ -34,6 +35,13 @@ pub struct Loaded {
     pub editors: Seq<Editor>,
     pub book: Book,
     pub schedule: Seq<Turn>,
+}
+
+/// A run that is to be judged, and the scene that it is judged by, which has no schedule.
+#[derive(Drop)]
+pub struct Judging {
+    pub scene: Loaded,
+    pub run: Run,
 }
 
 // Reads the trace.
@@ -231,4 +239,32 @@ pub fn read_step(alloc: Global, texts: FileList) -> Result<Loaded, Status>
     let mut loaded = read_parts(alloc, &mut texts)?;
     loaded.schedule = schedule_in(alloc, &texts, loaded.trace.len(), loaded.editors.len())?;
     admit(text_at(&texts, FileName::Trace), loaded)
+}
+
+// A scene with the run that a text gives.
+fn with_run(alloc: Global, text: &[u8], scene: Loaded) -> Result<Judging, Status>
+    requires { IsFew scene.policy }
+    ensures exact { Gives status_cause (λ judging. judging) result (with_run text.now scene) }
+    ensures few { IfOk result (λ judging. IsFew judging.scene.policy) }
+{
+    match read_run(alloc, text) {
+        Ok(run) => Ok(Judging { scene, run }),
+        Err(RunFault::BadLine(line)) => Err(Status::BadRun(line)),
+        Err(RunFault::NoMemory) => Err(Status::OutOfMemory),
+    }
+}
+
+/// Reads what `read_scene` reads, and then a given run: what is judged. The texts are dropped when
+/// they are read.
+///
+/// Errors: those of `read_scene`, and then the first faulty line of the run; want of memory.
+#[tactic(auto, unfolding(crate::specs::Reading::scene_reading, crate::specs::Reading::judging_reading))]
+pub fn read_judging(alloc: Global, texts: FileList) -> Result<Judging, Status>
+    ensures exact { Gives status_cause (λ judging. judging) result (judging_reading texts) }
+    ensures few { IfOk result (λ judging. IsFew judging.scene.policy) }
+{
+    let mut texts = texts;
+    let loaded = read_parts(alloc, &mut texts)?;
+    let scene = admit(text_at(&texts, FileName::Trace), loaded)?;
+    with_run(alloc, text_at(&texts, FileName::Run), scene)
 }

@@ -11,7 +11,7 @@ use Rattle.tm_call.specs.Fetches.{Texts, AllGiven, FetchStops}
 use Rattle.tm_call.specs.Stores.{names_of}
 use Rattle.tm_call.specs.Ends.{Outside, Untouched, Ends, CarriedOut}
 use Rattle.tomoyo.specs.Call.{wants_of, Refuses, Allows, CommandCause, IsGenEnd, GenEnds}
-use Rattle.tomoyo.proofs.Refusals.{refusal-kind, bad-policy, undefined-profile, bad-trace, bad-script, too-many, bad-rules, bad-audit}
+use Rattle.tomoyo.proofs.Refusals.{refusal-kind, bad-policy, undefined-profile, bad-trace, bad-script, too-many, bad-rules, bad-audit, bad-run}
 use Rattle.tomoyo.proofs.Named.{names-allowed, named-by}
 use Rattle.tm_call.proofs.Others.{named-at, self-same}
 
@@ -31,6 +31,7 @@ fetch-cause command old new (Status.BadScript name line kind) stops untouched = 
 fetch-cause command old new (Status.TooMany what) stops untouched = absurd stops.cause
 fetch-cause command old new (Status.BadRules line kind) stops untouched = absurd stops.cause
 fetch-cause command old new (Status.BadAudit line) stops untouched = absurd stops.cause
+fetch-cause command old new (Status.BadRun line) stops untouched = absurd stops.cause
 
 -- a refusal of what was read
 refused-cause : (command : Command) (old new : Outside) (texts : Texts) (status : Status) → AllGiven old.files (wants_of command) texts → Refuses command texts status → Untouched old new → CommandCause command old new status
@@ -47,6 +48,7 @@ refused-cause command old new texts (Status.BadTrace line kind) given refused un
 refused-cause command old new texts (Status.BadScript name line kind) given refused untouched = (bad-script command old.files texts name line kind given refused, untouched)
 refused-cause command old new texts (Status.TooMany what) given refused untouched = (too-many command old.files texts what given refused, untouched)
 refused-cause command old new texts (Status.BadRules line kind) given refused untouched = (bad-rules command old.files texts line kind given refused, untouched)
+refused-cause command old new texts (Status.BadRun line) given refused untouched = (bad-run command old.files texts line given refused, untouched)
 refused-cause command old new texts (Status.BadAudit line) given refused untouched = (bad-audit command old.files texts line given refused, untouched)
 
 -- an outcome that is carried out
@@ -67,6 +69,7 @@ carried-cause command old new texts outcome (Status.BadScript name line kind) al
 carried-cause command old new texts outcome (Status.TooMany what) allowed h = absurd h.0
 carried-cause command old new texts outcome (Status.BadRules line kind) allowed h = absurd h.0
 carried-cause command old new texts outcome (Status.BadAudit line) allowed h = absurd h.0
+carried-cause command old new texts outcome (Status.BadRun line) allowed h = absurd h.0
 
 pub cause-of : (command : Command) (old new : Outside) (status : Status) → Ends (wants_of command) (Refuses command) (Allows command) old new status → CommandCause command old new status
 cause-of command old new status (Ends.Not_fetched stops untouched) = fetch-cause command old new status stops untouched
@@ -101,12 +104,15 @@ gen-end seed size old new (Status.BadScript name line kind) cause = absurd cause
 gen-end seed size old new (Status.TooMany what) cause = neither cause.0
 gen-end seed size old new (Status.BadRules line kind) cause = absurd cause.0
 gen-end seed size old new (Status.BadAudit line) cause = absurd cause.0
+gen-end seed size old new (Status.BadRun line) cause = absurd cause.0
 
 pub gen-ends : (command : Command) (old new : Outside) (status : Status) → CommandCause command old new status → GenEnds (Ok command) old new status
 gen-ends (Command.Gen seed size) old new status cause = gen-end seed size old new status cause
 gen-ends Command.Step old new status cause = tt
 gen-ends Command.Learn old new status cause = tt
 gen-ends Command.Print old new status cause = tt
+gen-ends Command.Verify old new status cause = tt
 gen-ends Command.Sort old new status cause = tt
 gen-ends (Command.Replay workers) old new status cause = tt
+gen-ends (Command.ReplaySteal workers) old new status cause = tt
 gen-ends (Command.ReplayRerun workers) old new status cause = tt

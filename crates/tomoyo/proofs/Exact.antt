@@ -30,6 +30,7 @@ fetch-exact command files rose (Status.BadScript name line kind) tells stops = a
 fetch-exact command files rose (Status.TooMany what) tells stops = absurd stops.cause
 fetch-exact command files rose (Status.BadRules line kind) tells stops = absurd stops.cause
 fetch-exact command files rose (Status.BadAudit line) tells stops = absurd stops.cause
+fetch-exact command files rose (Status.BadRun line) tells stops = absurd stops.cause
 
 -- what was read decides
 refused-answer : (command : Command) (files : Files) (texts : Texts) (status : Status) → TellsAll files → AllGiven files (wants_of command) texts → refusal_of command texts ≡ Some status → answer_of command files ≡ status
@@ -58,6 +59,7 @@ refused-exact command files texts (Status.BadScript name line kind) tells given 
 refused-exact command files texts (Status.TooMany what) tells given refused = refused-answer command files texts (Status.TooMany what) tells given refused
 refused-exact command files texts (Status.BadRules line kind) tells given refused = refused-answer command files texts (Status.BadRules line kind) tells given refused
 refused-exact command files texts (Status.BadAudit line) tells given refused = refused-answer command files texts (Status.BadAudit line) tells given refused
+refused-exact command files texts (Status.BadRun line) tells given refused = refused-answer command files texts (Status.BadRun line) tells given refused
 
 -- an outcome that is carried out
 carried-exact : (answer : Status) (old new : Outside) (outcome : Outcome) (status : Status) → answer ≡ Status.Done → CarriedOut outcome old new status → Answers answer status
@@ -75,6 +77,7 @@ carried-exact answer old new outcome (Status.BadScript name line kind) is h = ab
 carried-exact answer old new outcome (Status.TooMany what) is h = absurd h.0
 carried-exact answer old new outcome (Status.BadRules line kind) is h = absurd h.0
 carried-exact answer old new outcome (Status.BadAudit line) is h = absurd h.0
+carried-exact answer old new outcome (Status.BadRun line) is h = absurd h.0
 
 pub exact-of : (command : Command) (old new : Outside) (status : Status) → Ends (wants_of command) (Refuses command) (Allows command) old new status → TellsAll old.files → Answers (answer_of command old.files) status
 exact-of command old new status (Ends.Not_fetched stops untouched) tells = fetch-exact command old.files _ status tells stops
@@ -99,3 +102,4 @@ complete-by command answer old new (Status.BadScript name line kind) cause exact
 complete-by command answer old new (Status.TooMany what) cause exact shelf sink = inl (sym exact)
 complete-by command answer old new (Status.BadRules line kind) cause exact shelf sink = inl (sym exact)
 complete-by command answer old new (Status.BadAudit line) cause exact shelf sink = inl (sym exact)
+complete-by command answer old new (Status.BadRun line) cause exact shelf sink = inl (sym exact)

@@ -23,10 +23,12 @@ use Rattle.tm_call.specs.Ends.{Outside, Ends, CarriedOut}
 use Rattle.tomoyo.specs.Play.{Plays}
 use Rattle.tm_gen_laws.specs.Generated.{generated_files}
 use Rattle.tm_call_input.specs.Policies.{policy_of}
+use Rattle.tm_call_input.specs.declared.reading.Judging.{Judging}
+use Rattle.tm_call_input.specs.Reading.{judging_reading}
 use Rattle.tomoyo.specs.Rerun.{Learns}
 use Rattle.tomoyo.specs.Print.{printed_policy}
 use Rattle.tomoyo.specs.Sort.{part_store, sort_reading}
-use Rattle.tomoyo.specs.Call.{wants_of, stored_by, step_stores, rerun_stores, learn_stores, with_stores, policy_stores, MakesPlayed, MakesLearned, Refuses, Allows, IsPlayed, IsLearned, IsGenerated, IsShown, IsSorted, HasDone}
+use Rattle.tomoyo.specs.Call.{wants_of, stored_by, step_stores, rerun_stores, learn_stores, with_stores, policy_stores, MakesPlayed, MakesLearned, Refuses, Allows, IsPlayed, IsLearned, IsGenerated, IsShown, IsJudged, IsSorted, HasDone}
 use Rattle.tomoyo.proofs.Refusals.{refusal-kind}
 use Rattle.tomoyo.proofs.Named.{names-allowed, unnamed-by}
 use Rattle.tm_call.proofs.Others.{changed-other, not-first, not-later, stored-other, leaves-other, cut-other, first-other, self-same}
@@ -63,6 +65,7 @@ carried-others old new outcome (Status.BadScript named line kind) name h e = abs
 carried-others old new outcome (Status.TooMany what) name h e = absurd h.0
 carried-others old new outcome (Status.BadRules line kind) name h e = absurd h.0
 carried-others old new outcome (Status.BadAudit line) name h e = absurd h.0
+carried-others old new outcome (Status.BadRun line) name h e = absurd h.0
 
 pub kept-of : (command : Command) (old new : Outside) (status : Status) → Ends (wants_of command) (Refuses command) (Allows command) old new status → (name : FileName) → is_named (stored_by command) name ≡ false → new.files name ≡ old.files name
 kept-of command old new status (Ends.Not_fetched stops untouched) name e = untouched.files name
@@ -200,6 +203,20 @@ sort-done old new (Ends.Made texts outcome given allowed carried) tells =
     rising : Rising 0 part_numbers
     rising = search arith
 
+-- a verify that is done
+verify-done : (old new : Outside) → Ends (wants_of Command.Verify) (Refuses Command.Verify) (Allows Command.Verify) old new Status.Done → TellsAll old.files → IsJudged old new
+verify-done old new (Ends.Not_fetched stops untouched) tells = absurd stops.cause
+verify-done old new (Ends.Refused texts given refused untouched) tells = absurd (refusal-kind Command.Verify texts Status.Done refused)
+verify-done old new (Ends.Made texts outcome given allowed carried) tells =
+    let (judging, broken, reads, verdict, is) = allowed.1 in
+    record {
+      judging = judging;
+      reads = subst (λ (ts : Texts). judging_reading ts ≡ Ok judging) (texts-told old.files (wants_of Command.Verify) texts tells given) reads;
+      broken = broken;
+      verdict = verdict;
+      line = carried.1 ∙ ap (λ (o : Outcome). then_bytes o.line old.written) is;
+    }
+
 -- a print that is done
 print-done : (old new : Outside) → Ends (wants_of Command.Print) (Refuses Command.Print) (Allows Command.Print) old new Status.Done → TellsAll old.files → IsShown old new
 print-done old new (Ends.Not_fetched stops untouched) tells = absurd stops.cause
@@ -230,11 +247,15 @@ headline-of Command.Learn old new status ends = λ tells is.
     learned-done Way.ByTurns Command.Learn old new (λ texts outcome allowed. allowed.1) (done-ends Command.Learn old new status ends is) tells
 headline-of (Command.Gen seed size) old new status ends = λ tells is.
     gen-done seed size old new (done-ends (Command.Gen seed size) old new status ends is) tells
+headline-of Command.Verify old new status ends = λ tells is.
+    verify-done old new (done-ends Command.Verify old new status ends is) tells
 headline-of Command.Sort old new status ends = λ tells is.
     sort-done old new (done-ends Command.Sort old new status ends is) tells
 headline-of Command.Print old new status ends = λ tells is.
     print-done old new (done-ends Command.Print old new status ends is) tells
 headline-of (Command.Replay workers) old new status ends = λ tells is.
     played-done Way.OnThreads (Command.Replay workers) old new (λ texts outcome allowed. allowed.1) (done-ends (Command.Replay workers) old new status ends is) tells
+headline-of (Command.ReplaySteal workers) old new status ends = λ tells is.
+    played-done Way.OnThreads (Command.ReplaySteal workers) old new (λ texts outcome allowed. allowed.1) (done-ends (Command.ReplaySteal workers) old new status ends is) tells
 headline-of (Command.ReplayRerun workers) old new status ends = λ tells is.
     learned-done Way.OnThreads (Command.ReplayRerun workers) old new (λ texts outcome allowed. allowed.1) (done-ends (Command.ReplayRerun workers) old new status ends is) tells

@@ -9,3 +9,4 @@ pub mod ReadBack
 pub mod Playing
 pub mod Rerunning
 pub mod WayLaws
+pub mod Verified

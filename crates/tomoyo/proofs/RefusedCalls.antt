@@ -24,6 +24,7 @@ fetches-refused command files texts (Status.BadScript name line kind) a b refuse
 fetches-refused command files texts (Status.TooMany what) a b refused all = all
 fetches-refused command files texts (Status.BadRules line kind) a b refused all = all
 fetches-refused command files texts (Status.BadAudit line) a b refused all = all
+fetches-refused command files texts (Status.BadRun line) a b refused all = all
 fetches-refused command files texts (Status.WriteFault name) a b refused all = all
 fetches-refused command files texts Status.OutOfMemory a b refused all = first-all files a b all
 
@@ -40,5 +41,6 @@ stores-refused command files texts (Status.BadScript name line kind) a b refused
 stores-refused command files texts (Status.TooMany what) a b refused none = none
 stores-refused command files texts (Status.BadRules line kind) a b refused none = none
 stores-refused command files texts (Status.BadAudit line) a b refused none = none
+stores-refused command files texts (Status.BadRun line) a b refused none = none
 stores-refused command files texts (Status.WriteFault name) a b refused none = absurd (refusal-kind command texts (Status.WriteFault name) refused)
 stores-refused command files texts Status.OutOfMemory a b refused none = first-none files a b none

@@ -23,12 +23,19 @@ use Rattle.tomoyo.specs.declared.learn.RerunTexts.{RerunTexts}
 use Rattle.tomoyo.specs.declared.learn.Learned.{Learned}
 use Rattle.tomoyo.specs.declared.way.Way.{Way}
 use Rattle.tm_call.specs.declared.words.Command.{Command}
-use Rattle.tm_call.specs.Fetches.{want, Texts, AllGiven, FetchStops, TellsAll, told_texts, or_else, first_unread}
+use Rattle.tm_call.specs.Fetches.{want, Texts, AllGiven, FetchStops, TellsAll, told, told_texts, or_else, first_unread}
 use Rattle.tm_call.specs.Stores.{is_named}
 use Rattle.tm_io.specs.Notes.{Noted}
 use Rattle.tm_call.specs.Calls.{Names, wanted, FetchesOf, StoresOf}
 use Rattle.tm_call.specs.Ends.{Outside, Untouched, Ends}
-use Rattle.tm_call_input.specs.Reading.{refused, scene_reading, step_refusal, RefusedBy}
+use Rattle.tm_types.specs.declared.step.Run.{Run}
+use Rattle.tm_legal.specs.Legal.{Legal}
+use Rattle.tm_run.specs.Reading.{run_of}
+use Rattle.tm_call_input.specs.declared.reading.Loaded.{Loaded}
+use Rattle.tm_call_input.specs.declared.reading.Judging.{Judging}
+use Rattle.tm_call_input.specs.Reading.{refused, scene_reading, judging_reading, step_refusal, scene_of, RefusedBy}
+use Rattle.tm_verify_laws.specs.declared.broken.Broken.{Broken}
+use Rattle.tm_verify.specs.Verified.{IsVerified}
 use Rattle.tomoyo.specs.Play.{Plays}
 use Rattle.tomoyo.specs.Rerun.{Learns}
 use Rattle.tm_call_input.specs.Policies.{policy_of, policy_refusal}
@@ -39,6 +46,7 @@ use Rattle.tm_sort.specs.Parts.{part_numbers, is_part, named_numbers, parts_of, 
 use Rattle.tomoyo.specs.declared.sort.Sorting.{Sorting}
 use Rattle.tomoyo.specs.Print.{counts_text, printed_policy}
 use Rattle.tomoyo.specs.Sort.{sort_reading, sort_outcome}
+use Rattle.tomoyo.specs.Verify.{verdict_text, verify_outcome}
 
 -- what is played on threads, in order: there is no schedule
 abbrev pub scene_wants : List Want
@@ -56,9 +64,13 @@ wants_of Command.Print =
 wants_of Command.Learn =
     want FileName.Profile true ∷ want FileName.ExceptionPolicy false ∷ want FileName.DomainPolicy true ∷ want FileName.Manager false
     ∷ want FileName.Trace true ∷ want FileName.Edits false ∷ want FileName.Answers false ∷ want FileName.Schedule false ∷ []
+wants_of Command.Verify =
+    want FileName.Profile true ∷ want FileName.ExceptionPolicy false ∷ want FileName.DomainPolicy true ∷ want FileName.Manager false
+    ∷ want FileName.Trace true ∷ want FileName.Edits false ∷ want FileName.Answers false ∷ want FileName.Run true ∷ []
 wants_of Command.Sort = want FileName.Audit true ∷ want FileName.Sorter true ∷ []
 wants_of (Command.Gen seed size) = []
 wants_of (Command.Replay workers) = scene_wants
+wants_of (Command.ReplaySteal workers) = scene_wants
 wants_of (Command.ReplayRerun workers) = scene_wants
 
 -- the files that a command reads, in order
@@ -78,10 +90,12 @@ abbrev pub stored_by : Command → List FileName
 stored_by Command.Step = run_files
 stored_by Command.Print = FileName.ProfileNew ∷ FileName.ExceptionPolicyNew ∷ FileName.DomainPolicyNew ∷ FileName.ManagerNew ∷ []
 stored_by Command.Learn = run_files ++ rerun_files
+stored_by Command.Verify = []
 stored_by Command.Sort = map FileName.AuditPart part_numbers
 stored_by (Command.Gen seed size) =
     FileName.Profile ∷ FileName.ExceptionPolicy ∷ FileName.DomainPolicy ∷ FileName.Manager ∷ FileName.Trace ∷ run_files
 stored_by (Command.Replay workers) = run_files
+stored_by (Command.ReplaySteal workers) = run_files
 stored_by (Command.ReplayRerun workers) = run_files ++ rerun_files
 
 -- a printed policy as files, in order
@@ -148,10 +162,13 @@ abbrev pub Makes : Command → Texts → Outcome → Type 0
 Makes Command.Step texts outcome = MakesPlayed Way.ByTurns texts outcome
 Makes Command.Print texts outcome = (policy : Policy) × (policy_of texts ≡ Ok policy) × (outcome ≡ print_outcome policy)
 Makes Command.Learn texts outcome = MakesLearned Way.ByTurns texts outcome
+Makes Command.Verify texts outcome =
+    (judging : Judging) × (broken : Option Broken) × (judging_reading texts ≡ Ok judging) × IsVerified (scene_of judging.scene) judging.run broken × (outcome ≡ verify_outcome broken)
 Makes Command.Sort texts outcome = (sorting : Sorting) × (sort_reading texts ≡ Ok sorting) × (outcome ≡ sort_outcome sorting)
 Makes (Command.Gen seed size) texts outcome =
     (played : Played) × Plays Way.ByTurns (generated_files seed size) played × (outcome ≡ with_files (generated_files seed size) played)
 Makes (Command.Replay workers) texts outcome = MakesPlayed Way.OnThreads texts outcome
+Makes (Command.ReplaySteal workers) texts outcome = MakesPlayed Way.OnThreads texts outcome
 Makes (Command.ReplayRerun workers) texts outcome = MakesLearned Way.OnThreads texts outcome
 
 -- the refusal of what a command reads; what `gen` generates is never refused
@@ -159,9 +176,11 @@ abbrev pub refusal_of : Command → Texts → Option Status
 refusal_of Command.Step texts = step_refusal texts
 refusal_of Command.Print texts = policy_refusal texts
 refusal_of Command.Learn texts = step_refusal texts
+refusal_of Command.Verify texts = refused (judging_reading texts)
 refusal_of Command.Sort texts = refused (sort_reading texts)
 refusal_of (Command.Gen seed size) texts = None
 refusal_of (Command.Replay workers) texts = refused (scene_reading texts)
+refusal_of (Command.ReplaySteal workers) texts = refused (scene_reading texts)
 refusal_of (Command.ReplayRerun workers) texts = refused (scene_reading texts)
 
 -- a refusal of what was read; want of memory is free
@@ -187,14 +206,16 @@ IsLoadFault command files fault = (texts : Texts) × AllGiven files (wants_of co
 abbrev pub IsSceneFault : Files → Status → Type 0
 IsSceneFault files status = (texts : Texts) × AllGiven files scene_wants texts × (refused (scene_reading texts) ≡ Some status)
 
--- a refusal of what `step`, `learn` and `replay` read beside the policy
+-- a refusal of what `step`, `learn`, `replay` and `verify` read beside the policy, but for a given run
 abbrev pub IsStepFault : Command → Files → Status → Type 0
 IsStepFault Command.Step files status = (texts : Texts) × AllGiven files (wants_of Command.Step) texts × (step_refusal texts ≡ Some status)
 IsStepFault Command.Print files status = ⊥
 IsStepFault Command.Learn files status = (texts : Texts) × AllGiven files (wants_of Command.Learn) texts × (step_refusal texts ≡ Some status)
+IsStepFault Command.Verify files status = (texts : Texts) × AllGiven files (wants_of Command.Verify) texts × (refused (scene_reading texts) ≡ Some status)
 IsStepFault Command.Sort files status = ⊥
 IsStepFault (Command.Gen seed size) files status = ⊥
 IsStepFault (Command.Replay workers) files status = IsSceneFault files status
+IsStepFault (Command.ReplaySteal workers) files status = IsSceneFault files status
 IsStepFault (Command.ReplayRerun workers) files status = IsSceneFault files status
 
 -- a refusal of what `sort` reads
@@ -202,6 +223,12 @@ abbrev pub IsSortFault : Command → Files → Status → Type 0
 IsSortFault Command.Sort files status =
     (texts : Texts) × AllGiven files (wants_of Command.Sort) texts × (refused (sort_reading texts) ≡ Some status)
 IsSortFault command files status = ⊥
+
+-- a refusal of the run that `verify` reads
+abbrev pub IsRunFault : Command → Files → Status → Type 0
+IsRunFault Command.Verify files status =
+    (texts : Texts) × AllGiven files (wants_of Command.Verify) texts × (refused (judging_reading texts) ≡ Some status)
+IsRunFault command files status = ⊥
 
 -- a fetch that ends the call: nothing is stored, and nothing is put
 abbrev pub IsUnfetched : Command → Outside → Outside → Status → Type 0
@@ -219,6 +246,7 @@ CommandCause command old new (Status.BadTrace line kind) = IsStepFault command o
 CommandCause command old new (Status.BadScript name line kind) = IsStepFault command old.files (Status.BadScript name line kind) × Untouched old new
 CommandCause command old new (Status.TooMany what) =
     (IsStepFault command old.files (Status.TooMany what) ⊎ IsSortFault command old.files (Status.TooMany what)) × Untouched old new
+CommandCause command old new (Status.BadRun line) = IsRunFault command old.files (Status.BadRun line) × Untouched old new
 CommandCause command old new (Status.BadRules line kind) = IsSortFault command old.files (Status.BadRules line kind) × Untouched old new
 CommandCause command old new (Status.BadAudit line) = IsSortFault command old.files (Status.BadAudit line) × Untouched old new
 CommandCause command old new (Status.WriteFault (OutName.File name)) =
@@ -280,9 +308,11 @@ abbrev pub StoresBy : Command → Status → Names → Names → Type 0
 StoresBy Command.Step status old new = StoresOf (stored_by Command.Step) status old new
 StoresBy Command.Print status old new = StoresOf (stored_by Command.Print) status old new
 StoresBy Command.Learn status old new = StoresWithRerun status old new
+StoresBy Command.Verify status old new = StoresOf (stored_by Command.Verify) status old new
 StoresBy Command.Sort status old new = (rules : List Rule) × StoresOf (map FileName.AuditPart (named_numbers rules)) status old new
 StoresBy (Command.Gen seed size) status old new = StoresOf (stored_by (Command.Gen seed size)) status old new
 StoresBy (Command.Replay workers) status old new = StoresOf (stored_by (Command.Replay workers)) status old new
+StoresBy (Command.ReplaySteal workers) status old new = StoresOf (stored_by (Command.ReplaySteal workers)) status old new
 StoresBy (Command.ReplayRerun workers) status old new = StoresWithRerun status old new
 
 -- the files are stored in their order, each once, and nothing after the store that fails; at faulty
@@ -343,17 +373,53 @@ pub record IsSorted (old new : Outside) : Type 0 where
   pub kept : (number : ℕ) → is_part sorting.rules number ≡ false → new.files (FileName.AuditPart number) ≡ old.files (FileName.AuditPart number)
   pub counts : new.written ≡ then_bytes (sort_outcome sorting).line old.written
 
--- the headline: on told files, a call that is done has printed, sorted or played them, by turns or
--- on threads, or learned from them and played them again, or has played files that it generated
+-- what a `verify` that is done has put: that the run that `run` holds is legal for the other files,
+-- or the clause that it breaks first and its least place
+pub record IsJudged (old new : Outside) : Type 0 where
+  pub judging : Judging
+  pub reads : judging_reading (told_texts (wants_of Command.Verify) old.files) ≡ Ok judging
+  pub broken : Option Broken
+  pub verdict : IsVerified (scene_of judging.scene) judging.run broken
+  pub line : new.written ≡ then_bytes (verdict_text broken) old.written
+
+-- the headline: on told files, a call that is done has printed, sorted, judged or played them, by
+-- turns or on threads, or learned from them and played them again, or has played files that it
+-- generated
 abbrev pub HasDone : Result Command ℕ → Outside → Outside → Status → Type 0
 HasDone (Err place) old new status = ¬ (status ≡ Status.Done)
 HasDone (Ok Command.Step) old new status = TellsAll old.files → status ≡ Status.Done → IsPlayed Way.ByTurns (wants_of Command.Step) old new
 HasDone (Ok Command.Print) old new status = TellsAll old.files → status ≡ Status.Done → IsShown old new
 HasDone (Ok Command.Learn) old new status = TellsAll old.files → status ≡ Status.Done → IsLearned Way.ByTurns (wants_of Command.Learn) old new
+HasDone (Ok Command.Verify) old new status = TellsAll old.files → status ≡ Status.Done → IsJudged old new
 HasDone (Ok Command.Sort) old new status = TellsAll old.files → status ≡ Status.Done → IsSorted old new
 HasDone (Ok (Command.Gen seed size)) old new status = TellsAll old.files → status ≡ Status.Done → IsGenerated seed size old new
 HasDone (Ok (Command.Replay workers)) old new status = TellsAll old.files → status ≡ Status.Done → IsPlayed Way.OnThreads scene_wants old new
+HasDone (Ok (Command.ReplaySteal workers)) old new status = TellsAll old.files → status ≡ Status.Done → IsPlayed Way.OnThreads scene_wants old new
 HasDone (Ok (Command.ReplayRerun workers)) old new status = TellsAll old.files → status ≡ Status.Done → IsLearned Way.OnThreads scene_wants old new
+
+-- the run that `run` holds is legal for the other files
+pub record HoldsLegalRun (files : Files) : Type 0 where
+  pub loaded : Loaded
+  pub read : scene_reading (told_texts scene_wants files) ≡ Ok loaded
+  pub run : Run
+  pub run_is : run_of (told (files FileName.Run)) ≡ Ok run
+  pub is_legal : Legal (scene_of loaded) run
+
+-- what was played leaves such a run, of `gen` where there are no edits and no answers; and of it
+-- `verify` says yes
+abbrev pub LegalRuns : Result Command ℕ → Outside → Outside → Status → Type 0
+LegalRuns (Err place) old new status = ⊤
+LegalRuns (Ok Command.Step) old new status = TellsAll old.files → status ≡ Status.Done → HoldsLegalRun new.files
+LegalRuns (Ok Command.Print) old new status = ⊤
+LegalRuns (Ok Command.Learn) old new status = TellsAll old.files → status ≡ Status.Done → HoldsLegalRun new.files
+LegalRuns (Ok Command.Verify) old new status =
+    TellsAll old.files → HoldsLegalRun old.files → status ≡ Status.Done → new.written ≡ then_bytes (verdict_text None) old.written
+LegalRuns (Ok Command.Sort) old new status = ⊤
+LegalRuns (Ok (Command.Gen seed size)) old new status =
+    TellsAll old.files → status ≡ Status.Done → told (old.files FileName.Edits) ≡ [] → told (old.files FileName.Answers) ≡ [] → HoldsLegalRun new.files
+LegalRuns (Ok (Command.Replay workers)) old new status = TellsAll old.files → status ≡ Status.Done → HoldsLegalRun new.files
+LegalRuns (Ok (Command.ReplaySteal workers)) old new status = TellsAll old.files → status ≡ Status.Done → HoldsLegalRun new.files
+LegalRuns (Ok (Command.ReplayRerun workers)) old new status = TellsAll old.files → status ≡ Status.Done → HoldsLegalRun new.files
 
 -- whatever the files hold, a `gen` is done, wants memory, or ends by a counted fault of a store or
 -- of the sink

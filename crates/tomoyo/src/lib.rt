@@ -11,6 +11,7 @@ mod play;
 mod print;
 mod sort;
 mod top;
+mod verify;
 mod way;
 mod ways;
 

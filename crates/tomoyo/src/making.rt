@@ -12,8 +12,9 @@ use crate::learn::learn_of;
 use crate::outcome::{generated_files, learn_outcome, print_outcome, step_outcome, with_files};
 use crate::play::{Played, play_of};
 use crate::sort::make_sort;
+use crate::verify::make_verify;
 use crate::way::Way;
-use crate::ways::{Ended, Playing, run_by_turns, run_on_threads};
+use crate::ways::{Ended, Playing, run_by_turns, run_on_threads, run_stealing};
 use std::alloc::{AllocError, Global};
 use std::sync::Wait;
 use std::thread::Threads;
@@ -112,6 +113,30 @@ fn make_replay<W: Threads + Wait + Sync, G: Gate>(
     make_played(alloc, &playing, texts)
 }
 
+// Plays what was read on threads that share its processes, or refuses it.
+fn make_replay_steal<W: Threads + Wait + Sync, G: Gate>(
+    rt: &W,
+    alloc: Global,
+    gate: &G,
+    workers: u32,
+    texts: FileList,
+) -> Result<Outcome, Status>
+    requires { 0 < workers }
+    ensures made { IfOk result (Allows (Command.ReplaySteal workers) texts) }
+    ensures refused { IfErr result (Refuses (Command.ReplaySteal workers) texts) }
+{
+    let play = |loaded: Loaded| -> Ended
+        requires some { 0 < workers }
+        requires playable { IsPlayable loaded }
+        ensures { IfOk result (IsEnded Way.OnThreads loaded) }
+    { run_stealing(rt, alloc, workers, gate, loaded) };
+    let playing = Playing {
+        way: Way::OnThreads,
+        play,
+    };
+    make_played(alloc, &playing, texts)
+}
+
 // Plays what was read on threads and then its trace again, or refuses it.
 fn make_replay_rerun<W: Threads + Wait + Sync, G: Gate>(
     rt: &W,
@@ -201,9 +226,10 @@ pub fn make(alloc: Global, command: Command, texts: FileList) -> Result<Outcome,
         Command::Print => make_print(alloc, texts),
         Command::Step => make_step(alloc, texts),
         Command::Learn => make_learn(alloc, texts),
+        Command::Verify => make_verify(alloc, texts),
         Command::Sort => make_sort(alloc, texts),
         Command::Gen(seed, size) => make_gen(alloc, seed, size),
-        Command::Replay(_) | Command::ReplayRerun(_) => unreachable!(),
+        Command::Replay(_) | Command::ReplaySteal(_) | Command::ReplayRerun(_) => unreachable!(),
     }
 }
 
@@ -221,8 +247,13 @@ pub fn make_on_threads<W: Threads + Wait + Sync, G: Gate>(
 {
     match command {
         Command::Replay(workers) => make_replay(rt, alloc, gate, workers, texts),
+        Command::ReplaySteal(workers) => make_replay_steal(rt, alloc, gate, workers, texts),
         Command::ReplayRerun(workers) => make_replay_rerun(rt, alloc, gate, workers, texts),
-        Command::Print | Command::Step | Command::Learn | Command::Sort | Command::Gen(_, _) =>
-            make(alloc, command, texts),
+        Command::Print
+        | Command::Step
+        | Command::Learn
+        | Command::Verify
+        | Command::Sort
+        | Command::Gen(_, _) => make(alloc, command, texts),
     }
 }

@@ -10,8 +10,8 @@ use tm_policy::count_live;
 use tm_types::policy::Policy;
 use tm_word::Text;
 
-// Appends a count.
-fn push_count(alloc: Global, count: u64, out: &mut Vec<u8>) -> Result<(), NoMemory>
+/// Appends a count.
+pub(crate) fn push_count(alloc: Global, count: u64, out: &mut Vec<u8>) -> Result<(), NoMemory>
     ensures { OnOk result (out.new.items ≡ out.old.items ++ decimal count) }
 {
     let number = Number {

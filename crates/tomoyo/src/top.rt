@@ -9,7 +9,7 @@ ghost use Rattle.tm_call.specs.Ends.{outside, Ends};
 ghost use Rattle.tm_call.specs.Words.{read_words, run_words, is_alone, IsSized};
 ghost use Rattle.tm_call.specs.declared.words.Command.{Command};
 ghost use Rattle.tomoyo.specs.Call.{wants_of, read_by};
-ghost use Rattle.tomoyo.specs.Call.{Refuses, Allows, CallEnds, HasCause, IsExact, IsComplete, KeepsOthers, HasDone, GenEnds};
+ghost use Rattle.tomoyo.specs.Call.{Refuses, Allows, CallEnds, HasCause, IsExact, IsComplete, KeepsOthers, HasDone, GenEnds, LegalRuns};
 ghost use Rattle.tomoyo.specs.Closures.{MakesSo};
 ghost use Rattle.tomoyo.specs.Call.{FetchesInOrder, StoresBy, StoresInOrder, StoresLast};
 
@@ -49,7 +49,7 @@ fn fetch_for<S: Shelf>(alloc: Global, command: Command, shelf: &mut S) -> Result
             ];
             fetch_all(alloc, shelf, &wants)
         }
-        Command::Replay(_) | Command::ReplayRerun(_) => {
+        Command::Replay(_) | Command::ReplaySteal(_) | Command::ReplayRerun(_) => {
             let wants = [
                 Want::needed(FileName::Profile),
                 Want::optional(FileName::ExceptionPolicy),
@@ -67,6 +67,19 @@ fn fetch_for<S: Shelf>(alloc: Global, command: Command, shelf: &mut S) -> Result
                 Want::optional(FileName::ExceptionPolicy),
                 Want::needed(FileName::DomainPolicy),
                 Want::optional(FileName::Manager),
+            ];
+            fetch_all(alloc, shelf, &wants)
+        }
+        Command::Verify => {
+            let wants = [
+                Want::needed(FileName::Profile),
+                Want::optional(FileName::ExceptionPolicy),
+                Want::needed(FileName::DomainPolicy),
+                Want::optional(FileName::Manager),
+                Want::needed(FileName::Trace),
+                Want::optional(FileName::Edits),
+                Want::optional(FileName::Answers),
+                Want::needed(FileName::Run),
             ];
             fetch_all(alloc, shelf, &wants)
         }
@@ -133,6 +146,9 @@ fn answer<S: Shelf, K: Sink, M: Fn(Command, FileList) -> Result<Outcome, Status>
     ensures generated { GenEnds read
         (outside (S.file shelf.old) (S.faults shelf.old) (K.written out.old) (K.faults out.old))
         (outside (S.file shelf.new) (S.faults shelf.new) (K.written out.new) (K.faults out.new)) result }
+    ensures verified { LegalRuns read
+        (outside (S.file shelf.old) (S.faults shelf.old) (K.written out.old) (K.faults out.old))
+        (outside (S.file shelf.new) (S.faults shelf.new) (K.written out.new) (K.faults out.new)) result }
     ensures fetches { FetchesInOrder read result
         (S.fetched shelf.old) (S.fetched shelf.new) }
     ensures stores { StoresInOrder read result
@@ -158,8 +174,10 @@ fn answer<S: Shelf, K: Sink, M: Fn(Command, FileList) -> Result<Outcome, Status>
 /// the final policy it leaves this rerun out, and leaves these two files as they were. `gen` with a
 /// seed and a size reads nothing: it generates `profile`, `exception_policy`, `domain_policy`,
 /// `manager` and `trace`, stores them, and does `step` on them without edits, answers and schedule.
-/// `sort` reads `audit` and `sorter` and stores the records of each part that the rules name as
-/// `audit.N`. Nothing is stored before all is read and loaded, played or sorted.
+/// `verify` reads what `step` reads but `schedule`, and `run`, and puts whether that is a legal run
+/// of these files, or the clause that it breaks first, and where; it stores nothing. `sort` reads
+/// `audit` and `sorter` and stores the records of each part that the rules name as `audit.N`.
+/// Nothing is stored before all is read and loaded, played or sorted.
 ///
 /// The first fetch that gives neither a text nor a file that may be missing decides, and no later
 /// one is made: `Absent` where `profile`, `domain_policy` or, but for `print`, `trace` isn't there,
@@ -168,9 +186,10 @@ fn answer<S: Shelf, K: Sink, M: Fn(Command, FileList) -> Result<Outcome, Status>
 /// domain whose profile isn't defined is `UndefinedProfile`. Of what `step` and `learn` read beside
 /// them, the first faulty line of `trace`, or else of `edits`, `answers` and `schedule`, is
 /// `BadTrace` or `BadScript`; then a limit that is passed is `TooMany`; and then the first tree
-/// whose domain isn't live is `BadTrace` at the tree's line. Of what `sort` reads, the first faulty
-/// line of `audit` is `BadAudit`, or else of `sorter` `BadRules`; then more than 256 rules are
-/// `TooMany`.
+/// whose domain isn't live is `BadTrace` at the tree's line. After all that comes, of what `verify`
+/// reads, `BadRun` at the first line with which no run's text goes on. Of what `sort` reads, the
+/// first faulty line of `audit` is `BadAudit`, or else of `sorter` `BadRules`; then more than 256
+/// rules are `TooMany`.
 pub fn run_alone<S: Shelf, K: Sink>(
     alloc: Global,
     words: &[String],
@@ -189,6 +208,9 @@ pub fn run_alone<S: Shelf, K: Sink>(
         (outside (S.file shelf.old) (S.faults shelf.old) (K.written out.old) (K.faults out.old))
         (outside (S.file shelf.new) (S.faults shelf.new) (K.written out.new) (K.faults out.new)) result }
     ensures generated { GenEnds (read_words (map string_bytes words.now))
+        (outside (S.file shelf.old) (S.faults shelf.old) (K.written out.old) (K.faults out.old))
+        (outside (S.file shelf.new) (S.faults shelf.new) (K.written out.new) (K.faults out.new)) result }
+    ensures verified { LegalRuns (read_words (map string_bytes words.now))
         (outside (S.file shelf.old) (S.faults shelf.old) (K.written out.old) (K.faults out.old))
         (outside (S.file shelf.new) (S.faults shelf.new) (K.written out.new) (K.faults out.new)) result }
     ensures fetches { FetchesInOrder (read_words (map string_bytes words.now)) result
@@ -212,8 +234,9 @@ pub fn run_alone<S: Shelf, K: Sink>(
 
 /// Does what `run_alone` does, and `replay` with a number of workers from 1 to 16 besides: it plays
 /// the trace on so many threads, with a thread for each editor and for the supervisor, and stores
-/// what `step` stores; it reads no `schedule`. With `rerun` after the number it does what `learn`
-/// does, its rerun on threads too. The gate may hold threads back on their way, as tests do.
+/// what `step` stores; it reads no `schedule`. With `steal` after the number the threads share the
+/// processes of the trees, and not only the trees. With `rerun` it does what `learn` does, its rerun
+/// on threads too. The gate may hold threads back on their way, as tests do.
 pub fn run<S: Shelf, K: Sink, W: Threads + Wait + Sync, G: Gate>(
     rt: &W,
     alloc: Global,
@@ -234,6 +257,9 @@ pub fn run<S: Shelf, K: Sink, W: Threads + Wait + Sync, G: Gate>(
         (outside (S.file shelf.old) (S.faults shelf.old) (K.written out.old) (K.faults out.old))
         (outside (S.file shelf.new) (S.faults shelf.new) (K.written out.new) (K.faults out.new)) result }
     ensures generated { GenEnds (run_words (map string_bytes words.now))
+        (outside (S.file shelf.old) (S.faults shelf.old) (K.written out.old) (K.faults out.old))
+        (outside (S.file shelf.new) (S.faults shelf.new) (K.written out.new) (K.faults out.new)) result }
+    ensures verified { LegalRuns (run_words (map string_bytes words.now))
         (outside (S.file shelf.old) (S.faults shelf.old) (K.written out.old) (K.faults out.old))
         (outside (S.file shelf.new) (S.faults shelf.new) (K.written out.new) (K.faults out.new)) result }
     ensures fetches { FetchesInOrder (run_words (map string_bytes words.now)) result

@@ -25,6 +25,7 @@ use tm_list::{NoMemory, Seq};
 use tm_machine::Machine;
 use tm_replay::replay_run;
 use tm_script::has_supervisor;
+use tm_steal::steal_run;
 use tm_types::policy::Policy;
 use tm_types::step::{Book, Editor, Query, Run, Start};
 
@@ -131,4 +132,29 @@ pub fn run_on_threads<W: Threads + Wait + Sync, G: Gate>(
     let machine = machine_of(alloc, policy, editors, trace.len(), &book)?;
     let desk = Desk::new(&book, |query: &Query| book_code(&book, query));
     replay_run(rt, alloc, machine, trace, workers, &desk, gate)
+}
+
+/// Plays what was read on so many threads that share the processes of its trees, beside those of the
+/// editors and of the supervisor. The gate may hold them back on their way.
+pub fn run_stealing<W: Threads + Wait + Sync, G: Gate>(
+    rt: &W,
+    alloc: Global,
+    workers: u32,
+    gate: &G,
+    loaded: Loaded,
+) -> Ended
+    requires some { 0 < workers }
+    requires playable { IsPlayable loaded }
+    ensures { IfOk result (IsEnded Way.OnThreads loaded) }
+{
+    let Loaded {
+        policy,
+        trace,
+        editors,
+        book,
+        ..
+    } = loaded;
+    let machine = machine_of(alloc, policy, editors, trace.len(), &book)?;
+    let desk = Desk::new(&book, |query: &Query| book_code(&book, query));
+    steal_run(rt, alloc, machine, trace, workers, &desk, gate)
 }

@@ -23,7 +23,8 @@ help_of word =
     else (if is_one_of word (codes "learn" ∷ []) then Asked.Help Topic.Learn
     else (if is_one_of word (codes "replay" ∷ []) then Asked.Help Topic.Replay
     else (if is_one_of word (codes "gen" ∷ []) then Asked.Help Topic.Gen
-    else (if is_one_of word (codes "sort" ∷ []) then Asked.Help Topic.Sort else Asked.Command)))))
+    else (if is_one_of word (codes "verify" ∷ []) then Asked.Help Topic.Verify
+    else (if is_one_of word (codes "sort" ∷ []) then Asked.Help Topic.Sort else Asked.Command))))))
 
 -- what two words ask for: `COMMAND --help`, or `help COMMAND`
 abbrev pub asked_by_two : List ℕ → List ℕ → Asked

@@ -13,8 +13,9 @@ pub const HELP: &str = "\
 usage: tomoyo_run [-C DIR] print
        tomoyo_run [-C DIR] step
        tomoyo_run [-C DIR] learn
-       tomoyo_run [-C DIR] replay WORKERS [rerun]
+       tomoyo_run [-C DIR] replay WORKERS [steal | rerun]
        tomoyo_run [-C DIR] gen SEED SIZE
+       tomoyo_run [-C DIR] verify
        tomoyo_run [-C DIR] sort
        tomoyo_run help [COMMAND] | COMMAND --help | -h | --help
        tomoyo_run -V | --version
@@ -28,6 +29,7 @@ Works on the files of the folder DIR, or of the current folder.
          enforcing
   replay does what step or, with rerun, learn does, on so many threads
   gen    generates the policy files and a trace of SIZE trees, and plays it
+  verify tells whether a stored run is one that the other files allow
   sort   sorts the records of an audit file into parts, by rules
 
 `tomoyo_run COMMAND --help` tells what a command reads, stores and prints.
@@ -45,6 +47,7 @@ Exit statuses:
    9  there is too much of something
   10  a file or standard output can't be written
   11  out of memory
+  13  a line of a run can't stand there
   14  a line of a sorter file is refused
   15  a line of an audit file can't stand there
 ";
@@ -112,7 +115,7 @@ Exit statuses: those of step.
 
 /// What `replay --help` prints.
 pub const REPLAY_HELP: &str = "\
-usage: tomoyo_run [-C DIR] replay WORKERS [rerun]
+usage: tomoyo_run [-C DIR] replay WORKERS [steal | rerun]
 
 Plays the trace under the policy on WORKERS threads, beside one for each editor
 and one for the supervisor, and learns where a profile says so. WORKERS is 1 to
@@ -124,7 +127,9 @@ Reads    the files that step reads, but for schedule
 Stores   the files that step stores; with rerun, the files that learn stores
 Prints   the line of step; with rerun, the lines of learn
 
-With rerun it plays the trace again as learn does, on threads too.
+With steal the threads share the processes of the trees, each from its first
+request on, and not only the trees. With rerun it plays the trace again as
+learn does, on threads too.
 
 Exit statuses: those of step; 1 bad words.
 ";
@@ -145,6 +150,34 @@ Prints   the line of step
 
 Exit statuses: 0 done; 1 bad words; 10 a file or standard output can't be
 written; 11 out of memory.
+";
+
+/// What `verify --help` prints.
+pub const VERIFY_HELP: &str = "\
+usage: tomoyo_run [-C DIR] verify
+
+Tells whether the run that is stored in DIR is one that the policy, the trace,
+the edits and the answers allow, in whatever order its steps came. The run may
+come from step, learn, gen or replay, or from anywhere else.
+
+Reads    the files that step reads, but for schedule, and run, which has to be
+         there
+Stores   nothing
+Prints   legal yes, or legal no CLAUSE PLACE: the first clause that doesn't
+         hold, i to viii, and the number of the first take or step that breaks
+         it, or 0 where only steps are missing
+           i     each do line has its take, in order
+           ii    a take's versions rise from what its process has seen
+           iii   each look shows what the policy's lines of its version give
+           iv    a take asks for just the steps that its looks ask for
+           v     each step has its place and its reply
+           vi    the supervisor answers as answers says
+           vii   a take hears what the supervisor has answered
+           viii  a take ends as its last look and its steps say
+
+Exit statuses: 0 done, whatever is said of the run; 2 a file can't be read, 3 is
+missing, 4 is too long; 5 to 9 as step has them; 10 standard output can't be
+written; 11 out of memory; 13 a line of run can't stand there.
 ";
 
 /// What `sort --help` prints.
@@ -185,6 +218,7 @@ pub enum Topic {
     Learn,
     Replay,
     Gen,
+    Verify,
     Sort,
 }
 
@@ -197,6 +231,7 @@ pub fn help_text(topic: Topic) -> &'static str {
         Topic::Learn => LEARN_HELP,
         Topic::Replay => REPLAY_HELP,
         Topic::Gen => GEN_HELP,
+        Topic::Verify => VERIFY_HELP,
         Topic::Sort => SORT_HELP,
     }
 }
@@ -318,6 +353,8 @@ fn help_of(word: &String) -> Asked
         Asked::Help(Topic::Replay)
     } else if is_one_of(word, &["gen"]) {
         Asked::Help(Topic::Gen)
+    } else if is_one_of(word, &["verify"]) {
+        Asked::Help(Topic::Verify)
     } else if is_one_of(word, &["sort"]) {
         Asked::Help(Topic::Sort)
     } else {
@@ -428,6 +465,7 @@ fn letter_of(asked: Asked) -> char {
         Asked::Help(Topic::Learn) => 'l',
         Asked::Help(Topic::Replay) => 'r',
         Asked::Help(Topic::Gen) => 'g',
+        Asked::Help(Topic::Verify) => 'y',
         Asked::Help(Topic::Sort) => 'o',
         Asked::Version => 'v',
         Asked::Nothing => 'n',
@@ -453,6 +491,8 @@ fn one_or_two_words_ask_for_help(rt: HostRuntime) -> Result<(), std::test::Fail>
         (&["replay", "2", "--help"], 'c'),
         (&["gen", "--help"], 'g'),
         (&["help", "gen"], 'g'),
+        (&["verify", "--help"], 'y'),
+        (&["help", "verify"], 'y'),
         (&["sort", "--help"], 'o'),
         (&["help", "sort"], 'o'),
         (&["help", "step"], 's'),

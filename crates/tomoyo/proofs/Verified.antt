@@ -1,0 +1,146 @@
+-- What was played leaves a legal run, and of a legal run `verify` says yes.
+use Rattle.std.proofs.Common.{◌≡◌, ◌∙◌, ℕ, List, [], ◌∷◌, Bool, false, Ok, refl, sym, ap, subst}
+use Rattle.std.specs.Prelude.{Option, Some, None, Result, MatchOption}
+use Rattle.tm_io.specs.declared.names.FileName.{FileName}
+use Rattle.tm_io.specs.Files.{FileState, Files}
+use Rattle.tm_io.specs.Bytes.{then_bytes}
+use Rattle.tm_types.specs.declared.step.Run.{Run}
+use Rattle.tm_legal.specs.Legal.{Scene, Legal}
+use Rattle.tm_run.specs.Reading.{run_of}
+use Rattle.tm_verify_laws.specs.declared.broken.Broken.{Broken}
+use Rattle.tm_verify_laws.proofs.BrokenLaws.{not_legal}
+use Rattle.tm_verify.specs.Verified.{IsVerified}
+use Rattle.tm_gen.specs.Files.{generated}
+use Rattle.tm_gen_laws.specs.Generated.{generated_files}
+use Rattle.tm_call.specs.declared.status.Status.{Status}
+use Rattle.tm_call.specs.declared.words.Command.{Command}
+use Rattle.tm_call.specs.declared.fetches.Want.{Want}
+use Rattle.tm_call.specs.Fetches.{Texts, TellsAll, told, told_texts}
+use Rattle.tm_call.specs.Stores.{is_named}
+use Rattle.tm_call.specs.Ends.{Outside}
+use Rattle.tm_call_input.specs.declared.reading.Loaded.{Loaded}
+use Rattle.tm_call_input.specs.Policies.{policy_of}
+use Rattle.tm_call_input.specs.Reading.{parts_reading, scene_reading, scene_of}
+use Rattle.tm_call_input.proofs.Readings.{step-scene, judging-read}
+use Rattle.tomoyo.specs.declared.way.Way.{Way}
+use Rattle.tomoyo.specs.Play.{reading_of}
+use Rattle.tomoyo.specs.Verify.{verdict_text}
+use Rattle.tomoyo.specs.Call.{scene_wants, wants_of, stored_by, IsPlayed, IsLearned, IsGenerated, IsJudged, HasDone, HoldsLegalRun, LegalRuns}
+
+-- Which files are read
+
+-- the files that are played on threads are the same two times
+same-told : (a b : Files) → a FileName.Profile ≡ b FileName.Profile → a FileName.ExceptionPolicy ≡ b FileName.ExceptionPolicy → a FileName.DomainPolicy ≡ b FileName.DomainPolicy → a FileName.Manager ≡ b FileName.Manager
+    → a FileName.Trace ≡ b FileName.Trace → a FileName.Edits ≡ b FileName.Edits → a FileName.Answers ≡ b FileName.Answers → told_texts scene_wants a ≡ told_texts scene_wants b
+same-told a b profile exception domain manager trace edits answers = rw (profile, exception, domain, manager, trace, edits, answers) refl
+
+-- nothing else is read of what `step` and `verify` fetch
+step-texts : (files : Files) → scene_reading (told_texts (wants_of Command.Step) files) ≡ scene_reading (told_texts scene_wants files)
+unfolding scene_reading parts_reading policy_of
+step-texts files = refl
+
+verify-texts : (files : Files) → scene_reading (told_texts (wants_of Command.Verify) files) ≡ scene_reading (told_texts scene_wants files)
+unfolding scene_reading parts_reading policy_of
+verify-texts files = refl
+
+-- Runs that were played
+
+-- what was read by a way is the scene without its schedule
+scene-of-way : (way : Way) (wants : List Want) (files : Files) (loaded : Loaded) → scene_reading (told_texts wants files) ≡ scene_reading (told_texts scene_wants files)
+    → reading_of way (told_texts wants files) ≡ Ok loaded
+    → (scene : Loaded) × (scene_reading (told_texts scene_wants files) ≡ Ok scene) × (scene_of scene ≡ scene_of loaded)
+scene-of-way Way.ByTurns wants files loaded same e = (record loaded { schedule = [] }, sym same ∙ step-scene (told_texts wants files) loaded e, refl)
+scene-of-way Way.OnThreads wants files loaded same e = (loaded, sym same ∙ e, refl)
+
+-- a legal run of what was read is there
+holds-run : (way : Way) (wants : List Want) (old new : Files) (loaded : Loaded) (run : Run) (text : List ℕ) → scene_reading (told_texts wants old) ≡ scene_reading (told_texts scene_wants old)
+    → told_texts scene_wants new ≡ told_texts scene_wants old → reading_of way (told_texts wants old) ≡ Ok loaded → new FileName.Run ≡ FileState.Holds text
+    → run_of text ≡ Ok run → Legal (scene_of loaded) run → HoldsLegalRun new
+holds-run way wants old new loaded run text same kept read stored back legal =
+    let (scene, reads, is) = scene-of-way way wants old loaded same read in
+    record {
+      loaded = scene;
+      read = ap scene_reading kept ∙ reads;
+      run = run;
+      run_is = ap (λ (state : FileState). run_of (told state)) stored ∙ back;
+      is_legal = subst (λ (s : Scene). Legal s run) (sym is) legal;
+    }
+
+-- the files that a command has kept
+abbrev pub Kept : Command → Outside → Outside → Type 0
+Kept command old new = (name : FileName) → is_named (stored_by command) name ≡ false → new.files name ≡ old.files name
+
+played-holds : (way : Way) (wants : List Want) (old new : Outside) → scene_reading (told_texts wants old.files) ≡ scene_reading (told_texts scene_wants old.files)
+    → told_texts scene_wants new.files ≡ told_texts scene_wants old.files → IsPlayed way wants old new → HoldsLegalRun new.files
+played-holds way wants old new same kept done =
+    holds-run way wants old.files new.files done.plays.loaded done.plays.plays.run done.played.run same kept done.plays.read done.stored.0 done.plays.read_back done.plays.plays.is_legal
+
+learned-holds : (way : Way) (wants : List Want) (old new : Outside) → scene_reading (told_texts wants old.files) ≡ scene_reading (told_texts scene_wants old.files)
+    → told_texts scene_wants new.files ≡ told_texts scene_wants old.files → IsLearned way wants old new → HoldsLegalRun new.files
+learned-holds way wants old new same kept done =
+    holds-run way wants old.files new.files done.learns.loaded done.learns.learns.run done.learned.played.run same kept done.learns.read done.stored.0 done.learns.read_back done.learns.learns.is_legal
+
+-- generated files without edits and answers are read as they were generated
+generated-texts : (seed size : ℕ) → scene_reading ((FileName.Profile, (generated seed size).profile) ∷ (FileName.ExceptionPolicy, (generated seed size).exception) ∷ (FileName.DomainPolicy, (generated seed size).domain)
+    ∷ (FileName.Manager, (generated seed size).manager) ∷ (FileName.Trace, (generated seed size).trace) ∷ (FileName.Edits, []) ∷ (FileName.Answers, []) ∷ []) ≡ scene_reading (generated_files seed size)
+unfolding scene_reading parts_reading policy_of
+generated-texts seed size = refl
+
+generated-holds : (seed size : ℕ) (old new : Outside) → told (new.files FileName.Edits) ≡ [] → told (new.files FileName.Answers) ≡ [] → IsGenerated seed size old new → HoldsLegalRun new.files
+generated-holds seed size old new edits answers done =
+    let s = done.stored in
+    let texts : told_texts scene_wants new.files ≡ (FileName.Profile, (generated seed size).profile) ∷ (FileName.ExceptionPolicy, (generated seed size).exception) ∷ (FileName.DomainPolicy, (generated seed size).domain)
+    ∷ (FileName.Manager, (generated seed size).manager) ∷ (FileName.Trace, (generated seed size).trace) ∷ (FileName.Edits, []) ∷ (FileName.Answers, []) ∷ [] = rw (s.0, s.1.0, s.1.1.0, s.1.1.1.0, s.1.1.1.1.0, edits, answers) refl in
+    record {
+      loaded = record done.plays.loaded { schedule = [] };
+      read = ap scene_reading texts ∙ generated-texts seed size ∙ step-scene (generated_files seed size) done.plays.loaded done.plays.read;
+      run = done.plays.plays.run;
+      run_is = ap (λ (state : FileState). run_of (told state)) s.1.1.1.1.1.0 ∙ done.plays.read_back;
+      is_legal = done.plays.plays.is_legal;
+    }
+
+-- Runs that are judged
+
+-- of a legal run nothing is broken
+none-broken : (scene : Scene) (run : Run) (broken : Option Broken) → Legal scene run → IsVerified scene run broken → broken ≡ None
+none-broken scene run None legal verdict = refl
+none-broken scene run (Some broken) legal verdict = absurd (not_legal scene run broken verdict legal)
+
+abbrev as-ok : {A E : Type 0} → A → Result A E
+as-ok x = Ok x
+
+ok-is : {A E : Type 0} (x y : A) → as-ok {A = A} {E = E} x ≡ as-ok {A = A} {E = E} y → x ≡ y
+ok-is x y e = cc
+
+judged-yes : (old new : Outside) → HoldsLegalRun old.files → IsJudged old new → new.written ≡ then_bytes (verdict_text None) old.written
+judged-yes old new holds judged =
+    let read = judging-read (told_texts (wants_of Command.Verify) old.files) judged.judging judged.reads in
+    let scene : judged.judging.scene ≡ holds.loaded = ok-is judged.judging.scene holds.loaded (sym read.scene ∙ verify-texts old.files ∙ holds.read) in
+    let run : judged.judging.run ≡ holds.run = ok-is judged.judging.run holds.run (sym read.run_is ∙ holds.run_is) in
+    let legal : Legal (scene_of judged.judging.scene) judged.judging.run =
+    subst (λ (loaded : Loaded). Legal (scene_of loaded) judged.judging.run) (sym scene) (subst (λ (given : Run). Legal (scene_of holds.loaded) given) (sym run) holds.is_legal) in
+    judged.line ∙ ap (λ (broken : Option Broken). then_bytes (verdict_text broken) old.written) (none-broken (scene_of judged.judging.scene) judged.judging.run judged.broken legal judged.verdict)
+
+-- the files that are played are kept by all that store a run
+kept-texts : (command : Command) (old new : Outside) → Kept command old new → is_named (stored_by command) FileName.Profile ≡ false → is_named (stored_by command) FileName.ExceptionPolicy ≡ false → is_named (stored_by command) FileName.DomainPolicy ≡ false
+    → is_named (stored_by command) FileName.Manager ≡ false → is_named (stored_by command) FileName.Trace ≡ false → is_named (stored_by command) FileName.Edits ≡ false → is_named (stored_by command) FileName.Answers ≡ false
+    → told_texts scene_wants new.files ≡ told_texts scene_wants old.files
+kept-texts command old new kept profile exception domain manager trace edits answers =
+    same-told new.files old.files (kept FileName.Profile profile) (kept FileName.ExceptionPolicy exception) (kept FileName.DomainPolicy domain) (kept FileName.Manager manager) (kept FileName.Trace trace) (kept FileName.Edits edits) (kept FileName.Answers answers)
+
+pub legal-runs : (command : Command) (old new : Outside) (status : Status) → HasDone (Ok command) old new status → Kept command old new → LegalRuns (Ok command) old new status
+legal-runs Command.Step old new status done kept = λ tells is.
+    played-holds Way.ByTurns (wants_of Command.Step) old new (step-texts old.files) (kept-texts Command.Step old new kept refl refl refl refl refl refl refl) (done tells is)
+legal-runs Command.Print old new status done kept = tt
+legal-runs Command.Learn old new status done kept = λ tells is.
+    learned-holds Way.ByTurns (wants_of Command.Learn) old new (step-texts old.files) (kept-texts Command.Learn old new kept refl refl refl refl refl refl refl) (done tells is)
+legal-runs Command.Verify old new status done kept = λ tells holds is. judged-yes old new holds (done tells is)
+legal-runs Command.Sort old new status done kept = tt
+legal-runs (Command.Gen seed size) old new status done kept = λ tells is edits answers.
+    generated-holds seed size old new (ap told (kept FileName.Edits refl) ∙ edits) (ap told (kept FileName.Answers refl) ∙ answers) (done tells is)
+legal-runs (Command.Replay workers) old new status done kept = λ tells is.
+    played-holds Way.OnThreads scene_wants old new refl (kept-texts (Command.Replay workers) old new kept refl refl refl refl refl refl refl) (done tells is)
+legal-runs (Command.ReplaySteal workers) old new status done kept = λ tells is.
+    played-holds Way.OnThreads scene_wants old new refl (kept-texts (Command.ReplaySteal workers) old new kept refl refl refl refl refl refl refl) (done tells is)
+legal-runs (Command.ReplayRerun workers) old new status done kept = λ tells is.
+    learned-holds Way.OnThreads scene_wants old new refl (kept-texts (Command.ReplayRerun workers) old new kept refl refl refl refl refl refl refl) (done tells is)
