@@ -55,6 +55,28 @@ fn two_trees_look_beside_each_other(rt: HostRuntime) -> Result<(), Fail> {
 }
 
 #[test]
+fn a_child_looks_beside_its_parent(rt: HostRuntime) -> Result<(), Fail> {
+    let gate = Meeting::new((1, 2), (1, 3));
+    expect(
+        &rt,
+        rt.alloc(),
+        &["2", "steal"],
+        &[
+            (FileName::Profile, PROFILE),
+            (FileName::DomainPolicy, LEARNING),
+            (
+                FileName::Trace,
+                "tree 1 <kernel>\nfork 1 11\ndo 1 file read /a\ndo 11 file read /b\n",
+            ),
+        ],
+        &gate,
+        "requests 2 granted 2 denied 0 learned 2 steps 2 domains 1 clean yes plain yes\n",
+    )?;
+    assert!(&rt; gate.took_place());
+    Ok(())
+}
+
+#[test]
 fn a_tree_looks_beside_an_editors_line(rt: HostRuntime) -> Result<(), Fail> {
     let gate = Meeting::new((1, 1), (0, 1));
     expect(
