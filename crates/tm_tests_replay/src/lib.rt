@@ -8,4 +8,6 @@ mod calls;
 #[cfg(test)]
 mod gates;
 #[cfg(test)]
+mod orders;
+#[cfg(test)]
 mod threads;

@@ -159,25 +159,30 @@ fn a_tree_begins_in_a_domain_that_was_deleted_meanwhile(rt: HostRuntime) -> Resu
     Ok(())
 }
 
+const LEAVING: [(FileName, &str); 4] = [
+    (FileName::Profile, PROFILE),
+    (FileName::DomainPolicy, ENFORCING),
+    (
+        FileName::Trace,
+        "tree 7 <kernel>\ndo 7 file read /x\ndo 7 file read /z\ntree 8 <kernel>\ndo 8 file read /y\n",
+    ),
+    (FileName::Answers, "rule yes : any : any\ndetach 0\n"),
+];
+
 #[test]
 fn a_supervisor_that_leaves_at_once_leaves_all_denied(rt: HostRuntime) -> Result<(), Fail> {
-    for _ in 0..10 {
-        expect(
-            &rt,
-            rt.alloc(),
-            &["2"],
-            &[
-                (FileName::Profile, PROFILE),
-                (FileName::DomainPolicy, ENFORCING),
-                (
-                    FileName::Trace,
-                    "tree 7 <kernel>\ndo 7 file read /x\ndo 7 file read /z\ntree 8 <kernel>\ndo 8 file read /y\n",
-                ),
-                (FileName::Answers, "rule yes : any : any\ndetach 0\n"),
-            ],
-            &NoGate,
-            "requests 3 granted 0 denied 3 learned 0 ",
-        )?;
+    let calls: [&[&str]; 2] = [&["2"], &["2", "steal"]];
+    for words in calls {
+        for _ in 0..10 {
+            expect(
+                &rt,
+                rt.alloc(),
+                words,
+                &LEAVING,
+                &NoGate,
+                "requests 3 granted 0 denied 3 learned 0 ",
+            )?;
+        }
     }
     Ok(())
 }

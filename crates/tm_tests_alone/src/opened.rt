@@ -1,0 +1,67 @@
+//! Machines that are opened from files, each with the trace that can be played from it.
+ghost use Rattle.std.specs.Prelude.{IfOk};
+ghost use Rattle.tm_rules.specs.Few.{IsFew};
+ghost use Rattle.tm_legal.specs.Play.{CanPlay};
+ghost use Rattle.tm_call_input.specs.Reading.{scene_of};
+ghost use Rattle.tm_tests_alone.specs.Opened.{CanBePlayed};
+
+use std::alloc::{AllocError, Global};
+use tm_call_input::{Loaded, read_scene};
+use tm_core::Machine;
+use tm_indexed::Indexed;
+use tm_io::{FileList, FileName};
+use tm_list::NoMemory;
+use tm_script::has_supervisor;
+use tm_types::request::Trace;
+use tm_word::Text;
+
+/// The files of a call by their names.
+pub(crate) fn files(alloc: Global, texts: &[(FileName, &str)]) -> Result<FileList, NoMemory> {
+    let mut files = FileList::new(alloc);
+    for (name, text) in texts {
+        files.push((*name, Text::from_bytes(alloc, text.as_bytes())?))?;
+    }
+    Ok(files)
+}
+
+// What these files hold.
+fn read(alloc: Global, texts: FileList) -> Result<Loaded, NoMemory>
+    ensures few { IfOk result (λ loaded. IsFew loaded.policy) }
+    ensures can { IfOk result (λ loaded. CanPlay (scene_of loaded)) }
+{
+    match read_scene(alloc, texts) {
+        Ok(loaded) => Ok(loaded),
+        Err(_) => Err(AllocError),
+    }
+}
+
+// A machine at what was read, and its trace.
+fn begin(alloc: Global, loaded: Loaded) -> Result<(Machine<Indexed>, Trace), NoMemory>
+    requires few { IsFew loaded.policy }
+    requires can { CanPlay (scene_of loaded) }
+    ensures { IfOk result (λ begun. CanBePlayed begun.1 begun.0) }
+{
+    let Loaded {
+        policy,
+        trace,
+        editors,
+        book,
+        ..
+    } = loaded;
+    let Ok(trees) = u32::try_from(trace.len()) else {
+        return Err(AllocError);
+    };
+    let stands = has_supervisor(&book);
+    let machine = Machine::start(alloc, policy, editors.into_vec(), trees, stands)?;
+    Ok((machine, trace))
+}
+
+/// A machine at version 0 whose opening these files hold, and the trace that they hold.
+pub(crate) fn opened(
+    alloc: Global,
+    texts: &[(FileName, &str)],
+) -> Result<(Machine<Indexed>, Trace), NoMemory>
+    ensures { IfOk result (λ begun. CanBePlayed begun.1 begun.0) }
+{
+    begin(alloc, read(alloc, files(alloc, texts)?)?)
+}
