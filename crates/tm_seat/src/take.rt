@@ -6,7 +6,7 @@ ghost use Rattle.tm_types.specs.declared.step.Maker.{Maker};
 ghost use Rattle.tm_types.specs.declared.verdict.Verdict.{Verdict};
 ghost use Rattle.tm_grammar.specs.Tomoyo.{tomoyo_grammar};
 ghost use Rattle.tm_legal.specs.Legal.{own_numbers};
-ghost use Rattle.tm_legal.specs.Play.{Stage, IsOpened, IsNamed};
+ghost use Rattle.tm_legal.specs.Play.{Stage, IsOpened, IsNamed, taken};
 ghost use Rattle.tm_legal.specs.Stages.{DomainIn};
 ghost use Rattle.tm_take.specs.Situations.{situation_of};
 ghost use Rattle.tm_joint.specs.UnderWay.{JudgedBy, begun_at};
@@ -161,8 +161,23 @@ fn first_look<S: Seat>(
     look(seat, alloc, domain, pending)
 }
 
+// The take that has ended; its request is put behind those that were played.
+fn end(attempt: RequestInProgress, played: &mut Vec<Request>) -> Result<Take, NoMemory>
+    ensures { IfOk result (λ take. take ≡ taken tomoyo_grammar attempt) }
+{
+    let (take, request) = attempt.into_take()?;
+    match played.push(request) {
+        Ok(()) => Ok(take),
+        Err(fault) => {
+            drop(take);
+            Err(fault.into())
+        }
+    }
+}
+
 /// Plays a request of a process in the domain of this number: a look, then each step that the
 /// verdict asks for, the wait for an answer, and another look after a retry, until nothing is owed.
+/// The request is put behind those that were played, for whoever made them to free them.
 ///
 /// Errors: want of memory, or that no answer can come any more.
 pub fn play_take<S: Seat>(
@@ -171,6 +186,7 @@ pub fn play_take<S: Seat>(
     now: ProcessSituation,
     domain: u32,
     request: Request,
+    played: &mut Vec<Request>,
 ) -> Result<Take, NoMemory>
     requires opened { IsOpened (S.opening seat.old).policy }
     requires named { IsNamed tomoyo_grammar.is_path (S.opening seat.old).policy }
@@ -194,7 +210,7 @@ pub fn play_take<S: Seat>(
     let mut attempt = first_look(seat, alloc, now, domain, request)?;
     for _ in 0..u64::MAX {
         match attempt.next_event() {
-            NextEvent::End => return attempt.into_take(),
+            NextEvent::End => return end(attempt, played),
             NextEvent::OwnStep => attempt = own_step(seat, alloc, attempt)?,
             NextEvent::Answer(serial) => attempt = hear(seat, alloc, attempt, serial)?,
             NextEvent::Look => attempt = look_again(seat, alloc, attempt)?,

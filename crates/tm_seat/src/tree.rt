@@ -34,13 +34,14 @@ pub struct TreeToPlay {
     pub records: Seq<Item>,
 }
 
-/// A tree that was played: its number, its takes in the order of its requests, and the number of
-/// its End where a supervisor stands.
+/// A tree that was played: its number, its takes in the order of its requests, the number of its
+/// End where a supervisor stands, and requests that were played, for whoever made them to free them.
 #[derive(Drop)]
 pub struct PlayedTree {
     pub number: u32,
     pub takes: Seq<Take>,
     pub end: Option<u64>,
+    pub played: Vec<Request>,
 }
 
 // The take of a tree's next request; its process is in the domain after it.
@@ -50,6 +51,7 @@ fn next_take<S: Seat>(
     known: &mut ProcessSituations,
     pid: u32,
     request: Request,
+    played: &mut Vec<Request>,
 ) -> Result<Take, NoMemory>
     requires opened { IsOpened (S.opening seat.old).policy }
     requires named { IsNamed tomoyo_grammar.is_path (S.opening seat.old).policy }
@@ -66,7 +68,7 @@ fn next_take<S: Seat>(
     let now = known.at(pid);
     match now.domain {
         Some(domain) => {
-            let take = play_take(seat, alloc, now, domain, request)?;
+            let take = play_take(seat, alloc, now, domain, request, played)?;
             match known.move_to(pid, take.after) {
                 Ok(()) => Ok(take),
                 Err(fault) => {
@@ -88,6 +90,7 @@ fn play_record<S: Seat>(
     known: &mut ProcessSituations,
     item: Item,
     takes: &mut Vec<Take>,
+    played: &mut Vec<Request>,
 ) -> Result<(), NoMemory>
     requires opened { IsOpened (S.opening seat.old).policy }
     requires named { IsNamed tomoyo_grammar.is_path (S.opening seat.old).policy }
@@ -105,7 +108,7 @@ fn play_record<S: Seat>(
         Item::Fork(pid, child) => known.fork(pid, child),
         Item::Do(pid, request) => {
             seat.begin(tree, place);
-            let take = next_take(seat, alloc, known, pid, request)?;
+            let take = next_take(seat, alloc, known, pid, request, played)?;
             takes.push(take)?;
             Ok(())
         }
@@ -119,6 +122,7 @@ fn play_records<S: Seat>(
     tree: u32,
     home: u32,
     records: Seq<Item>,
+    played: &mut Vec<Request>,
 ) -> Result<Vec<Take>, NoMemory>
     requires opened { IsOpened (S.opening seat.old).policy }
     requires named { IsNamed tomoyo_grammar.is_path (S.opening seat.old).policy }
@@ -143,7 +147,9 @@ fn play_records<S: Seat>(
     let mut place: u32 = 0;
     while let Some(item) = lines.next() {
         place = place.saturating_add(1);
-        play_record(seat, alloc, tree, place, &mut known, item, &mut takes)?;
+        play_record(
+            seat, alloc, tree, place, &mut known, item, &mut takes, played,
+        )?;
     }
     Ok(takes)
 }
@@ -206,15 +212,18 @@ pub fn play_tree<S: Seat>(
         home,
         records,
     } = tree;
-    let takes = play_records(seat, alloc, number, home, records)?;
+    let mut played = Vec::new(alloc);
+    let takes = play_records(seat, alloc, number, home, records, &mut played)?;
     match end_tree(seat, alloc, number, supervised) {
         Ok(end) => Ok(PlayedTree {
             number,
             takes: Seq::from_vec(takes),
             end,
+            played,
         }),
         Err(fault) => {
             drop(takes);
+            drop(played);
             Err(fault)
         }
     }

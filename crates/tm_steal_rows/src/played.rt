@@ -69,7 +69,8 @@ pub fn play_line<S: Seat>(
     ensures grows { Begins (S.at seat.old) (S.at seat.new) }
 {
     seat.begin(tree, place);
-    let take = play_take(seat, alloc, now, domain, request)?;
+    let mut played = Vec::new(alloc);
+    let take = play_take(seat, alloc, now, domain, request, &mut played)?;
     Ok(PlayedTake {
         line,
         stood: now,

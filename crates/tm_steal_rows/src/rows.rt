@@ -79,6 +79,7 @@ fn next_row(
         number,
         takes: Seq::from_vec(takes),
         end,
+        played: Vec::new(alloc),
     })
 }
 

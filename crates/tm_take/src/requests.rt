@@ -479,8 +479,9 @@ impl RequestInProgress {
 
     /// The take that it ends as: granted by its last look, into the domain where it leads, with all
     /// its looks and the last one's audit text.
-    pub fn into_take(self) -> Result<Take, NoMemory>
-        ensures { IfOk result (λ ended. ended ≡ taken tomoyo_grammar self) }
+    pub fn into_take(self) -> Result<(Take, Request), NoMemory>
+        ensures take { IfOk result (λ ended. ended.0 ≡ taken tomoyo_grammar self) }
+        ensures request { IfOk result (λ ended. ended.1 ≡ self.request) }
     {
         let granted = look_grants(&self.parts.look);
         let after = self.domain_after(granted);
@@ -500,19 +501,22 @@ impl RequestInProgress {
             awaited,
         } = Box::into_inner(parts);
         drop(now);
-        drop(request);
         drop(verdict);
         drop(awaited);
         match with_last(looked, look) {
-            Ok(looks) => Ok(Take {
-                pid,
-                before,
-                after,
-                granted,
-                looks,
-                audit,
-            }),
+            Ok(looks) => Ok((
+                Take {
+                    pid,
+                    before,
+                    after,
+                    granted,
+                    looks,
+                    audit,
+                },
+                request,
+            )),
             Err(fault) => {
+                drop(request);
                 drop(audit);
                 Err(fault)
             }

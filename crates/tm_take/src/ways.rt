@@ -118,7 +118,8 @@ impl TreeOnWay {
         ensures { OnOk result
             (way_of self.new ≡ ended_way tomoyo_grammar (way_of self.old) attempt) }
     {
-        let take = attempt.into_take()?;
+        let (take, request) = attempt.into_take()?;
+        drop(request);
         match self.known.move_to(take.pid, take.after) {
             Ok(()) => {
                 drop(self.begun.take());

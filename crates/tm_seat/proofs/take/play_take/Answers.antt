@@ -12,33 +12,33 @@ use Rattle.tm_seat.proofs.take.play_take.Goals as goal
 
 pub returns-in-End-clause-legal : goal.returns-in-End-clause-legal
 returns-in-End-clause-legal g c =
-    ends-ok (g.S.Seat.opening c.args.seat.now) c.requires.opened (λ (k : Take). TakeIsLegal (g.S.Seat.opening c.args.seat.now) (g.S.Seat.at c.args.seat.now) (g.S.Seat.at c.loop.seat) (situation_of c.args.now) c.args.request k) (record { now = situation_of c.args.now; domain = c.args.domain; request = c.args.request; known = g.S.Seat.at c.args.seat.now; before = g.S.Seat.own c.args.seat.now }) (g.S.Seat.at c.loop.seat) (g.S.Seat.own c.loop.seat) c.loop.attempt c.into_take.result
-    (λ k h. h.legal) c.loop.invariant.1 c.requires.stands c.in-End.ensures c.into_take.ensures
+    ends-ok (g.S.Seat.opening c.args.seat.now) c.requires.opened (λ (k : Take). TakeIsLegal (g.S.Seat.opening c.args.seat.now) (g.S.Seat.at c.args.seat.now) (g.S.Seat.at c.loop.seat) (situation_of c.args.now) c.args.request k) (record { now = situation_of c.args.now; domain = c.args.domain; request = c.args.request; known = g.S.Seat.at c.args.seat.now; before = g.S.Seat.own c.args.seat.now }) (g.S.Seat.at c.loop.seat) (g.S.Seat.own c.loop.seat) c.loop.attempt c.end.result
+    (λ k h. h.legal) c.loop.invariant.1 c.requires.stands c.in-End.ensures c.end.ensures
 
 pub returns-in-End-clause-there : goal.returns-in-End-clause-there
 returns-in-End-clause-there g c =
-    ends-ok (g.S.Seat.opening c.args.seat.now) c.requires.opened (λ (k : Take). DomainIn (state_of (g.S.Seat.opening c.args.seat.now) (g.S.Seat.at c.loop.seat)).policy k.after) (record { now = situation_of c.args.now; domain = c.args.domain; request = c.args.request; known = g.S.Seat.at c.args.seat.now; before = g.S.Seat.own c.args.seat.now }) (g.S.Seat.at c.loop.seat) (g.S.Seat.own c.loop.seat) c.loop.attempt c.into_take.result
-    (λ k h. h.there) c.loop.invariant.1 c.requires.stands c.in-End.ensures c.into_take.ensures
+    ends-ok (g.S.Seat.opening c.args.seat.now) c.requires.opened (λ (k : Take). DomainIn (state_of (g.S.Seat.opening c.args.seat.now) (g.S.Seat.at c.loop.seat)).policy k.after) (record { now = situation_of c.args.now; domain = c.args.domain; request = c.args.request; known = g.S.Seat.at c.args.seat.now; before = g.S.Seat.own c.args.seat.now }) (g.S.Seat.at c.loop.seat) (g.S.Seat.own c.loop.seat) c.loop.attempt c.end.result
+    (λ k h. h.there) c.loop.invariant.1 c.requires.stands c.in-End.ensures c.end.ensures
 
 pub returns-in-End-clause-own : goal.returns-in-End-clause-own
 returns-in-End-clause-own g c =
-    ends-ok (g.S.Seat.opening c.args.seat.now) c.requires.opened (λ (k : Take). g.S.Seat.own c.loop.seat ≡ g.S.Seat.own c.args.seat.now ++ own_numbers (k ∷ [])) (record { now = situation_of c.args.now; domain = c.args.domain; request = c.args.request; known = g.S.Seat.at c.args.seat.now; before = g.S.Seat.own c.args.seat.now }) (g.S.Seat.at c.loop.seat) (g.S.Seat.own c.loop.seat) c.loop.attempt c.into_take.result
-    (λ k h. h.made) c.loop.invariant.1 c.requires.stands c.in-End.ensures c.into_take.ensures
+    ends-ok (g.S.Seat.opening c.args.seat.now) c.requires.opened (λ (k : Take). g.S.Seat.own c.loop.seat ≡ g.S.Seat.own c.args.seat.now ++ own_numbers (k ∷ [])) (record { now = situation_of c.args.now; domain = c.args.domain; request = c.args.request; known = g.S.Seat.at c.args.seat.now; before = g.S.Seat.own c.args.seat.now }) (g.S.Seat.at c.loop.seat) (g.S.Seat.own c.loop.seat) c.loop.attempt c.end.result
+    (λ k h. h.made) c.loop.invariant.1 c.requires.stands c.in-End.ensures c.end.ensures
 
 pub returns-in-End-clause-makers : goal.returns-in-End-clause-makers
 returns-in-End-clause-makers g c =
-    ends-ok (g.S.Seat.opening c.args.seat.now) c.requires.opened (λ (k : Take). MadeBy (Maker.Process c.args.now.process.pid ∷ []) (g.S.Seat.at c.args.seat.now) (g.S.Seat.own c.args.seat.now) (g.S.Seat.at c.loop.seat) (g.S.Seat.own c.loop.seat)) (record { now = situation_of c.args.now; domain = c.args.domain; request = c.args.request; known = g.S.Seat.at c.args.seat.now; before = g.S.Seat.own c.args.seat.now }) (g.S.Seat.at c.loop.seat) (g.S.Seat.own c.loop.seat) c.loop.attempt c.into_take.result
-    (λ k h. c.loop.invariant.1.makers) c.loop.invariant.1 c.requires.stands c.in-End.ensures c.into_take.ensures
+    ends-ok (g.S.Seat.opening c.args.seat.now) c.requires.opened (λ (k : Take). MadeBy (Maker.Process c.args.now.process.pid ∷ []) (g.S.Seat.at c.args.seat.now) (g.S.Seat.own c.args.seat.now) (g.S.Seat.at c.loop.seat) (g.S.Seat.own c.loop.seat)) (record { now = situation_of c.args.now; domain = c.args.domain; request = c.args.request; known = g.S.Seat.at c.args.seat.now; before = g.S.Seat.own c.args.seat.now }) (g.S.Seat.at c.loop.seat) (g.S.Seat.own c.loop.seat) c.loop.attempt c.end.result
+    (λ k h. c.loop.invariant.1.makers) c.loop.invariant.1 c.requires.stands c.in-End.ensures c.end.ensures
 
 pub returns-in-End-clause-fresh : goal.returns-in-End-clause-fresh
 returns-in-End-clause-fresh g c =
-    ends-ok (g.S.Seat.opening c.args.seat.now) c.requires.opened (λ (k : Take). LooksSince (length (g.S.Seat.at c.args.seat.now)) k) (record { now = situation_of c.args.now; domain = c.args.domain; request = c.args.request; known = g.S.Seat.at c.args.seat.now; before = g.S.Seat.own c.args.seat.now }) (g.S.Seat.at c.loop.seat) (g.S.Seat.own c.loop.seat) c.loop.attempt c.into_take.result
-    (λ k h. h.fresh) c.loop.invariant.1 c.requires.stands c.in-End.ensures c.into_take.ensures
+    ends-ok (g.S.Seat.opening c.args.seat.now) c.requires.opened (λ (k : Take). LooksSince (length (g.S.Seat.at c.args.seat.now)) k) (record { now = situation_of c.args.now; domain = c.args.domain; request = c.args.request; known = g.S.Seat.at c.args.seat.now; before = g.S.Seat.own c.args.seat.now }) (g.S.Seat.at c.loop.seat) (g.S.Seat.own c.loop.seat) c.loop.attempt c.end.result
+    (λ k h. h.fresh) c.loop.invariant.1 c.requires.stands c.in-End.ensures c.end.ensures
 
 pub returns-in-End-clause-pid : goal.returns-in-End-clause-pid
 returns-in-End-clause-pid g c =
-    ends-ok (g.S.Seat.opening c.args.seat.now) c.requires.opened (λ (k : Take). k.pid ≡ c.args.now.process.pid) (record { now = situation_of c.args.now; domain = c.args.domain; request = c.args.request; known = g.S.Seat.at c.args.seat.now; before = g.S.Seat.own c.args.seat.now }) (g.S.Seat.at c.loop.seat) (g.S.Seat.own c.loop.seat) c.loop.attempt c.into_take.result
-    (λ k h. h.pid) c.loop.invariant.1 c.requires.stands c.in-End.ensures c.into_take.ensures
+    ends-ok (g.S.Seat.opening c.args.seat.now) c.requires.opened (λ (k : Take). k.pid ≡ c.args.now.process.pid) (record { now = situation_of c.args.now; domain = c.args.domain; request = c.args.request; known = g.S.Seat.at c.args.seat.now; before = g.S.Seat.own c.args.seat.now }) (g.S.Seat.at c.loop.seat) (g.S.Seat.own c.loop.seat) c.loop.attempt c.end.result
+    (λ k h. h.pid) c.loop.invariant.1 c.requires.stands c.in-End.ensures c.end.ensures
 
 pub loop-preserved : goal.loop-preserved
 loop-preserved g c =
