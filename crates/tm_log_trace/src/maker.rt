@@ -133,7 +133,16 @@ impl Model for Maker {
 
     ghost Value = { Making };
 
-    ghost view = { λ s. record { forest = s.forest; list = s.list; places = s.places; table = s.table.entries; firsts = s.firsts.entries; invented = s.invented; source = s.source; warnings = s.warnings } };
+    ghost view = { λ s. record {
+      forest = s.forest;
+      list = s.list;
+      places = s.places;
+      table = s.table.entries;
+      firsts = s.firsts.entries;
+      invented = s.invented;
+      source = s.source;
+      warnings = s.warnings;
+    } };
 }
 
 impl Maker {

@@ -218,8 +218,8 @@ abbrev pub run_with : Start → Trace → Book → List Made → List Row → Ru
 run_with start trace book list rows =
     record { steps = history_made (scene_of start trace book) list; takes = takes_in rows }
 
--- what was played together is a legal run, where the workers' rows hold, their steps are claimed and
--- counted by the rows, and none of their looks is older than what each knew at its beginning
+-- what was played together is a legal run, where the workers' rows hold, their steps are claimed
+-- and counted by the rows, and none of their looks is older than what each knew at its beginning
 module _ {H D : Type 0} (Did : Start → ℕ → H → Deed D → Type 0) (start : Start) (trace : Trace) (book : Book) (hands : List H) (list : List Made) (given : List (List D)) (opened : IsOpened start.policy) (trees : length trace ≡ start.trees) (p : PlayedTogether Did start book hands list given) (s : Shares Did start book (length p.attached) hands list given) (who : Maker → Option ℕ) (others : OthersFollow who (length hands) (length start.editors)) (claimed : EachClaims who 0 list (owns s.workers)) (rows : List Row) (each : EachRow (RowHolds (scene_of start trace book) list) 1 trace rows) (counts : (n : ℕ) → times n (flat_map (λ (ns : List ℕ). ns) (owns s.workers)) ≡ times n (flat_map row_own rows)) where
   as_joint : Joint (scene_of start trace book) list (run_with start trace book list rows)
   as_joint =

@@ -277,12 +277,12 @@ fn push_all(takes: &mut Vec<Take>, more: Seq<Take>) -> Result<(), NoMemory>
 }
 
 /// Plays a trace by so many workers beside each other, while the machine's editors make their lines
-/// and, where a supervisor stands, the desk answers: worker w of n plays the trees whose number less
-/// 1 leaves w less 1, divided by n, in order. The supervisor comes first, and every thread is told
-/// of it. Each tree starts in the domain that is live in the opening. The gate is called before
-/// each request is first looked at, and before each line of an editor. Gives the run, its takes in
-/// the order of the trace, the opening, and the policy at the last version. Nothing of the trace is
-/// copied.
+/// and, where a supervisor stands, the desk answers: worker w of n plays the trees whose number
+/// less 1 leaves w less 1, divided by n, in order. The supervisor comes first, and every thread is
+/// told of it. Each tree starts in the domain that is live in the opening. The gate is called
+/// before each request is first looked at, and before each line of an editor. Gives the run, its
+/// takes in the order of the trace, the opening, and the policy at the last version. Nothing of the
+/// trace is copied.
 ///
 /// Errors: want of memory, or more than 32 threads.
 pub fn replay_run<

@@ -46,8 +46,8 @@ pub trait Seat {
         ensures own { own self.new ≡ own self.old };
 
     /// Looks for the domain of this number at a version that is no older than any that it has seen:
-    /// whether the domain is there with its profile, and that version. By such a look each step that
-    /// the seat knows is known to fit.
+    /// whether the domain is there with its profile, and that version. By such a look each step
+    /// that the seat knows is known to fit.
     fn arrive(&mut self, domain: u32) -> (bool, u64)
         ensures fitted { FitsFrom (opening self.new) (at self.new) }
         ensures there { IsTrue result.0

@@ -35,7 +35,8 @@ pub struct TreeToPlay {
 }
 
 /// A tree that was played: its number, its takes in the order of its requests, the number of its
-/// End where a supervisor stands, and requests that were played, for whoever made them to free them.
+/// End where a supervisor stands, and requests that were played, for whoever made them to free
+/// them.
 #[derive(Drop)]
 pub struct PlayedTree {
     pub number: u32,

@@ -27,8 +27,8 @@ pub(crate) struct Hand {
 }
 
 /// What all workers share: the trace with its processes and the places of its requests in their
-/// order, how many trees it has, a handle to steal from each worker, how many processes have ended, and whether
-/// somebody has given up.
+/// order, how many trees it has, a handle to steal from each worker, how many processes have ended,
+/// and whether somebody has given up.
 #[derive(Drop)]
 pub(crate) struct Board<'a> {
     pub(crate) trace: &'a [Tree],
@@ -128,7 +128,8 @@ fn stealers_of(alloc: Global, hands: &[Hand]) -> Result<Vec<Stealer<Job>>, NoMem
 }
 
 // Deals the first process of each tree, which starts in this domain: that of the tree of number t
-// goes to the worker, from 0, whose number is what t less 1 leaves, divided by the number of workers.
+// goes to the worker, from 0, whose number is what t less 1 leaves, divided by the number of
+// workers.
 fn deal_firsts(
     firsts: &[(u32, usize)],
     homes: &[Option<u32>],
@@ -153,8 +154,8 @@ fn deal_firsts(
     Ok(())
 }
 
-/// The board of a trace and of so many workers, whose trees start in these domains, and the workers'
-/// hands, each with the first processes that are dealt to it.
+/// The board of a trace and of so many workers, whose trees start in these domains, and the
+/// workers' hands, each with the first processes that are dealt to it.
 ///
 /// Errors: want of memory.
 pub(crate) fn board_of<'a>(

@@ -5,7 +5,8 @@ use tm_list::NoMemory;
 use tm_types::request::{Ids, Item, Tree};
 
 /// A line of a process: other ids; a child, with its place among all processes and its pid; or a
-/// request, with its place among all `do` lines, from 0, and its record's place in its tree, from 1.
+/// request, with its place among all `do` lines, from 0, and its record's place in its tree, from
+/// 1.
 #[derive(Clone, Copy)]
 pub(crate) enum Line {
     Ids(Ids),

@@ -77,9 +77,9 @@ fn steal_trace<
 }
 
 /// Plays a trace by so many workers beside each other, while the machine's editors make their lines
-/// and, where a supervisor stands, the desk answers. The workers share the processes of the trees: a
-/// process can be played from its fork on, by whichever worker takes it first. The supervisor comes
-/// first, and every thread is told of it. Each tree starts in the domain that is live in the
+/// and, where a supervisor stands, the desk answers. The workers share the processes of the trees:
+/// a process can be played from its fork on, by whichever worker takes it first. The supervisor
+/// comes first, and every thread is told of it. Each tree starts in the domain that is live in the
 /// opening, and ends when all trees have been played. The gate is called before each request is
 /// first looked at, and before each line of an editor. Gives the run, its takes in the order of the
 /// trace, the opening, and the policy at the last version. Each request is copied where it is

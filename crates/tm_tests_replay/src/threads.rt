@@ -10,8 +10,8 @@ use tm_engine::gate::{Gate, NoGate};
 use tm_io::FileName;
 use tomoyo::Status;
 
-// Plays these files with these words through a gate, and expects that the call is done and that what
-// it has put begins so.
+// Plays these files with these words through a gate, and expects that the call is done and that
+// what it has put begins so.
 fn expect<W: Threads + Wait + Abort + Sync, G: Gate>(
     rt: &W,
     alloc: Global,

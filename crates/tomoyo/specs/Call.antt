@@ -206,7 +206,8 @@ IsLoadFault command files fault = (texts : Texts) × AllGiven files (wants_of co
 abbrev pub IsSceneFault : Files → Status → Type 0
 IsSceneFault files status = (texts : Texts) × AllGiven files scene_wants texts × (refused (scene_reading texts) ≡ Some status)
 
--- a refusal of what `step`, `learn`, `replay` and `verify` read beside the policy, but for a given run
+-- a refusal of what `step`, `learn`, `replay` and `verify` read beside the policy, but for a given
+-- run
 abbrev pub IsStepFault : Command → Files → Status → Type 0
 IsStepFault Command.Step files status = (texts : Texts) × AllGiven files (wants_of Command.Step) texts × (step_refusal texts ≡ Some status)
 IsStepFault Command.Print files status = ⊥

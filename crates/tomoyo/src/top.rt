@@ -235,8 +235,8 @@ pub fn run_alone<S: Shelf, K: Sink>(
 /// Does what `run_alone` does, and `replay` with a number of workers from 1 to 16 besides: it plays
 /// the trace on so many threads, with a thread for each editor and for the supervisor, and stores
 /// what `step` stores; it reads no `schedule`. With `steal` after the number the threads share the
-/// processes of the trees, and not only the trees. With `rerun` it does what `learn` does, its rerun
-/// on threads too. The gate may hold threads back on their way, as tests do.
+/// processes of the trees, and not only the trees. With `rerun` it does what `learn` does, its
+/// rerun on threads too. The gate may hold threads back on their way, as tests do.
 pub fn run<S: Shelf, K: Sink, W: Threads + Wait + Sync, G: Gate>(
     rt: &W,
     alloc: Global,

@@ -134,8 +134,8 @@ pub fn run_on_threads<W: Threads + Wait + Sync, G: Gate>(
     replay_run(rt, alloc, machine, trace, workers, &desk, gate)
 }
 
-/// Plays what was read on so many threads that share the processes of its trees, beside those of the
-/// editors and of the supervisor. The gate may hold them back on their way.
+/// Plays what was read on so many threads that share the processes of its trees, beside those of
+/// the editors and of the supervisor. The gate may hold them back on their way.
 pub fn run_stealing<W: Threads + Wait + Sync, G: Gate>(
     rt: &W,
     alloc: Global,
