@@ -7,7 +7,7 @@ use Rattle.std.specs.Str.Parse.{digits_value}
 use Rattle.std.proofs.Math.Nat.{pow-le-pow_right}
 use Rattle.tm_addr.specs.declared.reading.Groups.{Groups}
 use Rattle.tm_addr.specs.Reading.{◌>>=◌, with_group, with_quad, with_last, last_of, groups_after, few, group_of, v4_of}
-use Rattle.tm_word.proofs.Cuts.{pieces_of}
+use Rattle.tm_number.proofs.Cuts.{pieces_of}
 
 -- a piece with others after it
 pub goes_on : (dotted : Bool) (before : Groups) (piece rest : List ℕ) → groups_after dotted before (piece ∷ slice_split (λ b. b == 58) rest) ≡ (group_of piece >>= λ group. groups_after dotted (with_group before group) (slice_split (λ b. b == 58) rest))

@@ -7,3 +7,5 @@ pub mod V4Laws
 pub mod GroupLaws
 pub mod V6Laws
 pub mod AddrLaws
+pub use Rattle.tm_number.proofs.NumberLaws
+pub use Rattle.tm_number.proofs.RangeLaws

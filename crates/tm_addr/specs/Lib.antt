@@ -1,2 +1,10 @@
 pub mod Reading
 pub mod Printing
+pub use Rattle.tm_number.specs.declared.Addr
+pub use Rattle.tm_number.specs.declared.AddrRange
+pub use Rattle.tm_number.specs.Addresses
+pub use Rattle.tm_number.specs.declared.Base
+pub use Rattle.tm_number.specs.declared.Number
+pub use Rattle.tm_number.specs.declared.text.NumberFault
+pub use Rattle.tm_number.specs.Numbers
+pub use Rattle.tm_number.specs.declared.Range

@@ -9,3 +9,4 @@ mod reading;
 
 pub use printing::{write_addr, write_addr_range};
 pub use reading::{AddrFault, read_addr, read_addr_range};
+pub use tm_number as number;

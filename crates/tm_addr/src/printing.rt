@@ -3,7 +3,7 @@ ghost use Rattle.std.specs.Prelude.{◌≡◌, ◌+◌, ◌<◌, ◌≤◌, ◌/
 ghost use Rattle.tm_addr.specs.Printing.{v4_spelling, group_at, groups_in, zeros, run, longer, longest, joined, shortened, v6_spelling, addr_spelling, same_addr, addr_range_spelling};
 
 use std::alloc::Global;
-use tm_list::NoMemory;
+use tm_number::list::NoMemory;
 use tm_number::{Addr, AddrRange};
 
 /// A run of zero groups: the place of its first, from 0 for the highest, and its length.

@@ -8,8 +8,8 @@ ghost use Rattle.tm_number.specs.declared.Addr.{Addr};
 ghost use Rattle.tm_number.specs.declared.AddrRange.{AddrRange};
 
 use thiserror::Error;
+use tm_number::word::{cut_at, has_byte, place_of};
 use tm_number::{Addr, AddrRange, is_numeral, plain_number, value_of_digits};
-use tm_word::{cut_at, has_byte, place_of};
 
 /// Why a text is no address or no range of addresses. A single address meets the first alone.
 #[derive(Clone, Copy, PartialEq, Eq, Debug, Error)]

@@ -27,11 +27,11 @@ use Rattle.tm_rules.specs.Mode.{config_of}
 use Rattle.tm_rules.specs.Policy.{namespace_named}
 use Rattle.tm_line.specs.Permissions.{perm_on}
 use Rattle.tm_line.specs.Printing.{name_spelling}
-use Rattle.tm_file.specs.FileLines.{file_words}
-use Rattle.tm_net.specs.NetLines.{net_words}
-use Rattle.tm_entry.specs.Entries.{acl_words}
-use Rattle.tm_cond.specs.Attributes.{attr_text}
-use Rattle.tm_trace.specs.Printing.{attribute_words, request_words, request_text, attributes_text}
+use Rattle.tm_grammar.specs.FileLines.{file_words}
+use Rattle.tm_grammar.specs.NetLines.{net_words}
+use Rattle.tm_grammar.specs.Entries.{acl_words}
+use Rattle.tm_grammar.specs.Attributes.{attr_text}
+use Rattle.tm_grammar.specs.Printing.{attribute_words, request_words, request_text, attributes_text}
 use Rattle.tm_rules.specs.Audit.{audit_text}
 use Rattle.tm_audit.specs.Parts.{PrintsRequests}
 

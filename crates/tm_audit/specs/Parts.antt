@@ -14,7 +14,7 @@ use Rattle.tm_rules.specs.Mode.{logs_of}
 use Rattle.tm_change_domains.specs.Standing.{Standing}
 use Rattle.tm_types.specs.Texts.{mode_text}
 use Rattle.tm_rules.specs.Audit.{is_logged, granted_text, reason_text, ids_text}
-use Rattle.tm_trace.specs.Printing.{request_text, attributes_text}
+use Rattle.tm_grammar.specs.Printing.{request_text, attributes_text}
 
 -- a grammar that prints requests and their attributes as a trace does
 pub record PrintsRequests (g : Grammar) : Type 0 where

@@ -12,11 +12,11 @@ ghost use Rattle.tm_rules.specs.Audit.{grant_logged, is_logged, granted_text, re
 ghost use Rattle.tm_audit.specs.Parts.{is_audited, logged, header, lines};
 
 use std::alloc::Global;
+use tm_change_domains::profile::config_of;
 use tm_change_domains::{Standing, entry_at, standing_at};
+use tm_grammar::trace::{print_attributes, print_request};
 use tm_list::{NoMemory, Seq};
 use tm_number::write_decimal;
-use tm_profile::config_of;
-use tm_trace::{print_attributes, print_request};
 use tm_types::entry::Entry;
 use tm_types::function_at;
 use tm_types::policy::{Domain, Logs, Mode, Namespace, Policy};
@@ -217,3 +217,5 @@ pub fn audit_text(
         None => Ok(None),
     }
 }
+
+pub use tm_change_domains as change_domains;

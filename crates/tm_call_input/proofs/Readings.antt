@@ -16,8 +16,8 @@ use Rattle.tm_types.specs.declared.step.LoadFault.{LoadFault}
 use Rattle.tm_types.specs.declared.step.Turn.{Turn}
 use Rattle.tm_call.specs.declared.status.Status.{Status}
 use Rattle.tm_io.specs.declared.names.FileName.{FileName}
-use Rattle.tm_grammar.specs.Tomoyo.{tomoyo_grammar}
-use Rattle.tm_grammar.proofs.IsOne.{is_one}
+use Rattle.tm_core.specs.Tomoyo.{tomoyo_grammar}
+use Rattle.tm_core.proofs.IsOne.{is_one}
 use Rattle.tm_trace.specs.Reading.{trace_of}
 use Rattle.tm_trace.proofs.EachAsked.{requests_bounded}
 use Rattle.tm_trace.proofs.TraceRead.{trace_read}

@@ -4,7 +4,7 @@ use Rattle.tm_types.specs.declared.policy.Policy.{Policy}
 use Rattle.tm_types.specs.declared.step.PolicyFiles.{PolicyFiles}
 use Rattle.tm_types.specs.declared.step.LoadFault.{LoadFault}
 use Rattle.tm_rules.specs.Load.{load}
-use Rattle.tm_grammar.specs.Tomoyo.{tomoyo_grammar}
+use Rattle.tm_core.specs.Tomoyo.{tomoyo_grammar}
 use Rattle.tm_io.specs.declared.names.FileName.{FileName}
 use Rattle.tm_io.specs.Names.{file_place}
 use Rattle.tm_call.specs.declared.status.Status.{Status}

@@ -6,9 +6,9 @@ ghost use Rattle.tm_call_input.specs.Reading.{RefusedBy};
 
 use std::alloc::Global;
 use tm_call::{Status, take_text};
+use tm_indexed::rep::Rep;
 use tm_indexed::{Indexed, load_indexed};
 use tm_io::{FileList, FileName};
-use tm_rep::Rep;
 use tm_types::policy::Policy;
 use tm_types::step::{LoadFault, PolicyFiles};
 

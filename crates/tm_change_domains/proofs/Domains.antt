@@ -9,7 +9,7 @@ use Rattle.tm_rules.specs.Words.{DomainName}
 use Rattle.tm_rules.specs.Policy.{domain_at, changed_at, with_domain, live_domain, adding}
 use Rattle.tm_rules.specs.Edit.{dead}
 use Rattle.tm_rules.specs.Changes.{count}
-use Rattle.tm_learn.specs.Counting.{permissions_of}
+use Rattle.tm_change_entries.specs.Counting.{permissions_of}
 use Rattle.tm_change_domains.proofs.Lists.{get_there, stands, set_changed, get_changed, found_within}
 
 -- the policy with other domains

@@ -8,7 +8,7 @@ ghost use Rattle.tm_rules.specs.Audit.{entry_at};
 ghost use Rattle.tm_rules.specs.Few.{IsShort};
 ghost use Rattle.tm_rules.specs.Policy.{domain_at, profile_numbered, profile_of, live_domain};
 
-use tm_domain::namespace;
+use tm_profile::domain::namespace;
 use tm_types::entry::Entry;
 use tm_types::policy::{Domain, Namespace, Policy, Profile};
 use tm_types::unions::DomainName;

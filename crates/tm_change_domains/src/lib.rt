@@ -22,3 +22,4 @@ pub use making::{apply_fail, make_known};
 pub use managers::{apply_manager, is_manager};
 pub use properties::apply_property;
 pub use standing::{Standing, standing_at};
+pub use tm_profile as profile;

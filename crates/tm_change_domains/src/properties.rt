@@ -9,8 +9,8 @@ ghost use Rattle.tm_change_domains.specs.Properties.{is_property};
 
 use crate::changing::{chosen, put_group, remove_group, set_failed, set_profile, set_quota};
 use crate::choosing::has_profile;
-use tm_domain::namespace;
 use tm_list::NoMemory;
+use tm_profile::domain::namespace;
 use tm_types::policy::{Cursor, Domain, DomainRule, Policy};
 use tm_types::step::EditReply;
 

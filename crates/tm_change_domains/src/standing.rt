@@ -9,7 +9,7 @@ ghost use Rattle.tm_change_domains.specs.Standing.{StandsIn};
 
 use crate::finding::domain_at;
 use std::marker::Model;
-use tm_domain::namespace;
+use tm_profile::domain::namespace;
 use tm_types::policy::{Domain, Namespace, Policy, Profile};
 use tm_word::bytes_equal;
 

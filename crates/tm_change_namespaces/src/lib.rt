@@ -14,3 +14,4 @@ pub use groups::{add_group_line, add_group_line_at, has_group_line, remove_group
 pub use namespaces::namespace_place;
 pub use profiles::apply_profile;
 pub use rules::{add_rule, has_rule, remove_rule};
+pub use tm_change_entries as change_entries;

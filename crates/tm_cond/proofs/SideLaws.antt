@@ -3,7 +3,7 @@ use Rattle.std.proofs.Common.{◌≡◌, ◌==◌, Bool, true, false, cond, [], 
 use Rattle.std.specs.Prelude.{codes}
 use Rattle.tm_word.specs.Words.{Text, Word, Pattern}
 use Rattle.tm_word.specs.Printing.{spelled_pattern}
-use Rattle.tm_pattern.specs.Grammar.{is_right}
+use Rattle.tm_union.specs.Grammar.{is_right}
 use Rattle.tm_types.specs.declared.entry.LineKind.{LineKind}
 use Rattle.tm_types.specs.declared.entry.FileKindWord.{FileKindWord}
 use Rattle.tm_types.specs.declared.entry.Attr.{Attr}

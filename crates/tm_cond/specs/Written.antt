@@ -8,7 +8,7 @@ use Rattle.tm_types.specs.declared.entry.Right.{Right}
 use Rattle.tm_types.specs.declared.entry.Clause.{Clause}
 use Rattle.tm_types.specs.declared.entry.Cond.{Cond}
 use Rattle.tm_types.specs.declared.unions.NameUnion.{NameUnion}
-use Rattle.tm_pattern.specs.Grammar.{is_right}
+use Rattle.tm_union.specs.Grammar.{is_right}
 use Rattle.tm_rules.specs.Equality.{field_place}
 use Rattle.tm_line.specs.Written.{is_group, is_number}
 

@@ -12,9 +12,9 @@ use std::alloc::Global;
 use tm_line::print_number;
 use tm_list::NoMemory;
 use tm_number::write_decimal;
-use tm_pattern::print_pattern;
 use tm_types::entry::{Attr, Clause, Cond, FileKindWord, IdField, Right, StatField};
 use tm_types::unions::NameUnion;
+use tm_union::pattern::print_pattern;
 use tm_word::{Pattern, Word, write_word};
 
 fn id_text(field: IdField) -> &'static [u8]

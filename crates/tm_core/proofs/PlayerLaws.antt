@@ -12,7 +12,7 @@ use Rattle.tm_types.specs.declared.step.Start.{Start}
 use Rattle.tm_types.specs.declared.step.Step.{Step}
 use Rattle.tm_types.specs.declared.step.Reply.{Reply}
 use Rattle.tm_types.specs.declared.step.Turn.{Turn}
-use Rattle.tm_grammar.specs.Tomoyo.{tomoyo_grammar}
+use Rattle.tm_audit.specs.Tomoyo.{tomoyo_grammar}
 use Rattle.tm_rules.specs.Words.{Cursor}
 use Rattle.tm_rules.specs.Changes.{is_manager}
 use Rattle.tm_rules.specs.Search.{when}

@@ -7,7 +7,7 @@ use Rattle.tm_rules.specs.Words.{Trace}
 use Rattle.tm_types.specs.declared.step.Book.{Book}
 use Rattle.tm_types.specs.declared.step.Start.{Start}
 use Rattle.tm_types.specs.declared.step.Turn.{Turn}
-use Rattle.tm_grammar.specs.Tomoyo.{tomoyo_grammar}
+use Rattle.tm_audit.specs.Tomoyo.{tomoyo_grammar}
 use Rattle.tm_legal.specs.Legal.{Scene, Legal, final_policy}
 use Rattle.tm_legal.specs.Play.{Player, CanPlay, start_of, run_of, event, player_event, desk_turn, turn, turns, everybody, rounds, play_left, NobodyCanMove, Plays}
 use Rattle.tm_legal.proofs.Players.{PlayHolds}

@@ -13,7 +13,7 @@ use Rattle.tm_types.specs.declared.step.Look.{Look}
 use Rattle.tm_types.specs.declared.request.Item.{Item}
 use Rattle.tm_types.specs.declared.request.Request.{Request}
 use Rattle.tm_types.specs.declared.verdict.Verdict.{Verdict}
-use Rattle.tm_grammar.specs.Tomoyo.{tomoyo_grammar}
+use Rattle.tm_audit.specs.Tomoyo.{tomoyo_grammar}
 use Rattle.tm_legal.specs.Verdict.{verdict}
 use Rattle.tm_legal.specs.Steps.{State, Applied, apply}
 use Rattle.tm_legal.specs.Run.{Situation, Situations}

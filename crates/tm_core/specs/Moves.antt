@@ -11,7 +11,7 @@ use Rattle.tm_types.specs.declared.step.Reply.{Reply}
 use Rattle.tm_types.specs.declared.step.Answered.{Answered}
 use Rattle.tm_types.specs.declared.step.Turn.{Turn}
 use Rattle.tm_rules.specs.Queries.{answer_of}
-use Rattle.tm_grammar.specs.Tomoyo.{tomoyo_grammar}
+use Rattle.tm_audit.specs.Tomoyo.{tomoyo_grammar}
 use Rattle.tm_legal.specs.Steps.{State, apply}
 use Rattle.tm_legal.specs.Play.{InProgress, Way, Player, going_on, after_step, after_answer, tree_event}
 use Rattle.tm_machine.specs.Machine.{Course, history_of}

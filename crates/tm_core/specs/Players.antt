@@ -6,7 +6,7 @@ use Rattle.tm_types.specs.declared.policy.Policy.{Policy}
 use Rattle.tm_legal.specs.Run.{at_start}
 use Rattle.tm_types.specs.declared.step.Turn.{Turn}
 use Rattle.tm_rules.specs.Queries.{Queries, first_query}
-use Rattle.tm_grammar.specs.Tomoyo.{tomoyo_grammar}
+use Rattle.tm_audit.specs.Tomoyo.{tomoyo_grammar}
 use Rattle.tm_legal.specs.Play.{Way, Player, Settled, settle, supervisor_step}
 use Rattle.tm_machine.specs.Machine.{Course}
 use Rattle.tm_take.specs.Ways.{way_of}

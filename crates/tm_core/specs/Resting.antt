@@ -9,7 +9,7 @@ use Rattle.tm_types.specs.declared.step.Start.{Start}
 use Rattle.tm_types.specs.declared.step.Turn.{Turn}
 use Rattle.tm_rules.specs.Grammar.{Grammar}
 use Rattle.tm_rules.specs.Queries.{numbered}
-use Rattle.tm_grammar.specs.Tomoyo.{tomoyo_grammar}
+use Rattle.tm_audit.specs.Tomoyo.{tomoyo_grammar}
 use Rattle.tm_legal.specs.Play.{Player, tree_event}
 use Rattle.tm_take.specs.Ways.{awaited}
 use Rattle.tm_core.specs.declared.awake.Awake.{Awake}

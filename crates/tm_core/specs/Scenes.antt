@@ -4,7 +4,7 @@ use Rattle.tm_rules.specs.Words.{Trace}
 use Rattle.tm_types.specs.declared.step.Book.{Book}
 use Rattle.tm_types.specs.declared.step.Start.{Start}
 use Rattle.tm_types.specs.declared.step.Turn.{Turn}
-use Rattle.tm_grammar.specs.Tomoyo.{tomoyo_grammar}
+use Rattle.tm_audit.specs.Tomoyo.{tomoyo_grammar}
 use Rattle.tm_legal.specs.Legal.{Scene}
 use Rattle.tm_legal.specs.Play.{Player, CanPlay, start_of, turns, own_turns}
 use Rattle.tm_machine.specs.Machine.{Course}

@@ -1,14 +1,14 @@
 //! The supervisor's next turn.
 ghost use Rattle.std.specs.Prelude.{◌≡◌};
 ghost use Rattle.tm_desk.specs.Desks.{desk_book, IsDesk};
-ghost use Rattle.tm_grammar.specs.Tomoyo.{tomoyo_grammar};
+ghost use Rattle.tm_audit.specs.Tomoyo.{tomoyo_grammar};
 ghost use Rattle.tm_legal.specs.Play.{desk_turn, is_reached};
 ghost use Rattle.tm_core.specs.Players.{player_of};
 
 use crate::player::Player;
 use tm_desk::Desk;
-use tm_rep::Rep;
 use tm_types::step::{Query, Turn};
+use tm_verdict::rep::Rep;
 
 // Whether the supervisor has given as many answers as its book wants.
 fn is_reached(stop: Option<u64>, answers: u64) -> bool

@@ -1,19 +1,19 @@
 //! One look: the verdict on a request and its audit text.
 ghost use Rattle.std.specs.Prelude.{◌≡◌, true, Some, IsSome, IfOk};
-ghost use Rattle.tm_change_domains.specs.Standing.{StandsIn};
+ghost use Rattle.tm_audit.specs.Standing.{StandsIn};
 ghost use Rattle.tm_rules.specs.Requests.{is_request};
-ghost use Rattle.tm_grammar.specs.Tomoyo.{tomoyo_grammar};
+ghost use Rattle.tm_audit.specs.Tomoyo.{tomoyo_grammar};
 ghost use Rattle.tm_legal.specs.Play.{IsNamed};
 ghost use Rattle.tm_core.specs.Judging.{judged, verdict_at};
 
 use std::alloc::Global;
 use tm_audit::audit_in;
-use tm_change_domains::{Standing, standing_at};
+use tm_audit::change_domains::{Standing, standing_at};
 use tm_list::NoMemory;
 use tm_machine::Machine;
-use tm_rep::Rep;
 use tm_types::request::{Proc, Request};
 use tm_types::verdict::Verdict;
+use tm_verdict::rep::Rep;
 use tm_verdict::{verdict_in, verdict_of};
 use tm_word::Text;
 

@@ -1,7 +1,7 @@
 //! A look of a tree: the take that it begins.
 ghost use Rattle.std.specs.Prelude.{◌≡◌, true, IsSome, IfOk, OnOk};
 ghost use Rattle.tm_rules.specs.Requests.{is_request};
-ghost use Rattle.tm_grammar.specs.Tomoyo.{tomoyo_grammar};
+ghost use Rattle.tm_audit.specs.Tomoyo.{tomoyo_grammar};
 ghost use Rattle.tm_legal.specs.Play.{IsNamed};
 ghost use Rattle.tm_take.specs.Ways.{way_of};
 ghost use Rattle.tm_core.specs.Judging.{begun_by, first_looked, looked_again, GoesOn};
@@ -10,9 +10,9 @@ use crate::judging::{Judged, judge};
 use std::alloc::Global;
 use tm_list::NoMemory;
 use tm_machine::Machine;
-use tm_rep::Rep;
 use tm_take::{PendingLook, RequestInProgress, TreeOnWay, begin};
 use tm_types::request::Request;
+use tm_verdict::rep::Rep;
 
 // A look at the newest version: the take that it begins, or goes on with.
 fn look<R: Rep>(

@@ -14,10 +14,10 @@ use std::alloc::{AllocError, Global};
 use tm_desk::Desk;
 use tm_list::{NoMemory, Seq};
 use tm_machine::Machine;
-use tm_rep::Rep;
 use tm_take::TreeOnWay;
 use tm_types::policy::Policy;
 use tm_types::step::{Query, Run, Start, Take, Turn};
+use tm_verdict::rep::Rep;
 
 // The schedule, and then rounds until nobody can move.
 fn play_whole<R: Rep, F: Fn(&Query) -> u64>(

@@ -4,7 +4,7 @@ ghost use Rattle.tm_word.specs.Words.{Text};
 ghost use Rattle.tm_types.specs.declared.step.FileKind.{FileKind};
 ghost use Rattle.tm_types.specs.declared.step.Maker.{Maker};
 ghost use Rattle.tm_types.specs.declared.step.Book.{Book};
-ghost use Rattle.tm_grammar.specs.Tomoyo.{tomoyo_grammar};
+ghost use Rattle.tm_audit.specs.Tomoyo.{tomoyo_grammar};
 ghost use Rattle.tm_legal.specs.Steps.{opening};
 ghost use Rattle.tm_legal.specs.Needs.{CanGoOn};
 ghost use Rattle.tm_legal.specs.Play.{tree_event, editor_event, supervisor_step, start_of};
@@ -22,10 +22,10 @@ use crate::trees::tree_event;
 use std::alloc::Global;
 use tm_list::NoMemory;
 use tm_machine::Machine;
-use tm_rep::Rep;
 use tm_take::TreeOnWay;
 use tm_types::request::{Trace, Tree};
 use tm_types::step::{Editor, Made, Maker, Step, Turn};
+use tm_verdict::rep::Rep;
 
 /// All activities of a play: the machine, each tree on its way, and the lines that each editor has
 /// left.

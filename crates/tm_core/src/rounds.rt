@@ -13,8 +13,8 @@ use crate::player::{Player, awaited_by, step};
 use std::alloc::Global;
 use tm_desk::Desk;
 use tm_list::NoMemory;
-use tm_rep::Rep;
 use tm_types::step::{Query, Turn};
+use tm_verdict::rep::Rep;
 
 // The supervisor's next turn, where one stands: the turn that it has had; None, and nothing
 // changed, where it can't move.

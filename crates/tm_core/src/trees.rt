@@ -1,7 +1,7 @@
 //! The event of a tree: its next look, its next own step, the taking of its answer, or its end.
 ghost use Rattle.std.specs.Prelude.{◌≡◌, ◌≤◌, ◌<◌, ◌-◌, ◌∷◌, ℕ, Bool, true, List, Some, None, IfOk, OnOk};
 ghost use Rattle.tm_types.specs.declared.step.Step.{Step};
-ghost use Rattle.tm_grammar.specs.Tomoyo.{tomoyo_grammar};
+ghost use Rattle.tm_audit.specs.Tomoyo.{tomoyo_grammar};
 ghost use Rattle.tm_rules.specs.Requests.{is_request};
 ghost use Rattle.tm_legal.specs.Play.{Stage, IsNamed};
 ghost use Rattle.tm_legal.specs.Needs.{Needs, StageFits};
@@ -12,9 +12,9 @@ use crate::looks::{first_look, look_again};
 use std::alloc::Global;
 use tm_list::NoMemory;
 use tm_machine::Machine;
-use tm_rep::Rep;
 use tm_take::{NextEvent, RequestInProgress, TreeOnWay};
 use tm_types::step::{Made, Maker, Step};
+use tm_verdict::rep::Rep;
 
 // The next own step of a take, which is made by its process; the take goes on or ends.
 fn own_step<R: Rep>(

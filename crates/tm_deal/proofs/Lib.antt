@@ -1,2 +1,4 @@
 mod Hands
 mod Queues
+pub use Rattle.tm_seat.proofs.Opening
+pub use Rattle.tm_seat.proofs.WorkerEvents

@@ -7,8 +7,8 @@ use Rattle.std.proofs.lemmas.Grind.{flat_map-append}
 use Rattle.tm_legal.specs.Legal.{times}
 use Rattle.tm_legal.specs.Play.{numbers_to}
 use Rattle.tm_legal.proofs.Laws.{times-append}
-use Rattle.tm_joint.specs.Played.{row_own}
-use Rattle.tm_joint.proofs.Gathering.{queued-take}
+use Rattle.tm_seat.specs.Played.{row_own}
+use Rattle.tm_seat.proofs.Gathering.{queued-take}
 use Rattle.tm_seat.specs.declared.tree.PlayedTree.{PlayedTree}
 use Rattle.tm_seat.specs.Rows.{row_of, rows_own}
 use Rattle.tm_deal.specs.Dealing.{TakesFirst, queues_own, IsAmong, IsGathered}

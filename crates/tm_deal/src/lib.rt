@@ -8,3 +8,4 @@ mod rows;
 
 pub use deals::deal;
 pub use rows::gather;
+pub use tm_seat as seat;

@@ -6,8 +6,8 @@ use Rattle.std.proofs.lemmas.List.{take-append-drop}
 use Rattle.std.proofs.lemmas.List.Sums.{suffix_len_is}
 use Rattle.std.specs.List.{slice_split, list_all, list_any, suffix_len}
 use Rattle.std.proofs.lemmas.Bool.{eqb-true}
-use Rattle.tm_word.specs.Words.{Text}
-use Rattle.tm_word.specs.Texts.{texts_equal}
+use Rattle.tm_pattern.specs.Words.{Text}
+use Rattle.tm_pattern.specs.Texts.{texts_equal}
 use Rattle.tm_rules.specs.Transition.{is_namespace_word, is_domain_name, root_name}
 use Rattle.tm_domain.specs.declared.DomainFault.TheVariants.{NoNamespace, TooLong}
 use Rattle.tm_domain.specs.Names.{is_path, bad_path, paths_or_fault, domain_at, domain_of, is_read}

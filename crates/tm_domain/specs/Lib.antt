@@ -1,1 +1,13 @@
 pub mod Names
+pub use Rattle.tm_rules.specs.AddrUnion
+pub use Rattle.tm_pattern.specs.Grammar
+pub use Rattle.tm_rules.specs.LineFault
+pub use Rattle.tm_rules.specs.LineKind
+pub use Rattle.tm_rules.specs.NameUnion
+pub use Rattle.tm_rules.specs.NumberUnion
+pub use Rattle.tm_pattern.specs.declared.reading.PatternFault
+pub use Rattle.tm_rules.specs.Policy
+pub use Rattle.tm_pattern.specs.Reading
+pub use Rattle.tm_pattern.specs.Tokens
+pub use Rattle.tm_rules.specs.Transition
+pub use Rattle.tm_rules.specs.Words

@@ -5,21 +5,21 @@
 
 ghost use Rattle.std.specs.Prelude.{◌≡◌, ◌+◌, ◌-◌, ◌<◌, ◌≤◌, ◌==◌, ℕ, List, [], ◌∷◌, ◌++◌, length, Bool, true, not, ◌&&◌, ◌||◌, ◌↔◌, codes, false, Some, None, Ok, Err, MatchOption, IfOk, IsTrue};
 ghost use Rattle.std.specs.List.{position, slice_split, suffix_len, list_any};
-ghost use Rattle.tm_word.specs.Words.{Text};
-ghost use Rattle.tm_word.specs.Texts.{texts_equal, begins_with_byte};
+ghost use Rattle.tm_pattern.specs.Words.{Text};
+ghost use Rattle.tm_pattern.specs.Texts.{texts_equal, begins_with_byte};
 ghost use Rattle.tm_rules.specs.Policy.{namespace_word, last_word};
 ghost use Rattle.tm_rules.specs.Transition.{child_name, initial_name, root_name, is_namespace_word, is_domain_name};
-ghost use Rattle.tm_word.specs.Gives.{Gives, GivesNow};
+ghost use Rattle.tm_pattern.specs.Gives.{Gives, GivesNow};
 ghost use Rattle.tm_domain.specs.Names.{HasNoBrackets, IsInBrackets, domain_cause, is_read, short_name, is_path, bad_path, domain_of, parent_of, preferred_name};
 ghost use Rattle.tm_domain.specs.declared.DomainFault.TheVariants.{NoMemory};
 
 use std::alloc::{AllocError, AllocFailed, Global};
 use thiserror::Error;
-use tm_list::{NoMemory, Seq};
 use tm_pattern::is_pattern;
-use tm_types::entry::Prefer;
-use tm_types::unions::DomainName;
-use tm_word::{begins_with, bytes_equal, cut_at, place_of};
+use tm_pattern::list::{NoMemory, Seq};
+use tm_pattern::word::{begins_with, bytes_equal, cut_at, place_of};
+use tm_rules::types::entry::Prefer;
+use tm_rules::types::unions::DomainName;
 
 /// Why a text is no domain name. The faults of the words come in their order, and the length last.
 #[derive(Clone, Copy, PartialEq, Eq, Debug, Error)]
@@ -297,3 +297,6 @@ pub fn grammar()
     ensures same { (text name : List ℕ) → domain_of text ≡ Ok name → name ≡ text }
     ensures right { (text : List ℕ) → is_domain_name is_path text ≡ is_read (domain_of text) }
 {}
+
+pub use tm_pattern as pattern;
+pub use tm_rules::types;

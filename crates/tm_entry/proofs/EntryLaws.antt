@@ -11,9 +11,9 @@ use Rattle.tm_types.specs.declared.entry.Clause.{Clause}
 use Rattle.tm_types.specs.declared.entry.Cond.{Cond}
 use Rattle.tm_types.specs.declared.entry.Entry.{Entry}
 use Rattle.tm_word.specs.Texts.{texts_equal, begins}
-use Rattle.tm_line.specs.Lines.{is_last}
+use Rattle.tm_file.specs.Lines.{is_last}
 use Rattle.tm_word.specs.Gives.{◌>>=◌}
-use Rattle.tm_line.proofs.Steps.{bind_ok, ok_is, both, all}
+use Rattle.tm_file.proofs.Steps.{bind_ok, ok_is, both, all}
 use Rattle.tm_file.specs.FileLines.{file_line, file_words, is_file}
 use Rattle.tm_file.specs.Preferences.{no_prefer}
 use Rattle.tm_file.proofs.PreferLaws.{ends_prefer}

@@ -7,8 +7,8 @@ use Rattle.tm_types.specs.declared.entry.Args.{Args}
 use Rattle.tm_types.specs.declared.entry.Perms.{Perms}
 use Rattle.tm_types.specs.declared.entry.Entry.{Entry}
 use Rattle.tm_word.specs.Texts.{is_word}
-use Rattle.tm_line.proofs.Steps.{both, all}
-use Rattle.tm_line.proofs.WholeLaws.{words_again}
+use Rattle.tm_file.proofs.Steps.{both, all}
+use Rattle.tm_file.proofs.WholeLaws.{words_again}
 use Rattle.tm_file.specs.FileLines.{file_words, is_file}
 use Rattle.tm_file.proofs.FileText.{file_are}
 use Rattle.tm_net.specs.NetLines.{net_words, is_net}

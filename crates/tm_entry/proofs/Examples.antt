@@ -4,18 +4,18 @@ use Rattle.std.specs.Prelude.{codes}
 use Rattle.std.specs.List.{list_all}
 use Rattle.tm_word.specs.Words.{Text}
 use Rattle.tm_word.specs.Printing.{spelled_pattern}
-use Rattle.tm_number.specs.Numbers.{number_of, value_of, range_of, plain_of}
-use Rattle.tm_pattern.specs.Tokens.{token_at}
-use Rattle.tm_pattern.specs.Reading.{step, ended, parsed, pattern_of}
+use Rattle.tm_types.specs.Numbers.{number_of, value_of, range_of, plain_of}
+use Rattle.tm_file.specs.Tokens.{token_at}
+use Rattle.tm_file.specs.Reading.{step, ended, parsed, pattern_of}
 use Rattle.tm_word.specs.Spelling.{spelled_word, word_of, head_of}
 use Rattle.tm_types.specs.declared.entry.LineKind.{LineKind}
 use Rattle.tm_types.specs.declared.entry.Entry.{Entry}
 use Rattle.tm_word.specs.Texts.{texts_equal, lists_equal}
-use Rattle.tm_domain.specs.Names.{is_path, domain_of}
-use Rattle.tm_line.specs.Permissions.{perms_of, perm_on}
-use Rattle.tm_line.specs.Arguments.{group_word, pattern_word, path_word, range_word, name_word, number_word, address_word, name_at, number_at, address_at}
-use Rattle.tm_line.specs.Domains.{domain_words, domain_at}
-use Rattle.tm_line.specs.Printing.{name_spelling, number_spelling, address_spelling}
+use Rattle.tm_file.specs.Names.{is_path, domain_of}
+use Rattle.tm_file.specs.Permissions.{perms_of, perm_on}
+use Rattle.tm_file.specs.Arguments.{group_word, pattern_word, path_word, range_word, name_word, number_word, address_word, name_at, number_at, address_at}
+use Rattle.tm_file.specs.Domains.{domain_words, domain_at}
+use Rattle.tm_file.specs.Printing.{name_spelling, number_spelling, address_spelling}
 use Rattle.tm_file.specs.FileLines.{row_of, starts_any, args_at, mount_at, row_line, perms_line, file_line, file_words}
 use Rattle.tm_file.specs.Preferences.{prefer_at, path_at, prefer_words}
 use Rattle.tm_net.specs.NetLines.{perms_at, inet_line, unix_line, network_line, env_word, misc_line, task_line, net_line, net_words}

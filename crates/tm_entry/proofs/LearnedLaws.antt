@@ -9,7 +9,7 @@ use Rattle.std.proofs.lemmas.Option.{slice_get_within}
 use Rattle.tm_word.specs.Words.{Word}
 use Rattle.tm_word.specs.Matching.{is_empty}
 use Rattle.tm_word.specs.Printing.{literal, spelled_pattern}
-use Rattle.tm_pattern.specs.Grammar.{is_right}
+use Rattle.tm_file.specs.Grammar.{is_right}
 use Rattle.tm_types.specs.Functions.{row_functions, inet_functions, unix_functions, function_of}
 use Rattle.tm_types.specs.declared.entry.Args.{Args}
 use Rattle.tm_types.specs.declared.entry.InetKind.{InetKind}
@@ -26,17 +26,17 @@ use Rattle.tm_rules.specs.Learned.{is_word, learned_line}
 use Rattle.tm_rules.specs.Requests.{is_path_word, is_name, is_number, is_addr, are_literal, is_symlink, has_bytes, bytes_if, has_exec, has_no_exec, may_have, is_stat, has_its_attributes, is_request}
 use Rattle.tm_word.specs.Spelling.{are_bytes}
 use Rattle.tm_rules.proofs.LearnedLaws.{execute-first}
-use Rattle.tm_domain.specs.Names.{is_path}
-use Rattle.tm_line.specs.declared.permissions.Row.{Row}
-use Rattle.tm_line.specs.Permissions.{names}
-use Rattle.tm_line.specs.Written as lines
-use Rattle.tm_line.proofs.Steps.{both, all}
+use Rattle.tm_file.specs.Names.{is_path}
+use Rattle.tm_file.specs.Row.{Row}
+use Rattle.tm_file.specs.Permissions.{names}
+use Rattle.tm_file.specs.Written as lines
+use Rattle.tm_file.proofs.Steps.{both, all}
 use Rattle.tm_word.proofs.Spelled.{below, below-at}
 use Rattle.tm_file.specs.FileLines.{is_file}
 use Rattle.tm_net.specs.NetLines.{inet_permissions, unix_permissions, is_net, is_env}
 use Rattle.tm_cond.specs.Written.{is_attr, is_side, is_clause, is_cond}
 use Rattle.tm_entry.specs.Entries.{is_entry}
-use Rattle.tm_pattern.proofs.LiteralLaws.{literal_right}
+use Rattle.tm_file.proofs.LiteralLaws.{literal_right}
 use Rattle.tm_entry.proofs.LiteralLaws.{name_is, name_line, env_line, number_line, address_line}
 
 -- What a request says

@@ -9,10 +9,10 @@ use Rattle.tm_word.specs.Spelling.{spelling_of, spell, are_bytes}
 use Rattle.tm_word.specs.Matching.{is_empty}
 use Rattle.tm_word.specs.Printing.{spelled_pattern, literal, literal_word}
 use Rattle.tm_word.proofs.Literals.{literal-spelled, literal-name}
-use Rattle.tm_number.specs.declared.Addr.{Addr}
-use Rattle.tm_number.specs.Addresses.{addr_le}
-use Rattle.tm_pattern.specs.Grammar.{is_right}
-use Rattle.tm_pattern.proofs.LiteralLaws.{literal_right}
+use Rattle.tm_types.specs.Addr.{Addr}
+use Rattle.tm_types.specs.Addresses.{addr_le}
+use Rattle.tm_file.specs.Grammar.{is_right}
+use Rattle.tm_file.proofs.LiteralLaws.{literal_right}
 use Rattle.tm_types.specs.declared.unions.NameUnion.{NameUnion}
 use Rattle.tm_types.specs.declared.unions.NumberUnion.{NumberUnion}
 use Rattle.tm_types.specs.declared.unions.AddrUnion.{AddrUnion}
@@ -20,9 +20,9 @@ use Rattle.tm_rules.specs.Equality.{numbers_equal, addrs_equal}
 use Rattle.tm_rules.specs.Requests.{is_literal, is_written, is_name, is_number, is_addr_value, is_addr}
 use Rattle.tm_word.specs.Texts.{begins_with_byte}
 use Rattle.tm_rules.proofs.EqualityLaws.{same_patterns, same_number, same_addrs}
-use Rattle.tm_line.specs.Written.{begins_name}
-use Rattle.tm_line.specs.Written as lines
-use Rattle.tm_line.proofs.Steps.{both, all, not_true, to_not}
+use Rattle.tm_file.specs.Written.{begins_name}
+use Rattle.tm_file.specs.Written as lines
+use Rattle.tm_file.proofs.Steps.{both, all, not_true, to_not}
 use Rattle.tm_word.proofs.Spelled.{below, below-at}
 use Rattle.tm_net.specs.NetLines.{has_equals, is_env}
 

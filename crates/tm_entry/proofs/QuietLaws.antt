@@ -16,12 +16,12 @@ use Rattle.tm_word.specs.Texts.{texts_equal, begins}
 use Rattle.tm_rules.specs.Policy.{has_permission}
 use Rattle.tm_rules.specs.Clean.{lets_execute, is_one_of, is_quiet_acl}
 use Rattle.tm_rules.proofs.EqualityLaws.{same_texts}
-use Rattle.tm_line.specs.declared.permissions.Row.{Row}
-use Rattle.tm_line.specs.Lines.{is_last, keyword_kind, keyword_at}
+use Rattle.tm_file.specs.Row.{Row}
+use Rattle.tm_file.specs.Lines.{is_last, keyword_kind, keyword_at}
 use Rattle.tm_word.specs.Gives.{◌>>=◌}
-use Rattle.tm_line.specs.Arguments.{name_at, number_at}
-use Rattle.tm_line.specs.Permissions.{names, mask_from, mask_in, pieces_of, bits_of, bits_or_kind, perms_of, with_mask}
-use Rattle.tm_line.proofs.Steps.{bind_ok, done, ok_is, chosen, not_true}
+use Rattle.tm_file.specs.Arguments.{name_at, number_at}
+use Rattle.tm_file.specs.Permissions.{names, mask_from, mask_in, pieces_of, bits_of, bits_or_kind, perms_of, with_mask}
+use Rattle.tm_file.proofs.Steps.{bind_ok, done, ok_is, chosen, not_true}
 use Rattle.tm_file.specs.FileLines.{row_in, args_at, mount_at, perms, with_perms, row_line, perms_line, file_line}
 use Rattle.tm_net.specs.NetLines.{net_line, is_net}
 use Rattle.tm_net.proofs.NetLaws.{net_right}

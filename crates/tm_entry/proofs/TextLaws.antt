@@ -5,8 +5,8 @@ use Rattle.tm_word.specs.Spelling.{joined}
 use Rattle.tm_types.specs.declared.entry.Args.{Args}
 use Rattle.tm_types.specs.declared.entry.Perms.{Perms}
 use Rattle.tm_types.specs.declared.entry.Entry.{Entry}
-use Rattle.tm_line.specs.Lines.{spaced}
-use Rattle.tm_line.proofs.JoinLaws.{joined_more}
+use Rattle.tm_file.specs.Lines.{spaced}
+use Rattle.tm_file.proofs.JoinLaws.{joined_more}
 use Rattle.tm_file.specs.FileLines.{file_words}
 use Rattle.tm_net.specs.NetLines.{net_words}
 use Rattle.tm_cond.specs.Reading.{cond_words}

@@ -7,7 +7,7 @@ use Rattle.tm_types.specs.declared.entry.Entry.{Entry}
 use Rattle.tm_types.specs.declared.entry.LineKind.{LineKind}
 use Rattle.tm_types.specs.declared.entry.Perms.{Perms}
 use Rattle.tm_word.specs.Texts.{texts_equal, begins}
-use Rattle.tm_line.specs.Lines.{is_last}
+use Rattle.tm_file.specs.Lines.{is_last}
 use Rattle.tm_word.specs.Gives.{◌>>=◌}
 use Rattle.tm_file.specs.FileLines.{file_line, file_words, is_file}
 use Rattle.tm_net.specs.NetLines.{net_line, net_words, is_net}

@@ -13,9 +13,9 @@ ghost use Rattle.tm_rules.specs.Clean.{lets_execute, is_quiet_acl};
 ghost use Rattle.tm_rules.specs.Condition.{is_execute};
 ghost use Rattle.tm_rules.specs.Learned.{learned_line};
 ghost use Rattle.tm_rules.specs.Requests.{is_path_word, is_request};
-ghost use Rattle.tm_domain.specs.Names.{is_path};
+ghost use Rattle.tm_file.specs.Names.{is_path};
 ghost use Rattle.tm_word.specs.Gives.{Gives};
-ghost use Rattle.tm_line.specs.Lines.{line_cause};
+ghost use Rattle.tm_file.specs.Lines.{line_cause};
 ghost use Rattle.tm_word.specs.Texts.{is_word};
 ghost use Rattle.tm_entry.specs.Entries.{acl_line, with_cond, entry_of, is_of_file, acl_words, entry_words, is_entry};
 
@@ -156,3 +156,7 @@ pub fn quiet_lines()
         → entry_of words ≡ Ok entry →
         lets_execute entry ≡ false }
 {}
+
+pub use tm_cond as cond;
+pub use tm_file as file;
+pub use tm_net as net;

@@ -22,7 +22,7 @@ use Rattle.tm_types.specs.declared.policy.ExceptRule.{ExceptRule}
 use Rattle.tm_types.specs.declared.policy.ExceptLine.{ExceptLine}
 use Rattle.tm_word.specs.Texts.{texts_equal, begins_with_byte}
 use Rattle.tm_rules.specs.Transition.{is_domain_name}
-use Rattle.tm_domain.specs.Names.{is_path}
+use Rattle.tm_line.specs.Names.{is_path}
 use Rattle.tm_line.specs.Lines.{or_kind, is_last, ended, word_at}
 use Rattle.tm_line.specs.Arguments.{group_word, pattern_word, path_word, range_word, addr_range_word, plain_word}
 use Rattle.tm_line.specs.Domains.{domain_to_end}

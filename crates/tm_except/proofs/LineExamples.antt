@@ -7,10 +7,10 @@ use Rattle.tm_number.specs.declared.Base.{Base}
 use Rattle.tm_number.specs.declared.Addr.{Addr}
 use Rattle.tm_number.specs.Numbers.{number_of, value_of, plain_of}
 use Rattle.tm_number.specs.Numbers.{range_of as number_range_of}
-use Rattle.tm_addr.specs.Reading.{quad_of, v4_of, group_of, last_of, groups_after, side_of, v6_of, addr_of, range_of}
+use Rattle.tm_line.specs.AddrReading.{quad_of, v4_of, group_of, last_of, groups_after, side_of, v6_of, addr_of, range_of}
 use Rattle.tm_pattern.specs.Tokens.{token_at}
 use Rattle.tm_pattern.specs.Reading.{step, ended, parsed, pattern_of}
-use Rattle.tm_domain.specs.Names.{is_path, domain_of}
+use Rattle.tm_line.specs.Names.{is_path, domain_of}
 use Rattle.tm_types.specs.declared.entry.LineKind.{LineKind}
 use Rattle.tm_types.specs.declared.policy.ControlKind.{ControlKind}
 use Rattle.tm_types.specs.declared.policy.ExceptRule.{ExceptRule}

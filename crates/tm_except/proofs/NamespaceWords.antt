@@ -9,8 +9,8 @@ use Rattle.tm_word.specs.Texts.{is_word}
 use Rattle.tm_types.specs.declared.entry.LineKind.{LineKind}
 use Rattle.tm_rules.specs.Policy.{kernel}
 use Rattle.tm_rules.specs.Transition.{is_domain_name}
-use Rattle.tm_domain.specs.Names.{is_path, is_read, domain_of}
-use Rattle.tm_domain.proofs.NameLaws.{right_name}
+use Rattle.tm_line.specs.Names.{is_path, is_read, domain_of}
+use Rattle.tm_line.proofs.NameLaws.{right_name}
 use Rattle.tm_line.specs.Arguments.{kinded}
 use Rattle.tm_line.specs.DomainWords.{domain_parts}
 use Rattle.tm_line.specs.Namespaces.{opens, namespace_of, namespace_at, IsNamespace}

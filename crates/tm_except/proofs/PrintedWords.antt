@@ -13,7 +13,7 @@ use Rattle.tm_word.proofs.Spelled.{below, below-at}
 use Rattle.tm_number.specs.declared.Range.{Range}
 use Rattle.tm_number.specs.declared.AddrRange.{AddrRange}
 use Rattle.tm_number.specs.Numbers.{range_spelling}
-use Rattle.tm_addr.specs.Printing.{addr_range_spelling}
+use Rattle.tm_line.specs.AddrPrinting.{addr_range_spelling}
 use Rattle.tm_pattern.specs.Grammar.{is_right}
 use Rattle.tm_types.specs.declared.unions.NameUnion.{NameUnion}
 use Rattle.tm_types.specs.declared.unions.NumberUnion.{NumberUnion}

@@ -16,7 +16,7 @@ use Rattle.tm_types.specs.declared.policy.ControlKind.{ControlKind}
 use Rattle.tm_types.specs.declared.policy.Control.{Control}
 use Rattle.tm_types.specs.declared.policy.ExceptRule.{ExceptRule}
 use Rattle.tm_word.specs.Texts.{texts_equal, begins_with_byte}
-use Rattle.tm_domain.specs.Names.{is_path}
+use Rattle.tm_line.specs.Names.{is_path}
 use Rattle.tm_word.specs.Gives.{◌>>=◌}
 use Rattle.tm_line.specs.Lines.{or_kind}
 use Rattle.tm_line.specs.Arguments.{pattern_word, path_word}

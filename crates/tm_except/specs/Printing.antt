@@ -8,7 +8,7 @@ use Rattle.tm_word.specs.Printing.{spelled_pattern}
 use Rattle.tm_number.specs.declared.Range.{Range}
 use Rattle.tm_number.specs.declared.AddrRange.{AddrRange}
 use Rattle.tm_number.specs.Numbers.{range_spelling}
-use Rattle.tm_addr.specs.Printing.{addr_range_spelling}
+use Rattle.tm_line.specs.AddrPrinting.{addr_range_spelling}
 use Rattle.tm_types.specs.declared.policy.ControlKind.{ControlKind}
 use Rattle.tm_types.specs.declared.policy.Control.{Control}
 use Rattle.tm_types.specs.declared.policy.ExceptRule.{ExceptRule}

@@ -17,7 +17,7 @@ mod sides;
 
 pub use printing::{print_lists, print_rule, printed_words, round_trip};
 pub use reading::{Head, literal_word, read_exception};
-use tm_domain::last_word;
+use tm_line::domain::last_word;
 use tm_pattern::matches;
 use tm_types::policy::{Control, ControlKind, Namespace};
 use tm_types::unions::DomainName;

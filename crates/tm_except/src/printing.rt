@@ -16,7 +16,7 @@ ghost use Rattle.tm_except.specs.Printing.{range_text, addr_range_text, path_gro
 
 use crate::reading::CONTROLS;
 use std::alloc::Global;
-use tm_addr::write_addr_range;
+use tm_line::addr::write_addr_range;
 use tm_line::print_domain;
 use tm_list::NoMemory;
 use tm_number::{AddrRange, Range, write_decimal, write_range};

@@ -1,12 +1,12 @@
 -- Worked examples of file lines: each word right, wrong, missing and unfinished.
 use Rattle.std.proofs.Common.{◌≡◌, [], ◌∷◌, Ok, Err, refl}
 use Rattle.std.specs.Prelude.{codes}
-use Rattle.tm_number.specs.Numbers.{range_of, value_of, number_of}
-use Rattle.tm_pattern.specs.Tokens.{token_at}
-use Rattle.tm_pattern.specs.Reading.{step, ended, parsed, pattern_of}
+use Rattle.tm_types.specs.Numbers.{range_of, value_of, number_of}
+use Rattle.tm_union.specs.Tokens.{token_at}
+use Rattle.tm_union.specs.Reading.{step, ended, parsed, pattern_of}
 use Rattle.tm_word.specs.Spelling.{spelled_word, word_of, head_of}
 use Rattle.tm_types.specs.declared.entry.LineKind.{LineKind}
-use Rattle.tm_domain.specs.Names.{domain_of, is_path}
+use Rattle.tm_line.specs.Names.{domain_of, is_path}
 use Rattle.tm_line.specs.Permissions.{perms_of}
 use Rattle.tm_line.specs.Arguments.{group_word, pattern_word, path_word, range_word, name_word, number_word, name_at, number_at}
 use Rattle.tm_line.specs.Domains.{domain_words, domain_at}

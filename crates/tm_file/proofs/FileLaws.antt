@@ -9,7 +9,7 @@ use Rattle.tm_types.specs.declared.entry.Perms.{Perms}
 use Rattle.tm_types.specs.declared.entry.Prefer.{Prefer}
 use Rattle.tm_types.specs.declared.unions.NameUnion.{NameUnion}
 use Rattle.tm_word.specs.Texts.{texts_equal}
-use Rattle.tm_domain.proofs.NameLaws.{same_texts}
+use Rattle.tm_line.proofs.NameLaws.{same_texts}
 use Rattle.tm_line.specs.declared.permissions.Row.{Row}
 use Rattle.tm_line.specs.Lines.{is_last, keyword_at}
 use Rattle.tm_word.specs.Gives.{◌>>=◌}

@@ -8,7 +8,7 @@ use Rattle.tm_types.specs.declared.entry.Prefer.{Prefer}
 use Rattle.tm_types.specs.declared.unions.NameUnion.{NameUnion}
 use Rattle.tm_word.specs.Texts.{texts_equal, begins_with_byte}
 use Rattle.tm_rules.specs.Transition.{is_domain_name}
-use Rattle.tm_domain.specs.Names.{is_path}
+use Rattle.tm_line.specs.Names.{is_path}
 use Rattle.tm_word.specs.Gives.{◌>>=◌}
 use Rattle.tm_line.specs.Arguments.{path_word, name_at}
 use Rattle.tm_line.specs.Domains.{domain_at}

@@ -16,7 +16,7 @@ use Rattle.tm_script.specs.Lines.{script_lines}
 use Rattle.tm_script.specs.Edits.{edits_of}
 use Rattle.tm_script.specs.Answers.{no_rules, answers_of}
 use Rattle.tm_script.specs.Schedule.{schedule_of}
-use Rattle.tm_grammar.specs.Tomoyo.{tomoyo_grammar}
+use Rattle.tm_call_input.specs.Tomoyo.{tomoyo_grammar}
 use Rattle.tm_gen.specs.Trace.{state_before, state_of}
 use Rattle.tm_gen.specs.Trace as generated
 use Rattle.tm_gen.specs.Files as files

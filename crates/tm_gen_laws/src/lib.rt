@@ -9,3 +9,4 @@ mod laws;
 pub use laws::{
     generated_files_are_never_refused, generated_policies_load, generated_traces_are_read,
 };
+pub use tm_call_input as call_input;

@@ -14,28 +14,28 @@ use Rattle.tm_types.specs.declared.request.Request.{Request}
 use Rattle.tm_types.specs.declared.step.FileKind.{FileKind}
 use Rattle.tm_types.specs.declared.unions.NameUnion.{NameUnion}
 use Rattle.tm_types.specs.Functions.{function_of}
-use Rattle.tm_number.specs.Numbers.{value_of, number_of, plain_of}
-use Rattle.tm_pattern.specs.Grammar.{is_right}
-use Rattle.tm_pattern.specs.Tokens.{token_at}
-use Rattle.tm_pattern.specs.Reading.{step, ended, parsed, pattern_of}
+use Rattle.tm_types.specs.Numbers.{value_of, number_of, plain_of}
+use Rattle.tm_policy_line.specs.Grammar.{is_right}
+use Rattle.tm_policy_line.specs.Tokens.{token_at}
+use Rattle.tm_policy_line.specs.PatternReading.{step, ended, parsed, pattern_of}
 use Rattle.tm_rules.specs.Clean.{is_quiet}
 use Rattle.tm_rules.specs.Learned.{learned_line}
 use Rattle.tm_rules.specs.Requests.{is_request}
-use Rattle.tm_domain.specs.Names.{is_path, domain_of}
-use Rattle.tm_line.specs.Arguments.{pattern_word, plain_word, name_word, name_at}
-use Rattle.tm_line.specs.Namespaces.{namespace_of, namespace_at}
-use Rattle.tm_line.specs.Permissions.{perms_of, perm_on}
-use Rattle.tm_line.specs.Printing.{name_spelling}
-use Rattle.tm_line.specs.Written.{is_name}
-use Rattle.tm_file.specs.FileLines.{row_of, args_at, row_line, perms_line, file_line, file_words, is_file}
-use Rattle.tm_file.specs.Preferences.{prefer_at, path_at}
-use Rattle.tm_net.specs.NetLines.{is_net}
-use Rattle.tm_cond.specs.Attributes.{attr_text}
-use Rattle.tm_cond.specs.Reading.{cond_from, cond_of, right_text, clause_text, cond_words}
-use Rattle.tm_cond.specs.Written.{is_attr, is_side, is_clause, is_cond}
-use Rattle.tm_entry.specs.Entries.{acl_line, entry_of, acl_words, entry_words, is_entry}
-use Rattle.tm_except.specs.Reading.{acl_group, head_of, rule_at, named_line}
-use Rattle.tm_except.specs.Reading.{line_of as except_of}
+use Rattle.tm_policy_line.specs.Names.{is_path, domain_of}
+use Rattle.tm_policy_line.specs.Arguments.{pattern_word, plain_word, name_word, name_at}
+use Rattle.tm_policy_line.specs.Namespaces.{namespace_of, namespace_at}
+use Rattle.tm_policy_line.specs.Permissions.{perms_of, perm_on}
+use Rattle.tm_policy_line.specs.LinePrinting.{name_spelling}
+use Rattle.tm_policy_line.specs.LineWritten.{is_name}
+use Rattle.tm_policy_line.specs.FileLines.{row_of, args_at, row_line, perms_line, file_line, file_words, is_file}
+use Rattle.tm_policy_line.specs.Preferences.{prefer_at, path_at}
+use Rattle.tm_policy_line.specs.NetLines.{is_net}
+use Rattle.tm_policy_line.specs.Attributes.{attr_text}
+use Rattle.tm_policy_line.specs.CondReading.{cond_from, cond_of, right_text, clause_text, cond_words}
+use Rattle.tm_policy_line.specs.CondWritten.{is_attr, is_side, is_clause, is_cond}
+use Rattle.tm_policy_line.specs.Entries.{acl_line, entry_of, acl_words, entry_words, is_entry}
+use Rattle.tm_policy_line.specs.ExceptReading.{acl_group, head_of, rule_at, named_line}
+use Rattle.tm_policy_line.specs.ExceptReading.{line_of as except_of}
 use Rattle.tm_policy_line.specs.Reading.{setting_rule, domain_rule, read_words, read_line}
 use Rattle.tm_trace.specs.Printing.{attribute_words, request_words}
 use Rattle.tm_grammar.specs.Tomoyo.{tomoyo_grammar}

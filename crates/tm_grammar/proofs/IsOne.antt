@@ -1,6 +1,6 @@
 -- The grammar of this language is one as the laws of policies and runs ask for.
 use Rattle.tm_rules.specs.Grammar.{IsGrammar}
-use Rattle.tm_entry.proofs.LearnedLaws.{learned_is}
+use Rattle.tm_policy_line.proofs.LearnedLaws.{learned_is}
 use Rattle.tm_policy_line.proofs.ReadLaws.{chosen_right}
 use Rattle.tm_grammar.specs.Tomoyo.{tomoyo_grammar}
 use Rattle.tm_grammar.proofs.ReadRules.{leads_to_path, group_is_read, kernel_stays}

@@ -14,17 +14,17 @@ use Rattle.tm_rules.specs.Clean.{lets_execute, is_one_of, is_quiet_acl, is_quiet
 use Rattle.tm_word.specs.Texts.{texts_equal}
 use Rattle.tm_rules.specs.Policy.{kernel}
 use Rattle.tm_rules.proofs.EqualityLaws.{same_texts}
-use Rattle.tm_line.specs.Lines.{is_last, word_at}
+use Rattle.tm_policy_line.specs.Lines.{is_last, word_at}
 use Rattle.tm_word.specs.Gives.{◌>>=◌}
-use Rattle.tm_line.specs.Arguments.{plain_word}
-use Rattle.tm_line.specs.Domains.{domain_to_end}
-use Rattle.tm_line.specs.Namespaces.{opens, namespace_of, namespace_at}
-use Rattle.tm_line.proofs.Steps.{both, all, to_not}
-use Rattle.tm_line.proofs.OkSteps.{OkIs, then_ok, then_any, each_ok, ok_of}
-use Rattle.tm_entry.specs.Entries.{entry_of}
-use Rattle.tm_entry.proofs.QuietLaws.{quiet_entry}
-use Rattle.tm_except.specs.Reading.{group_line, acl_group, head_of, rule_at, named_line}
-use Rattle.tm_except.specs.Reading.{line_of as except_of}
+use Rattle.tm_policy_line.specs.Arguments.{plain_word}
+use Rattle.tm_policy_line.specs.Domains.{domain_to_end}
+use Rattle.tm_policy_line.specs.Namespaces.{opens, namespace_of, namespace_at}
+use Rattle.tm_policy_line.proofs.Steps.{both, all, to_not}
+use Rattle.tm_policy_line.proofs.OkSteps.{OkIs, then_ok, then_any, each_ok, ok_of}
+use Rattle.tm_policy_line.specs.Entries.{entry_of}
+use Rattle.tm_policy_line.proofs.QuietLaws.{quiet_entry}
+use Rattle.tm_policy_line.specs.ExceptReading.{group_line, acl_group, head_of, rule_at, named_line}
+use Rattle.tm_policy_line.specs.ExceptReading.{line_of as except_of}
 use Rattle.tm_policy_line.specs.Reading.{name_rule, acl_rule, begins_domain, setting_rule, domain_rule, manager_of, with_entry, read_words, read_line}
 
 abbrev IsQuiet : PolicyLine → Type 0

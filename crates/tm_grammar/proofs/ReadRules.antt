@@ -10,9 +10,9 @@ use Rattle.tm_rules.specs.Policy.{kernel}
 use Rattle.tm_rules.specs.Requests.{is_path_word}
 use Rattle.tm_rules.specs.Transition.{is_domain_name}
 use Rattle.tm_rules.proofs.EqualityLaws.{same_texts}
-use Rattle.tm_domain.specs.Names.{is_path}
-use Rattle.tm_line.proofs.Steps.{both, not_true}
-use Rattle.tm_except.specs.Written.{is_first, is_literal_path, is_listed, is_rule}
+use Rattle.tm_policy_line.specs.Names.{is_path}
+use Rattle.tm_policy_line.proofs.Steps.{both, not_true}
+use Rattle.tm_policy_line.specs.ExceptWritten.{is_first, is_literal_path, is_listed, is_rule}
 use Rattle.tm_policy_line.specs.Reading.{read_line}
 use Rattle.tm_policy_line.specs.Written.{is_domain_rule, is_written_rule}
 use Rattle.tm_policy_line.proofs.ReadLaws.{read_written}

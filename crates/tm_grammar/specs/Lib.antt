@@ -1,1 +1,9 @@
 pub mod Tomoyo
+pub use Rattle.tm_policy_line.specs.Attributes
+pub use Rattle.tm_policy_line.specs.Entries
+pub use Rattle.tm_policy_line.specs.FileLines
+pub use Rattle.tm_policy_line.specs.NetLines
+pub use Rattle.tm_trace.specs.Printing
+pub use Rattle.tm_policy_line.specs.Reading
+pub use Rattle.tm_trace.specs.Trees
+pub use Rattle.tm_trace.specs.Written

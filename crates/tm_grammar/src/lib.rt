@@ -11,7 +11,7 @@ ghost use Rattle.tm_word.specs.Spelling.{joined};
 ghost use Rattle.tm_types.specs.declared.entry.Entry.{Entry};
 ghost use Rattle.tm_types.specs.declared.request.Request.{Request};
 ghost use Rattle.tm_rules.specs.Grammar.{IsGrammar};
-ghost use Rattle.tm_entry.specs.Entries.{entry_words};
+ghost use Rattle.tm_policy_line.specs.Entries.{entry_words};
 ghost use Rattle.tm_trace.specs.Printing.{request_text, attributes_text};
 ghost use Rattle.tm_grammar.specs.Tomoyo.{tomoyo_grammar};
 
@@ -29,3 +29,7 @@ pub fn tomoyo_grammar_prints()
     ensures request { (request : Request) → tomoyo_grammar.print_request request ≡ request_text request }
     ensures attributes { (request : Request) → tomoyo_grammar.print_attributes request ≡ attributes_text request }
 {}
+
+pub use tm_policy_line as policy_line;
+pub use tm_policy_line::{cond, entry, except, files as file, net};
+pub use tm_trace as trace;

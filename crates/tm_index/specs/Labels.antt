@@ -8,7 +8,7 @@ use Rattle.tm_line.specs.Printing.{name_spelling}
 use Rattle.tm_types.specs.declared.entry.Args.{Args}
 use Rattle.tm_types.specs.declared.entry.Entry.{Entry}
 use Rattle.tm_types.specs.declared.entry.Perms.{Perms}
-use Rattle.tm_cond.specs.Reading.{cond_words}
+use Rattle.tm_entry.specs.Reading.{cond_words}
 use Rattle.tm_entry.specs.Entries.{acl_words}
 use Rattle.tm_index.specs.Names.{literal_of}
 use Rattle.tm_index.specs.Stems.{stem_of}

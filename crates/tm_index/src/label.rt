@@ -6,7 +6,7 @@ ghost use Rattle.tm_index.specs.Labels.{args_key, line_key, label_of};
 
 use crate::stems::stem_of;
 use std::alloc::Global;
-use tm_cond::print_cond;
+use tm_entry::cond::print_cond;
 use tm_entry::print_acl;
 use tm_line::print_name;
 use tm_list::{NoMemory, Seq};

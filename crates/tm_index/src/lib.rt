@@ -21,3 +21,4 @@ pub use index::{DomainIndex, Index, domain_noted, groups_noted, index_of, live_n
 pub use label::{Label, label_of};
 pub use list::ListIndex;
 pub use stems::{STEM_ROOM, addr_of};
+pub use tm_entry::net;

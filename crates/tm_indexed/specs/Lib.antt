@@ -5,3 +5,4 @@ pub mod Looked
 pub mod Kinds
 pub mod Gone
 pub mod Groups
+pub use Rattle.tm_policy.specs.Counts

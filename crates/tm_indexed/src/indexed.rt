@@ -16,7 +16,7 @@ use tm_change_domains::Standing;
 use tm_index::{Index, index_of};
 use tm_list::{Copied, NoMemory};
 use tm_policy::PolicyCalls;
-use tm_rep::Rep;
+use tm_policy::rep::Rep;
 use tm_types::entry::Entry;
 use tm_types::policy::{Cursor, Policy};
 use tm_types::request::{Proc, Request};

@@ -18,3 +18,5 @@ mod settings;
 
 pub use indexed::Indexed;
 pub use loading::load_indexed;
+pub use tm_policy as policies;
+pub use tm_policy::rep;

@@ -5,7 +5,7 @@ ghost use Rattle.tm_rules.specs.Few.{IsFew};
 ghost use Rattle.tm_types.specs.declared.policy.DomainRule.{DomainRule};
 ghost use Rattle.tm_rules.specs.Edit.{apply_read, apply_line, domain_line, manager_line};
 ghost use Rattle.tm_change_domains.specs.Properties.{is_property};
-ghost use Rattle.tm_grammar.specs.Tomoyo.{tomoyo_grammar};
+ghost use Rattle.tm_policy.specs.Tomoyo.{tomoyo_grammar};
 ghost use Rattle.tm_index.specs.Index.{told, telling, IsIndexOf};
 
 use crate::adding::add_acl;
@@ -17,7 +17,7 @@ use std::alloc::{AllocError, Global};
 use tm_change_domains::{apply_manager, apply_property};
 use tm_index::Index;
 use tm_list::NoMemory;
-use tm_policy_line::read_line;
+use tm_policy::policy_line::read_line;
 use tm_types::policy::{Cursor, DomainRule, ManagerRule, Policy, PolicyLine};
 use tm_types::step::{EditReply, FileKind, LineFault};
 

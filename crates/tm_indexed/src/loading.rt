@@ -3,13 +3,13 @@ ghost use Rattle.std.specs.Prelude.{◌≡◌, IfOk};
 ghost use Rattle.tm_word.specs.Gives.{Gives, GivesNow};
 ghost use Rattle.tm_rules.specs.Few.{IsFew};
 ghost use Rattle.tm_rules.specs.Load.{open_policy, load};
-ghost use Rattle.tm_grammar.specs.Tomoyo.{tomoyo_grammar};
+ghost use Rattle.tm_policy.specs.Tomoyo.{tomoyo_grammar};
 ghost use Rattle.tm_policy.specs.Loading.{load_cause};
 
 use crate::indexed::Indexed;
 use std::alloc::Global;
+use tm_policy::rep::Rep;
 use tm_policy::{PolicyCalls, first_without_profile, load_into};
-use tm_rep::Rep;
 use tm_types::policy::Policy;
 use tm_types::step::{LoadFault, PolicyFiles};
 

@@ -8,8 +8,8 @@ ghost use Rattle.tm_index.specs.Stems.{addr_stem, addr_of, stem_room, name_stems
 ghost use Rattle.tm_index.specs.Listing.{at_place, listed, listing};
 ghost use Rattle.tm_indexed.specs.Candidates.{granted, first_at, sooner, soonest, sooner_at, places_named};
 
+use tm_index::net::addr_value;
 use tm_index::{ListIndex, STEM_ROOM, addr_of};
-use tm_net::addr_value;
 use tm_number::Addr;
 use tm_policy::{Asked, place_in};
 use tm_types::entry::Entry;

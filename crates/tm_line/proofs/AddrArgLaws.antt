@@ -4,11 +4,11 @@ use Rattle.std.proofs.lemmas.Bool.{eqb-true, ltb-true, lt-ltb, leb-true, le-leb}
 use Rattle.std.specs.List.{list_any, position, slice_split}
 use Rattle.std.specs.Str.Parse.{digits_value}
 use Rattle.tm_word.specs.Words.{Text}
-use Rattle.tm_number.specs.declared.Addr.{Addr}
-use Rattle.tm_number.specs.declared.AddrRange.{AddrRange}
-use Rattle.tm_number.specs.Addresses.{addr_le}
-use Rattle.tm_number.specs.Numbers.{is_numeral}
-use Rattle.tm_number.proofs.NumberLaws.{plain_small, value_below}
+use Rattle.tm_addr.specs.Addr.{Addr}
+use Rattle.tm_addr.specs.AddrRange.{AddrRange}
+use Rattle.tm_addr.specs.Addresses.{addr_le}
+use Rattle.tm_addr.specs.Numbers.{is_numeral}
+use Rattle.tm_addr.proofs.NumberLaws.{plain_small, value_below}
 use Rattle.tm_addr.specs.declared.reading.AddrFault.{AddrFault}
 use Rattle.tm_addr.specs.Reading.{octet_of, quad_of, v4_at, v4_of, group_of, with_group, with_quad, with_last, last_of, groups_after, few, groups, side_of, gap_at, whole, around, v6_at, v6_of, found_as, addr_of, single, same_family, ends_of, range, range_at, range_of}
 use Rattle.tm_addr.specs.Printing.{IsAddr, addr_spelling, addr_range_spelling, same_addr}
@@ -18,8 +18,8 @@ use Rattle.tm_addr.proofs.Free.{Free}
 use Rattle.tm_addr.proofs.V4Laws.{v4_free}
 use Rattle.tm_addr.proofs.V6Laws.{v6_free}
 use Rattle.tm_addr.proofs.AddrLaws.{range_again}
-use Rattle.tm_types.specs.declared.entry.LineKind.{LineKind}
-use Rattle.tm_types.specs.declared.unions.AddrUnion.{AddrUnion}
+use Rattle.tm_domain.specs.LineKind.{LineKind}
+use Rattle.tm_domain.specs.AddrUnion.{AddrUnion}
 use Rattle.tm_line.specs.Arguments.{addr_range_word, one_address, address_word, address_at}
 use Rattle.tm_line.specs.Printing.{address_spelling}
 use Rattle.tm_line.specs.Written.{is_addr, is_addr_range, is_address}

@@ -8,10 +8,10 @@ use Rattle.std.specs.Result.{is_ok}
 use Rattle.std.proofs.lemmas.List.Splits.{join_with_byte-slice_split}
 use Rattle.tm_word.specs.Words.{Text}
 use Rattle.tm_word.specs.Spelling.{joined}
-use Rattle.tm_types.specs.declared.entry.LineKind.{LineKind}
-use Rattle.tm_rules.specs.Words.{DomainName}
-use Rattle.tm_rules.specs.Transition.{is_namespace_word, is_domain_name, root_name}
-use Rattle.tm_pattern.specs.Reading.{pattern_of}
+use Rattle.tm_domain.specs.LineKind.{LineKind}
+use Rattle.tm_domain.specs.Words.{DomainName}
+use Rattle.tm_domain.specs.Transition.{is_namespace_word, is_domain_name, root_name}
+use Rattle.tm_domain.specs.Reading.{pattern_of}
 use Rattle.tm_domain.specs.declared.DomainFault.{DomainFault}
 use Rattle.tm_domain.specs.Names.{is_path, is_read, domain_of}
 use Rattle.tm_domain.proofs.NameLaws.{same_name, right_name}

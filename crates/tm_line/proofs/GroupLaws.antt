@@ -4,7 +4,7 @@ use Rattle.std.proofs.lemmas.Bool.{eqb-true}
 use Rattle.tm_word.specs.Words.{Text, Word}
 use Rattle.tm_word.specs.Spelling.{spell, spelled_word}
 use Rattle.tm_word.proofs.Spelled.{word_found, word_again, word_small}
-use Rattle.tm_types.specs.declared.entry.LineKind.{LineKind}
+use Rattle.tm_domain.specs.LineKind.{LineKind}
 use Rattle.tm_word.specs.Gives.{◌>>=◌}
 use Rattle.tm_line.specs.Arguments.{not_empty, group_word, group_or}
 use Rattle.tm_line.specs.Written.{is_group}

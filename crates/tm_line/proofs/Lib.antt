@@ -14,3 +14,6 @@ pub mod RestLaws
 mod LineExamples
 pub mod OkSteps
 pub mod NamespaceLaws
+pub use Rattle.tm_addr.proofs.Free
+pub use Rattle.tm_domain.proofs.LiteralLaws
+pub use Rattle.tm_domain.proofs.NameLaws

@@ -1,15 +1,15 @@
 -- Worked examples of the steps of lines: what is right, wrong, missing, extra and unfinished.
 use Rattle.std.proofs.Common.{◌≡◌, true, false, [], ◌∷◌, Ok, Err, refl}
 use Rattle.std.specs.Prelude.{codes}
-use Rattle.tm_number.specs.Numbers.{range_of, value_of, number_of, plain_of}
+use Rattle.tm_addr.specs.Numbers.{range_of, value_of, number_of, plain_of}
 use Rattle.tm_addr.specs.Reading.{addr_of, v4_of, v6_of, quad_of, side_of, groups_after, last_of}
 use Rattle.tm_addr.specs.Reading.{range_of as addr_range_of}
 use Rattle.tm_addr.specs.Reading.{group_of as hex_group_of}
-use Rattle.tm_pattern.specs.Tokens.{token_at}
-use Rattle.tm_pattern.specs.Reading.{step, ended, parsed, pattern_of}
+use Rattle.tm_domain.specs.Tokens.{token_at}
+use Rattle.tm_domain.specs.Reading.{step, ended, parsed, pattern_of}
 use Rattle.tm_word.specs.Spelling.{spelled_word, word_of, head_of}
-use Rattle.tm_types.specs.declared.entry.LineKind.{LineKind}
-use Rattle.tm_types.specs.declared.unions.NameUnion.{NameUnion}
+use Rattle.tm_domain.specs.LineKind.{LineKind}
+use Rattle.tm_domain.specs.NameUnion.{NameUnion}
 use Rattle.tm_domain.specs.Names.{domain_of, is_path}
 use Rattle.tm_line.specs.declared.permissions.Row.{Row}
 use Rattle.tm_line.specs.Lines.{keyword_at, option_at}

@@ -2,13 +2,13 @@
 use Rattle.std.proofs.Common.{◌≡◌, ◌==◌, true, false, List, [], ◌∷◌, Ok, inl, inr, refl, subst, ◌∙◌}
 use Rattle.tm_word.specs.Words.{Text, Pattern}
 use Rattle.tm_word.specs.Printing.{spelled_pattern}
-use Rattle.tm_pattern.specs.Reading.{pattern_of}
-use Rattle.tm_pattern.specs.Grammar.{is_right}
-use Rattle.tm_pattern.proofs.LexLaws.{pattern_found}
-use Rattle.tm_pattern.proofs.GrammarLaws.{right-read}
-use Rattle.tm_pattern.proofs.RightLaws.{read-right}
-use Rattle.tm_types.specs.declared.entry.LineKind.{LineKind}
-use Rattle.tm_types.specs.declared.unions.NameUnion.{NameUnion}
+use Rattle.tm_domain.specs.Reading.{pattern_of}
+use Rattle.tm_domain.specs.Grammar.{is_right}
+use Rattle.tm_domain.proofs.LexLaws.{pattern_found}
+use Rattle.tm_domain.proofs.GrammarLaws.{right-read}
+use Rattle.tm_domain.proofs.RightLaws.{read-right}
+use Rattle.tm_domain.specs.LineKind.{LineKind}
+use Rattle.tm_domain.specs.NameUnion.{NameUnion}
 use Rattle.tm_line.specs.Arguments.{pattern_word, one_name, name_word, name_at}
 use Rattle.tm_line.specs.Printing.{name_spelling}
 use Rattle.tm_line.specs.Written.{begins_name, is_name}

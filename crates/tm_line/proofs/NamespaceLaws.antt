@@ -3,10 +3,10 @@ use Rattle.std.proofs.Common.{◌≡◌, ◌==◌, Bool, true, false, List, [], 
 use Rattle.std.specs.Prelude.{if◌then◌else◌}
 use Rattle.std.specs.List.{list_any}
 use Rattle.tm_word.specs.Words.{Text}
-use Rattle.tm_types.specs.declared.entry.LineKind.{LineKind}
-use Rattle.tm_pattern.specs.Reading.{pattern_of, parsed, step, ended}
-use Rattle.tm_pattern.specs.Tokens.{token_at}
-use Rattle.tm_rules.specs.Policy.{kernel}
+use Rattle.tm_domain.specs.LineKind.{LineKind}
+use Rattle.tm_domain.specs.Reading.{pattern_of, parsed, step, ended}
+use Rattle.tm_domain.specs.Tokens.{token_at}
+use Rattle.tm_domain.specs.Policy.{kernel}
 use Rattle.tm_domain.specs.declared.DomainFault.{DomainFault}
 use Rattle.tm_domain.specs.Names.{domain_of, is_path}
 use Rattle.tm_domain.proofs.NameLaws.{same_name}

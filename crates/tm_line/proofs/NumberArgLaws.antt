@@ -8,17 +8,17 @@ use Rattle.std.specs.List.{position}
 use Rattle.std.specs.Fmt.{decimal}
 use Rattle.std.specs.Str.Parse.{IsNumeral}
 use Rattle.tm_word.specs.Words.{Text}
-use Rattle.tm_number.specs.declared.Base.{Base}
-use Rattle.tm_number.specs.declared.Number.{Number}
-use Rattle.tm_number.specs.declared.Range.{Range}
-use Rattle.tm_number.specs.declared.text.NumberFault.{NumberFault}
-use Rattle.tm_number.specs.Numbers.{number_of, range, range_of, range_at, ends_of, spelling, range_spelling, same_base, plain_of}
-use Rattle.tm_number.proofs.NumberLaws.{number_small}
-use Rattle.tm_number.proofs.NumberLaws.{plain_small}
-use Rattle.tm_number.proofs.NumberLaws.{plain_again as decimal_again}
-use Rattle.tm_number.proofs.RangeLaws.{range_again}
-use Rattle.tm_types.specs.declared.entry.LineKind.{LineKind}
-use Rattle.tm_types.specs.declared.unions.NumberUnion.{NumberUnion}
+use Rattle.tm_addr.specs.Base.{Base}
+use Rattle.tm_addr.specs.Number.{Number}
+use Rattle.tm_addr.specs.Range.{Range}
+use Rattle.tm_addr.specs.NumberFault.{NumberFault}
+use Rattle.tm_addr.specs.Numbers.{number_of, range, range_of, range_at, ends_of, spelling, range_spelling, same_base, plain_of}
+use Rattle.tm_addr.proofs.NumberLaws.{number_small}
+use Rattle.tm_addr.proofs.NumberLaws.{plain_small}
+use Rattle.tm_addr.proofs.NumberLaws.{plain_again as decimal_again}
+use Rattle.tm_addr.proofs.RangeLaws.{range_again}
+use Rattle.tm_domain.specs.LineKind.{LineKind}
+use Rattle.tm_domain.specs.NumberUnion.{NumberUnion}
 use Rattle.tm_line.specs.Arguments.{range_word, one_number, number_word, number_at, plain_word}
 use Rattle.tm_line.specs.Lines.{or_kind}
 use Rattle.tm_line.specs.Printing.{number_spelling}

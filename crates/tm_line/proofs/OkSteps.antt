@@ -2,7 +2,7 @@
 use Rattle.std.proofs.Common.{◌≡◌, Bool, true, false, List, [], ◌∷◌, Result, Ok, Err, refl, subst}
 use Rattle.std.specs.Prelude.{if◌then◌else◌}
 use Rattle.tm_word.specs.Words.{Text}
-use Rattle.tm_types.specs.declared.entry.LineKind.{LineKind}
+use Rattle.tm_domain.specs.LineKind.{LineKind}
 use Rattle.tm_line.specs.Lines.{word_at}
 use Rattle.tm_word.specs.Gives.{◌>>=◌}
 

@@ -3,12 +3,12 @@ use Rattle.std.proofs.Common.{◌≡◌, ◌+◌, ◌-◌, ◌&&◌, List, [], �
 use Rattle.std.proofs.Math.Seq.{drop-append-add}
 use Rattle.std.proofs.lemmas.List.{take-append-drop}
 use Rattle.tm_word.specs.Words.{Text}
-use Rattle.tm_types.specs.declared.entry.LineKind.{LineKind}
-use Rattle.tm_types.specs.declared.unions.NameUnion.{NameUnion}
-use Rattle.tm_types.specs.declared.unions.NumberUnion.{NumberUnion}
-use Rattle.tm_types.specs.declared.unions.AddrUnion.{AddrUnion}
+use Rattle.tm_domain.specs.LineKind.{LineKind}
+use Rattle.tm_domain.specs.NameUnion.{NameUnion}
+use Rattle.tm_domain.specs.NumberUnion.{NumberUnion}
+use Rattle.tm_domain.specs.AddrUnion.{AddrUnion}
 use Rattle.tm_word.specs.Texts.{texts_equal, begins}
-use Rattle.tm_rules.specs.Words.{DomainName}
+use Rattle.tm_domain.specs.Words.{DomainName}
 use Rattle.tm_line.specs.Lines.{is_last, keyword_kind, keyword_at, word_at}
 use Rattle.tm_line.specs.Arguments.{name_word, number_word, address_word, name_at, number_at, address_at}
 use Rattle.tm_line.specs.Domains.{domain_words, paths_in, domain_at}

@@ -16,29 +16,29 @@ use Rattle.tm_word.specs.Words.{Text, Word, Part, Pattern}
 use Rattle.tm_word.specs.Spelling.{is_separator, words_of, joined, spelling_of, spell}
 use Rattle.tm_word.specs.Matching.{is_empty, is_once}
 use Rattle.tm_word.specs.Printing.{spelled_element, spelled_part, spelled_minus, opening, closing, spelled_component, spelled_pattern}
-use Rattle.tm_number.specs.declared.Addr.{Addr}
-use Rattle.tm_number.specs.declared.AddrRange.{AddrRange}
-use Rattle.tm_number.specs.declared.Base.{Base}
-use Rattle.tm_number.specs.declared.Range.{Range}
-use Rattle.tm_number.specs.Numbers.{spelling, range_spelling, same_base}
+use Rattle.tm_addr.specs.Addr.{Addr}
+use Rattle.tm_addr.specs.AddrRange.{AddrRange}
+use Rattle.tm_addr.specs.Base.{Base}
+use Rattle.tm_addr.specs.Range.{Range}
+use Rattle.tm_addr.specs.Numbers.{spelling, range_spelling, same_base}
 use Rattle.tm_addr.specs.Printing.{IsAddr, addr_spelling, same_addr, addr_range_spelling}
 use Rattle.tm_addr.proofs.Free.{Free, free_digits}
 use Rattle.tm_addr.proofs.V4Laws.{v4_free}
 use Rattle.tm_addr.proofs.V6Laws.{v6_free}
-use Rattle.tm_pattern.specs.Grammar.{is_right_element, is_full, is_right_component, are_right, is_right}
-use Rattle.tm_types.specs.declared.unions.NameUnion.{NameUnion}
-use Rattle.tm_types.specs.declared.unions.NumberUnion.{NumberUnion}
-use Rattle.tm_types.specs.declared.unions.AddrUnion.{AddrUnion}
-use Rattle.tm_number.specs.Numbers.{range_of, number_of}
+use Rattle.tm_domain.specs.Grammar.{is_right_element, is_full, is_right_component, are_right, is_right}
+use Rattle.tm_domain.specs.NameUnion.{NameUnion}
+use Rattle.tm_domain.specs.NumberUnion.{NumberUnion}
+use Rattle.tm_domain.specs.AddrUnion.{AddrUnion}
+use Rattle.tm_addr.specs.Numbers.{range_of, number_of}
 use Rattle.tm_addr.specs.Reading.{addr_of, v4_of}
 use Rattle.tm_addr.specs.Reading.{range_of as addr_range_of}
-use Rattle.tm_pattern.specs.declared.reading.PatternFault.{PatternFault}
-use Rattle.tm_pattern.specs.Reading.{pattern_of}
-use Rattle.tm_pattern.proofs.LexLaws.{pattern_found}
-use Rattle.tm_pattern.proofs.RightLaws.{read-right}
+use Rattle.tm_domain.specs.PatternFault.{PatternFault}
+use Rattle.tm_domain.specs.Reading.{pattern_of}
+use Rattle.tm_domain.proofs.LexLaws.{pattern_found}
+use Rattle.tm_domain.proofs.RightLaws.{read-right}
 use Rattle.tm_word.specs.Texts.{texts_equal, is_solid, is_word, begins_with_byte}
-use Rattle.tm_rules.specs.Words.{DomainName}
-use Rattle.tm_rules.specs.Transition.{is_namespace_word, is_domain_name, root_name}
+use Rattle.tm_domain.specs.Words.{DomainName}
+use Rattle.tm_domain.specs.Transition.{is_namespace_word, is_domain_name, root_name}
 use Rattle.std.specs.Result.{is_ok}
 use Rattle.tm_domain.specs.Names.{is_path}
 use Rattle.tm_domain.proofs.NameLaws.{same_texts}

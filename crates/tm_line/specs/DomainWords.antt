@@ -2,7 +2,7 @@
 use Rattle.std.specs.Prelude.{◌==◌, Bool, true, not, List, [], ◌∷◌}
 use Rattle.std.specs.List.{slice_split}
 use Rattle.tm_word.specs.Words.{Text}
-use Rattle.tm_rules.specs.Words.{DomainName}
+use Rattle.tm_domain.specs.Words.{DomainName}
 use Rattle.tm_word.specs.Texts.{begins_with_byte}
 
 -- what stands between the spaces of a name

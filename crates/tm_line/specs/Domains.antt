@@ -3,8 +3,8 @@ use Rattle.std.specs.Prelude.{ℕ, List, [], ◌∷◌, take, drop, Result, Ok, 
 use Rattle.std.specs.List.{prefix_len}
 use Rattle.tm_word.specs.Words.{Text}
 use Rattle.tm_word.specs.Spelling.{joined}
-use Rattle.tm_types.specs.declared.entry.LineKind.{LineKind}
-use Rattle.tm_rules.specs.Words.{DomainName}
+use Rattle.tm_domain.specs.LineKind.{LineKind}
+use Rattle.tm_domain.specs.Words.{DomainName}
 use Rattle.tm_domain.specs.Names.{domain_of}
 use Rattle.tm_word.specs.Texts.{begins_with_byte}
 use Rattle.tm_word.specs.Gives.{◌>>=◌}

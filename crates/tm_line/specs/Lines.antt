@@ -3,8 +3,8 @@
 use Rattle.std.specs.Prelude.{◌&&◌, if◌then◌else◌, Bool, true, false, List, [], ◌∷◌, Option, Some, None, Result, Ok, Err}
 use Rattle.std.specs.List.{flat_map}
 use Rattle.tm_word.specs.Words.{Text}
-use Rattle.tm_types.specs.declared.entry.LineKind.{LineKind}
-use Rattle.tm_types.specs.declared.step.LineFault.{LineFault}
+use Rattle.tm_domain.specs.LineKind.{LineKind}
+use Rattle.tm_domain.specs.LineFault.{LineFault}
 use Rattle.tm_word.specs.Texts.{texts_equal, begins}
 use Rattle.tm_word.specs.Gives.{◌>>=◌}
 

@@ -3,8 +3,8 @@ use Rattle.std.specs.Prelude.{◌≡◌, ◌==◌, Bool, if◌then◌else◌, Li
 use Rattle.std.specs.List.{list_any}
 use Rattle.tm_word.specs.Words.{Text}
 use Rattle.tm_word.specs.Texts.{begins_with_byte}
-use Rattle.tm_types.specs.declared.entry.LineKind.{LineKind}
-use Rattle.tm_rules.specs.Policy.{kernel}
+use Rattle.tm_domain.specs.LineKind.{LineKind}
+use Rattle.tm_domain.specs.Policy.{kernel}
 use Rattle.tm_domain.specs.Names.{domain_of}
 use Rattle.tm_line.specs.Lines.{spaced}
 use Rattle.tm_word.specs.Gives.{◌>>=◌}

@@ -3,11 +3,11 @@ use Rattle.std.specs.Prelude.{◌∷◌}
 use Rattle.tm_word.specs.Words.{Text}
 use Rattle.tm_word.specs.Spelling.{spell}
 use Rattle.tm_word.specs.Printing.{spelled_pattern}
-use Rattle.tm_number.specs.Numbers.{range_spelling}
+use Rattle.tm_addr.specs.Numbers.{range_spelling}
 use Rattle.tm_addr.specs.Printing.{addr_range_spelling}
-use Rattle.tm_types.specs.declared.unions.NameUnion.{NameUnion}
-use Rattle.tm_types.specs.declared.unions.NumberUnion.{NumberUnion}
-use Rattle.tm_types.specs.declared.unions.AddrUnion.{AddrUnion}
+use Rattle.tm_domain.specs.NameUnion.{NameUnion}
+use Rattle.tm_domain.specs.NumberUnion.{NumberUnion}
+use Rattle.tm_domain.specs.AddrUnion.{AddrUnion}
 
 -- a group after `@`, or the pattern
 unfoldable pub name_spelling : NameUnion → Text

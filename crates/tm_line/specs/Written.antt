@@ -3,14 +3,14 @@ use Rattle.std.specs.Prelude.{ℕ, ◌^◌, ◌==◌, nat_lt, nat_le, Bool, fals
 use Rattle.std.specs.List.{list_all}
 use Rattle.tm_word.specs.Words.{Text, Word}
 use Rattle.tm_word.specs.Printing.{spelled_pattern}
-use Rattle.tm_number.specs.declared.Addr.{Addr}
-use Rattle.tm_number.specs.declared.AddrRange.{AddrRange}
-use Rattle.tm_number.specs.declared.Range.{Range}
-use Rattle.tm_number.specs.Addresses.{addr_le}
-use Rattle.tm_pattern.specs.Grammar.{is_right}
-use Rattle.tm_types.specs.declared.unions.NameUnion.{NameUnion}
-use Rattle.tm_types.specs.declared.unions.NumberUnion.{NumberUnion}
-use Rattle.tm_types.specs.declared.unions.AddrUnion.{AddrUnion}
+use Rattle.tm_addr.specs.Addr.{Addr}
+use Rattle.tm_addr.specs.AddrRange.{AddrRange}
+use Rattle.tm_addr.specs.Range.{Range}
+use Rattle.tm_addr.specs.Addresses.{addr_le}
+use Rattle.tm_domain.specs.Grammar.{is_right}
+use Rattle.tm_domain.specs.NameUnion.{NameUnion}
+use Rattle.tm_domain.specs.NumberUnion.{NumberUnion}
+use Rattle.tm_domain.specs.AddrUnion.{AddrUnion}
 use Rattle.tm_line.specs.declared.permissions.Row.{Row}
 use Rattle.tm_line.specs.Permissions.{names}
 

@@ -5,14 +5,14 @@ ghost use Rattle.tm_line.specs.Lines.{line_cause};
 ghost use Rattle.tm_line.specs.Arguments.{one_name, one_number, one_address, group_word, pattern_word, path_word, range_word, addr_range_word, name_word, number_word, address_word, plain_word, name_at, number_at, address_at};
 
 use std::alloc::Global;
+use tm_addr::number::{AddrRange, Range, read_range};
 use tm_addr::read_addr_range;
 use tm_domain::is_path;
-use tm_list::Seq;
-use tm_number::{AddrRange, Range, read_range};
-use tm_pattern::{PatternFault, read_pattern};
-use tm_types::entry::LineKind;
-use tm_types::step::LineFault;
-use tm_types::unions::{AddrUnion, NameUnion, NumberUnion};
+use tm_domain::pattern::{PatternFault, read_pattern};
+use tm_domain::types::entry::LineKind;
+use tm_domain::types::step::LineFault;
+use tm_domain::types::unions::{AddrUnion, NameUnion, NumberUnion};
+use tm_word::list::Seq;
 use tm_word::{Pattern, Text, Word, spelled_word};
 
 /// Reads the name of a group, without the `@` in front: a spelled word that is not empty. Errors:
@@ -143,7 +143,7 @@ pub fn address_word(alloc: Global, word: &[u8]) -> Result<AddrUnion, LineFault>
 pub fn small_number(text: &[u8]) -> Result<u8, LineFault>
     ensures { GivesNow line_cause (λ n. n) result (plain_word 256 text.now) }
 {
-    match tm_number::plain_number(256, text) {
+    match tm_addr::number::plain_number(256, text) {
         Some(number) => Ok(number as u8),
         None => Err(LineFault::Kind(LineKind::Number)),
     }
@@ -154,7 +154,7 @@ pub fn small_number(text: &[u8]) -> Result<u8, LineFault>
 pub fn plain_number(text: &[u8]) -> Result<u32, LineFault>
     ensures { GivesNow line_cause (λ n. n) result (plain_word (2 ^ 32) text.now) }
 {
-    match tm_number::plain_number(4_294_967_296, text) {
+    match tm_addr::number::plain_number(4_294_967_296, text) {
         Some(number) => Ok(number as u32),
         None => Err(LineFault::Kind(LineKind::Number)),
     }

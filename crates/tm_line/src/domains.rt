@@ -7,10 +7,10 @@ ghost use Rattle.tm_line.specs.Domains.{domain_words, paths_in, domain_at, domai
 
 use crate::words::joined_after;
 use std::alloc::Global;
+use tm_domain::types::entry::LineKind;
+use tm_domain::types::step::LineFault;
+use tm_domain::types::unions::DomainName;
 use tm_domain::{DomainFault, read_domain};
-use tm_types::entry::LineKind;
-use tm_types::step::LineFault;
-use tm_types::unions::DomainName;
 use tm_word::{Text, begins_with};
 
 /// Reads these words as one domain name of at most 4,085 bytes. Errors: `Domain`.

@@ -20,4 +20,6 @@ pub use laws::{printed_words, round_trip};
 pub use namespace::{namespace_at, namespaces, opens};
 pub use permissions::{Row, mask_in, pieces_of, print_perms, read_perms, starts_in};
 pub use printing::{print_address, print_domain, print_name, print_number};
+pub use tm_addr as addr;
+pub use tm_domain as domain;
 pub use words::{ended, joined, joined_after, keyword_at, keyword_kind, option_at};

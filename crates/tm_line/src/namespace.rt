@@ -6,14 +6,14 @@ ghost use Rattle.std.specs.Prelude.{◌≡◌, ◌==◌, ◌∷◌, List, true, 
 ghost use Rattle.tm_word.specs.Words.{Text};
 ghost use Rattle.tm_word.specs.Gives.{Gives};
 ghost use Rattle.tm_line.specs.Lines.{line_cause};
-ghost use Rattle.tm_rules.specs.Policy.{kernel};
+ghost use Rattle.tm_domain.specs.Policy.{kernel};
 ghost use Rattle.tm_line.specs.Namespaces.{opens, namespace_of, namespace_at, IsNamespace};
 
 use std::alloc::Global;
+use tm_domain::types::entry::LineKind;
+use tm_domain::types::step::LineFault;
 use tm_domain::{DomainFault, read_domain};
-use tm_list::Seq;
-use tm_types::entry::LineKind;
-use tm_types::step::LineFault;
+use tm_word::list::Seq;
 use tm_word::{Text, begins_with, has_byte};
 
 /// Whether a word begins with `<`, as namespace words do and no other word of a line may.

@@ -6,8 +6,8 @@ ghost use Rattle.tm_line.specs.Permissions.{names, masked, mask_in, starts_in, p
 
 use crate::words::keyword_kind;
 use std::alloc::Global;
-use tm_list::{NoMemory, Seq};
-use tm_types::step::LineFault;
+use tm_domain::types::step::LineFault;
+use tm_word::list::{NoMemory, Seq};
 use tm_word::{Text, begins_in, name_of, place_of, value_of};
 
 /// The rows of permissions: those that one line may have together.

@@ -6,11 +6,11 @@ ghost use Rattle.tm_line.specs.DomainWords.{domain_parts};
 ghost use Rattle.tm_line.specs.Printing.{name_spelling, number_spelling, address_spelling};
 
 use std::alloc::Global;
+use tm_addr::number::write_range;
 use tm_addr::write_addr_range;
-use tm_list::NoMemory;
-use tm_number::write_range;
-use tm_pattern::print_pattern;
-use tm_types::unions::{AddrUnion, DomainName, NameUnion, NumberUnion};
+use tm_domain::pattern::print_pattern;
+use tm_domain::types::unions::{AddrUnion, DomainName, NameUnion, NumberUnion};
+use tm_word::list::NoMemory;
 use tm_word::{Word, write_word};
 
 /// `@` and the spelled name of a group.

@@ -5,9 +5,9 @@ ghost use Rattle.tm_word.specs.Gives.{GivesNow};
 ghost use Rattle.tm_line.specs.Lines.{line_cause, ended, keyword_kind, keyword_at, option_at};
 
 use std::alloc::Global;
-use tm_list::NoMemory;
-use tm_types::entry::LineKind;
-use tm_types::step::LineFault;
+use tm_domain::types::entry::LineKind;
+use tm_domain::types::step::LineFault;
+use tm_word::list::NoMemory;
 use tm_word::{Text, begins, bytes_equal};
 
 /// What a wrong word is where a keyword must stand: `Arity` where it is an unfinished one, else

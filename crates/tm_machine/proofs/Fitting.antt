@@ -20,7 +20,7 @@ use Rattle.tm_rules.specs.Policy.{domain_at, profile_of}
 use Rattle.tm_rules.specs.Edit.{Edited, apply_line}
 use Rattle.tm_rules.specs.Changes.{in_domain, learn, make, fail, is_manager}
 use Rattle.tm_rules.specs.Queries.{ask}
-use Rattle.tm_grammar.specs.Tomoyo.{tomoyo_grammar}
+use Rattle.tm_rep.specs.Tomoyo.{tomoyo_grammar}
 use Rattle.tm_legal.specs.Steps.{State, Applied, apply, unfit, on_policy, on_queries, fits_entry, fits_name, edit_step}
 use Rattle.tm_machine.specs.Fitting.{is_there, fits_now}
 

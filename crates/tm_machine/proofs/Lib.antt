@@ -4,3 +4,4 @@ pub mod Courses
 pub mod Fitting
 pub mod Leaving
 pub mod Offices
+pub use Rattle.tm_rep.proofs.IsOne

@@ -9,7 +9,7 @@ use Rattle.tm_types.specs.declared.step.Start.{Start}
 use Rattle.tm_types.specs.declared.step.Answered.{Answered}
 use Rattle.tm_types.specs.declared.step.Query.{Query}
 use Rattle.tm_rules.specs.Queries.{answer_of, first_query}
-use Rattle.tm_grammar.specs.Tomoyo.{tomoyo_grammar}
+use Rattle.tm_rep.specs.Tomoyo.{tomoyo_grammar}
 use Rattle.tm_legal.specs.Steps.{opening, apply, fits}
 use Rattle.tm_legal.specs.Run.{reply_at}
 use Rattle.tm_legal.specs.Play.{all_ended}

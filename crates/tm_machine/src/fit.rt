@@ -1,17 +1,17 @@
 //! Whether a step fits the state at the newest version.
 ghost use Rattle.std.specs.Prelude.{◌≡◌, IfOk};
 ghost use Rattle.tm_types.specs.declared.step.Step.{Step};
-ghost use Rattle.tm_grammar.specs.Tomoyo.{tomoyo_grammar};
+ghost use Rattle.tm_rep.specs.Tomoyo.{tomoyo_grammar};
 ghost use Rattle.tm_legal.specs.Steps.{fits_entry, fits_name};
 ghost use Rattle.tm_machine.specs.Fitting.{is_there, fits_now};
 
 use crate::current::Current;
 use std::alloc::Global;
-use tm_change_domains::{domain_at, profile_of};
 use tm_domain::{is_domain_name, namespace};
-use tm_entry::is_written;
 use tm_list::NoMemory;
 use tm_rep::Rep;
+use tm_rep::change_domains::{domain_at, profile_of};
+use tm_rep::entry::is_written;
 use tm_types::entry::{Args, Entry};
 use tm_types::policy::Policy;
 use tm_types::step::Step;

@@ -9,3 +9,4 @@ mod machine;
 mod office;
 
 pub use machine::Machine;
+pub use tm_rep as rep;

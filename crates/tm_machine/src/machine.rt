@@ -6,7 +6,7 @@ ghost use Rattle.tm_types.specs.declared.step.Made.{Made};
 ghost use Rattle.tm_types.specs.declared.step.Reply.{Reply};
 ghost use Rattle.tm_rules.specs.Few.{IsFew};
 ghost use Rattle.tm_rules.specs.Queries.{numbered, answer_of, first_query};
-ghost use Rattle.tm_grammar.specs.Tomoyo.{tomoyo_grammar};
+ghost use Rattle.tm_rep.specs.Tomoyo.{tomoyo_grammar};
 ghost use Rattle.tm_legal.specs.Steps.{opening, apply, after};
 ghost use Rattle.tm_legal.specs.Run.{reply_at};
 ghost use Rattle.tm_legal.specs.Legal.{Replies, is_attach, is_answer};

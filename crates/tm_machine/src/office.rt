@@ -1,6 +1,6 @@
 //! The machine as the office of an engine, and as the hall of a desk.
 ghost use Rattle.std.specs.Prelude.{◌≡◌, ◌++◌, ◌∷◌, [], true, MatchResult, OnOk, OnErr};
-ghost use Rattle.tm_grammar.specs.Tomoyo.{tomoyo_grammar};
+ghost use Rattle.tm_rep.specs.Tomoyo.{tomoyo_grammar};
 ghost use Rattle.tm_legal.specs.Steps.{apply};
 ghost use Rattle.tm_machine.specs.Machine.{LeavesDomains, LeavesAllRefused};
 ghost use Rattle.tm_machine.specs.Office.{list_of, fits_at, by_desk};

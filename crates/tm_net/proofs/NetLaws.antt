@@ -5,7 +5,7 @@ use Rattle.std.specs.Prelude.{codes}
 use Rattle.std.proofs.lemmas.Bool.{eqb-true}
 use Rattle.tm_word.specs.Words.{Text, Pattern}
 use Rattle.tm_word.specs.Printing.{spelled_pattern}
-use Rattle.tm_pattern.specs.Grammar.{is_right}
+use Rattle.tm_union.specs.Grammar.{is_right}
 use Rattle.tm_types.specs.declared.entry.Args.{Args}
 use Rattle.tm_types.specs.declared.entry.InetKind.{InetKind}
 use Rattle.tm_types.specs.declared.entry.UnixKind.{UnixKind}
@@ -17,7 +17,7 @@ use Rattle.tm_types.specs.declared.unions.AddrUnion.{AddrUnion}
 use Rattle.tm_word.specs.Texts.{texts_equal, begins}
 use Rattle.tm_rules.specs.Words.{DomainName}
 use Rattle.tm_rules.specs.Transition.{is_domain_name}
-use Rattle.tm_domain.specs.Names.{is_path}
+use Rattle.tm_line.specs.Names.{is_path}
 use Rattle.tm_line.specs.declared.permissions.Row.{Row}
 use Rattle.tm_line.specs.Lines.{is_last, keyword_kind, keyword_at, word_at}
 use Rattle.tm_word.specs.Gives.{◌>>=◌}

@@ -6,12 +6,12 @@ use Rattle.std.specs.List.{list_all}
 use Rattle.tm_word.specs.Words.{Text}
 use Rattle.tm_word.specs.Spelling.{words_of, joined}
 use Rattle.tm_word.specs.Printing.{spelled_pattern}
-use Rattle.tm_pattern.specs.Grammar.{is_right}
+use Rattle.tm_union.specs.Grammar.{is_right}
 use Rattle.tm_types.specs.declared.entry.Args.{Args}
 use Rattle.tm_types.specs.declared.entry.InetKind.{InetKind}
 use Rattle.tm_types.specs.declared.entry.UnixKind.{UnixKind}
 use Rattle.tm_rules.specs.Transition.{is_domain_name}
-use Rattle.tm_domain.specs.Names.{is_path}
+use Rattle.tm_line.specs.Names.{is_path}
 use Rattle.tm_line.specs.Permissions.{perms_spelling}
 use Rattle.tm_line.specs.Printing.{name_spelling, number_spelling, address_spelling}
 use Rattle.tm_line.specs.Written.{is_name, is_number, is_address, is_set}

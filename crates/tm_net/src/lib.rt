@@ -11,7 +11,7 @@ ghost use Rattle.tm_types.specs.Request.{argument_words};
 ghost use Rattle.tm_rules.specs.Few.{IsShort};
 ghost use Rattle.tm_rules.specs.Group.{name_in, number_in};
 ghost use Rattle.tm_types.specs.declared.entry.Args.{Args};
-ghost use Rattle.tm_number.specs.declared.Addr.{Addr};
+ghost use Rattle.tm_types.specs.Addr.{Addr};
 ghost use Rattle.tm_word.specs.Matching.{matches};
 ghost use Rattle.tm_rules.specs.Equality.{inet_place, unix_place};
 ghost use Rattle.tm_word.specs.Texts.{texts_equal};
@@ -26,11 +26,11 @@ pub use lines::{
     inet_kind, inet_permissions, net_acl_at, read_net_acl, round_trip, unix_kind, unix_permissions,
 };
 pub use printing::print_net_acl;
-use tm_number::Addr;
-use tm_pattern::matches;
 use tm_types::entry::{Args, InetKind, UnixKind};
+use tm_types::number::Addr;
 use tm_types::request::Request;
 use tm_types::unions::{AddrUnion, DomainName, Groups, NamePlace, NameUnion, NumberUnion};
+use tm_union::pattern::matches;
 use tm_union::{addr_in, name_in, number_in};
 use tm_word::{Pattern, texts_equal};
 

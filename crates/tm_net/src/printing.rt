@@ -10,9 +10,9 @@ use crate::lines::{INETS, UNIXES, inet_permissions, unix_permissions};
 use std::alloc::Global;
 use tm_line::{Row, print_address, print_domain, print_name, print_number, print_perms};
 use tm_list::NoMemory;
-use tm_pattern::print_pattern;
 use tm_types::entry::{Args, InetKind, Perms, UnixKind};
 use tm_types::unions::{AddrUnion, DomainName, NameUnion, NumberUnion};
+use tm_union::pattern::print_pattern;
 use tm_word::Pattern;
 
 fn inet_word(kind: InetKind) -> &'static [u8]

@@ -8,16 +8,16 @@ use Rattle.tm_types.specs.declared.step.Made.{Made}
 use Rattle.tm_types.specs.declared.step.Maker.{Maker}
 use Rattle.tm_types.specs.declared.step.Start.{Start}
 use Rattle.tm_rules.specs.Words.{Trace}
-use Rattle.tm_trace.specs.Trees.{tree_pids}
-use Rattle.tm_trace.specs.Written.{IsTrace}
+use Rattle.tm_deal.specs.Trees.{tree_pids}
+use Rattle.tm_deal.specs.Written.{IsTrace}
 use Rattle.tm_legal.specs.Run.{do_pids}
 use Rattle.tm_legal.proofs.Walks.{All-map}
 use Rattle.tm_joint.specs.Makers.{EachClaims}
 use Rattle.tm_joint.specs.Workers.{pass_of}
 use Rattle.tm_joint.proofs.Rows.{All-flat}
-use Rattle.tm_seat.specs.declared.tree.PlayedTree.{PlayedTree}
-use Rattle.tm_seat.specs.declared.tree.TreeToPlay.{TreeToPlay}
-use Rattle.tm_seat.specs.Rows.{tree_makers, makers_all}
+use Rattle.tm_deal.specs.PlayedTree.{PlayedTree}
+use Rattle.tm_deal.specs.TreeToPlay.{TreeToPlay}
+use Rattle.tm_deal.specs.Rows.{tree_makers, makers_all}
 use Rattle.tm_deal.specs.Dealing.{dealt_to, hand_of}
 use Rattle.tm_parts.specs.Parts.{trees_from, Deed, WorkerDid, EachPart}
 use Rattle.tm_parts.specs.Replayed.{AreDealt}

@@ -14,11 +14,11 @@ use Rattle.tm_legal.specs.Legal.{times}
 use Rattle.tm_joint.specs.Joint.{takes_in}
 use Rattle.tm_joint.specs.Played.{Row, row_own, RowHolds, EachRow}
 use Rattle.tm_joint.proofs.Rows.{All-flat}
-use Rattle.tm_seat.specs.declared.tree.PlayedTree.{PlayedTree}
-use Rattle.tm_seat.specs.declared.tree.TreeToPlay.{TreeToPlay}
-use Rattle.tm_seat.specs.Seats.{scene_of}
-use Rattle.tm_seat.specs.Playing.{LooksSince}
-use Rattle.tm_seat.specs.Rows.{RowIsPlayed, EachIsPlayed, RowSince, rows_own, row_of}
+use Rattle.tm_deal.specs.PlayedTree.{PlayedTree}
+use Rattle.tm_deal.specs.TreeToPlay.{TreeToPlay}
+use Rattle.tm_deal.specs.Seats.{scene_of}
+use Rattle.tm_deal.specs.Playing.{LooksSince}
+use Rattle.tm_deal.specs.Rows.{RowIsPlayed, EachIsPlayed, RowSince, rows_own, row_of}
 use Rattle.tm_deal.specs.Dealing.{dealt_to, hand_of, queues_own, IsAmong, IsGathered}
 use Rattle.tm_parts.specs.Parts.{trees_from, Deed, deed, EachPart, WorkerDid}
 use Rattle.tm_parts.specs.Replayed.{AreDealt}

@@ -6,12 +6,12 @@ use Rattle.tm_types.specs.declared.step.Made.{Made}
 use Rattle.tm_types.specs.declared.step.Maker.{Maker}
 use Rattle.tm_types.specs.declared.step.Start.{Start}
 use Rattle.tm_rules.specs.Words.{Trace}
-use Rattle.tm_trace.specs.Written.{IsTrace}
+use Rattle.tm_deal.specs.Written.{IsTrace}
 use Rattle.tm_legal.specs.Legal.{Legal, NoLookBeforeAttach}
 use Rattle.tm_legal.specs.Play.{CanPlay}
 use Rattle.tm_joint.specs.Makers.{EachClaims}
-use Rattle.tm_seat.specs.declared.tree.PlayedTree.{PlayedTree}
-use Rattle.tm_seat.specs.Rows.{row_of}
+use Rattle.tm_deal.specs.PlayedTree.{PlayedTree}
+use Rattle.tm_deal.specs.Rows.{row_of}
 use Rattle.tm_deal.specs.Dealing.{IsGathered}
 use Rattle.tm_parts.specs.Parts.{Deed, WorkerDid}
 use Rattle.tm_parts.specs.Replayed.{scene_of, Replayed, run_of, ReplayedRunsAreLegal}

@@ -8,3 +8,4 @@ mod Claiming
 mod Gathered
 mod Jointly
 pub mod Working
+pub use Rattle.tm_deal.proofs.Opening

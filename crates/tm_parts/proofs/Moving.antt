@@ -8,10 +8,10 @@ use Rattle.tm_types.specs.declared.step.Start.{Start}
 use Rattle.tm_joint.specs.Makers.{Claims}
 use Rattle.tm_joint.specs.Played.{LinesMade}
 use Rattle.tm_joint.proofs.Later.{claims-later, lines-later}
-use Rattle.tm_seat.specs.Seats.{Begins}
-use Rattle.tm_seat.proofs.Opening.{begins-further}
-use Rattle.tm_seat.proofs.WorkerEvents.{rows-stay}
-use Rattle.tm_seat.specs.Rows.{makers_all}
+use Rattle.tm_deal.specs.Seats.{Begins}
+use Rattle.tm_deal.proofs.Opening.{begins-further}
+use Rattle.tm_deal.proofs.WorkerEvents.{rows-stay}
+use Rattle.tm_deal.specs.Rows.{makers_all}
 use Rattle.tm_parts.specs.declared.part.Part.{Part}
 use Rattle.tm_parts.specs.Parts.{Deed, deed, ClaimedBy, WorkerDid, PartIsDone, EachPart}
 

@@ -10,12 +10,12 @@ use Rattle.tm_types.specs.declared.step.Start.{Start}
 use Rattle.tm_rules.specs.Policy.{live_domain}
 use Rattle.tm_rules.specs.Requests.{item_is_request}
 use Rattle.tm_rules.specs.Words.{Trace}
-use Rattle.tm_grammar.specs.Tomoyo.{tomoyo_grammar}
+use Rattle.tm_deal.specs.Tomoyo.{tomoyo_grammar}
 use Rattle.tm_legal.proofs.Asked.{All-append}
 use Rattle.tm_legal.proofs.Walks.{All-map}
-use Rattle.tm_seat.specs.declared.tree.TreeToPlay.{TreeToPlay}
+use Rattle.tm_deal.specs.TreeToPlay.{TreeToPlay}
 use Rattle.tm_parts.specs.declared.part.Part.{Part}
-use Rattle.tm_seat.specs.Rows.{IsReady}
+use Rattle.tm_deal.specs.Rows.{IsReady}
 use Rattle.tm_deal.specs.Dealing.{dealt_to, hand_of}
 use Rattle.tm_parts.specs.Parts.{tree_to_play, trees_from, editor_parts, working_parts, PartWaits}
 use Rattle.tm_parts.specs.Replayed.{AreDealt}

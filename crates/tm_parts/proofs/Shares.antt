@@ -30,8 +30,8 @@ use Rattle.tm_joint.specs.Played.{Row, row_own, RowHolds, EachRow, EachEditor, D
 use Rattle.tm_joint.proofs.Assembly.{joint-legal, attached-first}
 use Rattle.tm_joint.proofs.Gathering.{claims-append}
 use Rattle.tm_joint.proofs.Later.{made_step-later}
-use Rattle.tm_seat.specs.Seats as seat
-use Rattle.tm_seat.proofs.Opening.{fits-scene}
+use Rattle.tm_deal.specs.Seats as seat
+use Rattle.tm_deal.proofs.Opening.{fits-scene}
 use Rattle.tm_parts.specs.declared.part.Part.{Part}
 use Rattle.tm_parts.specs.Parts.{editor_parts, desk_parts, Deed, PartIsDone, EachPart, PlayedTogether, coming}
 use Rattle.tm_parts.specs.Replayed.{scene_of}

@@ -8,11 +8,11 @@ use Rattle.tm_types.specs.declared.step.Maker.{Maker}
 use Rattle.tm_types.specs.declared.step.Start.{Start}
 use Rattle.tm_legal.proofs.Walks.{All-map}
 use Rattle.tm_joint.specs.Makers.{Claims}
-use Rattle.tm_seat.specs.declared.tree.PlayedTree.{PlayedTree}
-use Rattle.tm_seat.specs.declared.tree.TreeToPlay.{TreeToPlay}
-use Rattle.tm_seat.specs.Seats.{MadeBy}
-use Rattle.tm_seat.specs.Playing.{LooksSince}
-use Rattle.tm_seat.specs.Rows.{EachIsPlayed, RowSince, rows_own, makers_all}
+use Rattle.tm_deal.specs.PlayedTree.{PlayedTree}
+use Rattle.tm_deal.specs.TreeToPlay.{TreeToPlay}
+use Rattle.tm_deal.specs.Seats.{MadeBy}
+use Rattle.tm_deal.specs.Playing.{LooksSince}
+use Rattle.tm_deal.specs.Rows.{EachIsPlayed, RowSince, rows_own, makers_all}
 use Rattle.tm_parts.specs.Parts.{deed, ClaimedBy, WorkerDid}
 
 -- whoever begins with no step claims those that it has made since

@@ -14,14 +14,14 @@ use Rattle.tm_types.specs.declared.step.Step.{Step}
 use Rattle.tm_rules.specs.Policy.{live_domain}
 use Rattle.tm_rules.specs.Queries.{numbered}
 use Rattle.tm_rules.specs.Words.{Trace}
-use Rattle.tm_grammar.specs.Tomoyo.{tomoyo_grammar}
+use Rattle.tm_deal.specs.Tomoyo.{tomoyo_grammar}
 use Rattle.tm_legal.specs.Play.{IsOpened, IsNamed}
 use Rattle.tm_joint.specs.Makers.{Claims}
 use Rattle.tm_joint.specs.Played.{LinesMade, DeskDid}
-use Rattle.tm_seat.specs.declared.tree.PlayedTree.{PlayedTree}
-use Rattle.tm_seat.specs.declared.tree.TreeToPlay.{TreeToPlay}
-use Rattle.tm_seat.specs.Seats.{scene_of, Begins, FitsFrom}
-use Rattle.tm_seat.specs.Rows.{EachIsPlayed, RowSince, rows_own, makers_all}
+use Rattle.tm_deal.specs.PlayedTree.{PlayedTree}
+use Rattle.tm_deal.specs.TreeToPlay.{TreeToPlay}
+use Rattle.tm_deal.specs.Seats.{scene_of, Begins, FitsFrom}
+use Rattle.tm_deal.specs.Rows.{EachIsPlayed, RowSince, rows_own, makers_all}
 use Rattle.tm_parts.specs.declared.part.Part.{Part}
 
 -- Plans

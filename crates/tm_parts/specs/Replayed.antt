@@ -5,15 +5,15 @@ use Rattle.tm_types.specs.declared.step.Made.{Made}
 use Rattle.tm_types.specs.declared.step.Run.{Run}
 use Rattle.tm_types.specs.declared.step.Start.{Start}
 use Rattle.tm_rules.specs.Words.{Trace}
-use Rattle.tm_trace.specs.Written.{IsTrace}
+use Rattle.tm_deal.specs.Written.{IsTrace}
 use Rattle.tm_legal.specs.Legal.{Scene, Legal, NoLookBeforeAttach}
 use Rattle.tm_legal.specs.Play.{CanPlay}
 use Rattle.tm_made.specs.Made.{history_made}
 use Rattle.tm_joint.specs.Joint.{takes_in}
-use Rattle.tm_seat.specs.declared.tree.PlayedTree.{PlayedTree}
-use Rattle.tm_seat.specs.declared.tree.TreeToPlay.{TreeToPlay}
-use Rattle.tm_seat.specs.Seats as seat
-use Rattle.tm_seat.specs.Rows.{row_of}
+use Rattle.tm_deal.specs.PlayedTree.{PlayedTree}
+use Rattle.tm_deal.specs.TreeToPlay.{TreeToPlay}
+use Rattle.tm_deal.specs.Seats as seat
+use Rattle.tm_deal.specs.Rows.{row_of}
 use Rattle.tm_deal.specs.Dealing.{hand_of, IsGathered}
 use Rattle.tm_parts.specs.Parts.{trees_from, WorkerDid, PlayedTogether}
 

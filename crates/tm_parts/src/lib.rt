@@ -9,4 +9,6 @@ mod work;
 
 pub use law::replayed_runs_are_legal;
 pub use part::{Part, working_parts};
+pub use tm_deal as deal;
+pub use tm_deal::seat;
 pub use work::{Trees, Work};

@@ -1,15 +1,15 @@
 //! What a worker does with its hand.
 use std::alloc::Global;
 use std::sync::Wait;
+use tm_deal::seat::{PlayedTree, Seat, TreeToPlay, play_trees};
 use tm_list::{NoMemory, Seq};
-use tm_seat::{PlayedTree, Seat, TreeToPlay, play_trees};
 
 /// A way of working: what each worker does with its hand, from a seat of its own, and what it gives
 /// back.
 pub trait Work<H, D> {
     ghost use Rattle.std.specs.Prelude.{◌≡◌, ◌≤◌, ℕ, [], length, IfOk};
     ghost use Rattle.tm_types.specs.declared.step.Start.{Start};
-    ghost use Rattle.tm_seat.specs.Seats.{FitsFrom, Begins};
+    ghost use Rattle.tm_deal.specs.Seats.{FitsFrom, Begins};
     ghost use Rattle.tm_parts.specs.Parts.{CanBegin, Deed, deed};
 
     // what a hand needs of the opening
@@ -47,7 +47,7 @@ pub struct Trees;
 
 impl Work<Seq<TreeToPlay>, PlayedTree> for Trees {
     ghost use Rattle.std.specs.List.{AllByRecursion};
-    ghost use Rattle.tm_seat.specs.Rows.{IsReady};
+    ghost use Rattle.tm_deal.specs.Rows.{IsReady};
     ghost use Rattle.tm_parts.specs.Parts.{WorkerDid};
 
     ghost ready = { λ _ start trees. AllByRecursion (IsReady start) trees };

@@ -9,7 +9,7 @@ use Rattle.tm_types.specs.declared.policy.Policy.{Policy}
 use Rattle.tm_types.specs.declared.step.FileKind.{FileKind}
 use Rattle.tm_types.specs.declared.step.LoadFault.{LoadFault}
 use Rattle.tm_rules.specs.Load.{load_lines}
-use Rattle.tm_grammar.specs.Tomoyo.{tomoyo_grammar}
+use Rattle.tm_rep.specs.Tomoyo.{tomoyo_grammar}
 use Rattle.tm_policy.specs.Loading.{load_cause}
 
 -- the whole gives what the last line gives

@@ -10,9 +10,9 @@ ghost use Rattle.tm_policy.specs.Searching.{asked_as, asked_request, granted_by,
 
 use std::marker::Model;
 use tm_change_domains::has_permission;
-use tm_cond::holds;
-use tm_file::{file_args_match, path_args_match};
-use tm_net::net_args_match;
+use tm_rep::cond::holds;
+use tm_rep::file::{file_args_match, path_args_match};
+use tm_rep::net::net_args_match;
 use tm_types::entry::{Args, Entry};
 use tm_types::request::{Proc, Request};
 use tm_types::unions::{Groups, NamePlace};

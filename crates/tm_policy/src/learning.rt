@@ -5,7 +5,7 @@ ghost use Rattle.tm_rules.specs.Changes.{learn, make};
 
 use std::alloc::Global;
 use tm_change_domains::{domain_at, learn_known, live_domain, make_known};
-use tm_change_entries::{entry_place, has_line};
+use tm_change_namespaces::change_entries::{entry_place, has_line};
 use tm_learn::count;
 use tm_list::NoMemory;
 use tm_types::entry::Entry;

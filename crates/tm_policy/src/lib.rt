@@ -27,4 +27,6 @@ pub use plain::Plain;
 pub use scan::{ListSearch, Scan};
 pub use searching::{search, search_domain, search_in};
 pub use tm_change_domains::{apply_fail, is_manager};
-pub use tm_entry::{print_entry, read_entry};
+pub use tm_rep as rep;
+pub use tm_rep::entry::{print_entry, read_entry};
+pub use tm_rep::policy_line;

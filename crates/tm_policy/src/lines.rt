@@ -3,7 +3,7 @@ ghost use Rattle.std.specs.Prelude.{◌≡◌, IfOk, OnErr};
 ghost use Rattle.tm_types.specs.declared.policy.PolicyLine.{PolicyLine};
 ghost use Rattle.tm_rules.specs.Few.{IsFew};
 ghost use Rattle.tm_rules.specs.Edit.{apply_read, apply_line};
-ghost use Rattle.tm_grammar.specs.Tomoyo.{tomoyo_grammar};
+ghost use Rattle.tm_rep.specs.Tomoyo.{tomoyo_grammar};
 
 use crate::exceptions::apply_exception;
 use crate::groups::apply_group;
@@ -11,7 +11,7 @@ use std::alloc::{AllocError, Global};
 use tm_change_domains::{apply_domain, apply_manager};
 use tm_change_namespaces::apply_profile;
 use tm_list::NoMemory;
-use tm_policy_line::read_line;
+use tm_rep::policy_line::read_line;
 use tm_types::policy::{Cursor, Policy, PolicyLine, ProfileLine};
 use tm_types::step::{EditReply, FileKind, LineFault};
 

@@ -5,7 +5,7 @@ ghost use Rattle.tm_word.specs.Words.{Text};
 ghost use Rattle.tm_word.specs.Gives.{Gives, GivesNow, Fails};
 ghost use Rattle.tm_rules.specs.Few.{IsShort, IsFew};
 ghost use Rattle.tm_rules.specs.Load.{is_done, load_lines, load_file, wants_profile, open_policy, load};
-ghost use Rattle.tm_grammar.specs.Tomoyo.{tomoyo_grammar};
+ghost use Rattle.tm_rep.specs.Tomoyo.{tomoyo_grammar};
 ghost use Rattle.tm_policy.specs.Loading.{load_cause, all_lines};
 
 use crate::opening::PolicyCalls;

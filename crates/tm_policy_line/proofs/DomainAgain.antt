@@ -14,16 +14,16 @@ use Rattle.tm_rules.specs.Words.{DomainName}
 use Rattle.tm_word.specs.Texts.{texts_equal}
 use Rattle.tm_rules.specs.Policy.{kernel}
 use Rattle.tm_rules.specs.Transition.{is_domain_name}
-use Rattle.tm_domain.specs.Names.{is_path}
+use Rattle.tm_line.specs.Names.{is_path}
 use Rattle.tm_word.specs.Gives.{◌>>=◌}
 use Rattle.tm_line.specs.Domains.{domain_to_end}
 use Rattle.tm_line.specs.DomainWords.{domain_parts}
 use Rattle.tm_line.proofs.Steps.{both, not_true}
 use Rattle.tm_line.proofs.DomainLaws.{parts_begin, to_end_again}
 use Rattle.tm_line.proofs.NumberArgLaws.{plain_again}
-use Rattle.tm_file.specs.FileLines.{file_words}
-use Rattle.tm_net.specs.NetLines.{net_words}
-use Rattle.tm_cond.specs.Reading.{cond_words}
+use Rattle.tm_entry.specs.FileLines.{file_words}
+use Rattle.tm_entry.specs.NetLines.{net_words}
+use Rattle.tm_entry.specs.Reading.{cond_words}
 use Rattle.tm_entry.specs.Entries.{entry_of, acl_words, entry_words, is_entry}
 use Rattle.tm_entry.proofs.EntryLaws.{entry_again}
 use Rattle.tm_policy_line.specs.Reading.{begins_setting, begins_domain, setting_rule, delete_domain, delete_rule, domain_rule, read_words}

@@ -3,12 +3,12 @@ use Rattle.std.proofs.Common.{◌≡◌, true, false, [], None, Ok, Err, refl}
 use Rattle.std.specs.Prelude.{codes}
 use Rattle.tm_word.specs.Spelling.{words_of, spelled_word, word_of}
 use Rattle.tm_word.specs.Spelling.{head_of as byte_head}
-use Rattle.tm_number.specs.Numbers.{number_of, value_of, range_of, plain_of}
-use Rattle.tm_addr.specs.Reading.{quad_of, v4_of, group_of, last_of, groups_after, side_of, v6_of, addr_of}
-use Rattle.tm_addr.specs.Reading.{range_of as addr_range_of}
-use Rattle.tm_pattern.specs.Tokens.{token_at}
-use Rattle.tm_pattern.specs.Reading.{step, ended, parsed, pattern_of}
-use Rattle.tm_domain.specs.Names.{is_path, domain_of}
+use Rattle.tm_types.specs.Numbers.{number_of, value_of, range_of, plain_of}
+use Rattle.tm_line.specs.AddrReading.{quad_of, v4_of, group_of, last_of, groups_after, side_of, v6_of, addr_of}
+use Rattle.tm_line.specs.AddrReading.{range_of as addr_range_of}
+use Rattle.tm_except.specs.Tokens.{token_at}
+use Rattle.tm_except.specs.PatternReading.{step, ended, parsed, pattern_of}
+use Rattle.tm_line.specs.Names.{is_path, domain_of}
 use Rattle.tm_types.specs.declared.entry.Args.{Args}
 use Rattle.tm_types.specs.declared.entry.Entry.{Entry}
 use Rattle.tm_types.specs.declared.entry.LineKind.{LineKind}
@@ -24,11 +24,11 @@ use Rattle.tm_line.specs.Permissions.{perms_of}
 use Rattle.tm_line.specs.Arguments.{group_word, pattern_word, path_word, range_word, addr_range_word, name_word, number_word, address_word, plain_word, name_at, number_at, address_at}
 use Rattle.tm_line.specs.Domains.{domain_words, domain_at, domain_to_end}
 use Rattle.tm_line.specs.Namespaces.{namespace_of, namespace_at}
-use Rattle.tm_file.specs.FileLines.{row_of, starts_any, args_at, mount_at, row_line, perms_line, file_line}
-use Rattle.tm_file.specs.Preferences.{prefer_at, path_at}
-use Rattle.tm_net.specs.NetLines.{perms_at, inet_line, unix_line, network_line, env_word, misc_line, task_line, net_line}
-use Rattle.tm_cond.specs.Attributes.{without_last, id_word, field_word, parent_word, numeric_word, other_word, argv_word, envp_word, attr_word}
-use Rattle.tm_cond.specs.Reading.{quoted_name, name_or_group, right_word, sides, clause_word, log_word, cond_from, cond_of}
+use Rattle.tm_entry.specs.FileLines.{row_of, starts_any, args_at, mount_at, row_line, perms_line, file_line}
+use Rattle.tm_entry.specs.Preferences.{prefer_at, path_at}
+use Rattle.tm_entry.specs.NetLines.{perms_at, inet_line, unix_line, network_line, env_word, misc_line, task_line, net_line}
+use Rattle.tm_entry.specs.Attributes.{without_last, id_word, field_word, parent_word, numeric_word, other_word, argv_word, envp_word, attr_word}
+use Rattle.tm_entry.specs.Reading.{quoted_name, name_or_group, right_word, sides, clause_word, log_word, cond_from, cond_of}
 use Rattle.tm_entry.specs.Entries.{acl_line, entry_of}
 use Rattle.tm_except.specs.Reading.{member_word, first_word, literal_word, path_group, number_group, address_group, aggregator, acl_group, program_word, domain_side, from_side, program_line, keep_line, control_word, head_of, begins_list, begins_control, begins_rule, rule_at, line, named_line}
 use Rattle.tm_except.specs.Reading.{line_of as except_of}

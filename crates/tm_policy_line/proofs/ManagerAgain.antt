@@ -11,7 +11,7 @@ use Rattle.tm_types.specs.declared.policy.ManagerRule.{ManagerRule}
 use Rattle.tm_types.specs.declared.policy.PolicyLine.{PolicyLine}
 use Rattle.tm_types.specs.declared.step.FileKind.{FileKind}
 use Rattle.tm_rules.specs.Transition.{is_domain_name}
-use Rattle.tm_domain.specs.Names.{is_path}
+use Rattle.tm_line.specs.Names.{is_path}
 use Rattle.tm_line.specs.Domains.{domain_to_end}
 use Rattle.tm_line.specs.DomainWords.{domain_parts}
 use Rattle.tm_word.specs.Texts.{begins_with_byte, is_solid, is_word}

@@ -11,7 +11,7 @@ use Rattle.tm_types.specs.declared.policy.GroupLine.{GroupLine}
 use Rattle.tm_word.specs.Texts.{texts_equal, is_word}
 use Rattle.tm_rules.specs.Policy.{kernel}
 use Rattle.tm_rules.specs.Transition.{is_domain_name}
-use Rattle.tm_domain.specs.Names.{is_path}
+use Rattle.tm_line.specs.Names.{is_path}
 use Rattle.tm_line.proofs.Steps.{both}
 use Rattle.tm_line.proofs.WholeLaws.{parts_are}
 use Rattle.tm_entry.specs.Entries.{entry_words, is_entry}

@@ -18,7 +18,7 @@ use Rattle.tm_rules.specs.Words.{DomainName}
 use Rattle.tm_word.specs.Texts.{texts_equal, begins_with_byte, is_word}
 use Rattle.tm_rules.specs.Policy.{kernel}
 use Rattle.tm_rules.specs.Transition.{is_domain_name}
-use Rattle.tm_domain.specs.Names.{is_path}
+use Rattle.tm_line.specs.Names.{is_path}
 use Rattle.tm_line.specs.Lines.{is_last, ended, or_kind, option_at, word_at}
 use Rattle.tm_line.specs.Arguments.{plain_word}
 use Rattle.tm_line.specs.Domains.{domain_to_end}

@@ -16,7 +16,7 @@ use Rattle.tm_line.proofs.WholeLaws.{words_again}
 use Rattle.tm_line.specs.Namespaces.{line_text as named_text}
 use Rattle.tm_entry.specs.Entries.{entry_words}
 use Rattle.tm_entry.proofs.TextLaws.{acl_first}
-use Rattle.tm_cond.specs.Reading.{cond_words}
+use Rattle.tm_entry.specs.Reading.{cond_words}
 use Rattle.tm_except.specs.Printing.{rule_words, line_words}
 use Rattle.tm_policy_line.specs.Reading.{read_words, read_line}
 use Rattle.tm_policy_line.specs.Printing.{printed_line, group_line_words, acl_group_words}

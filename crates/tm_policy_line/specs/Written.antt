@@ -9,7 +9,7 @@ use Rattle.tm_types.specs.declared.policy.PolicyLine.{PolicyLine}
 use Rattle.tm_word.specs.Texts.{texts_equal, begins_with_byte}
 use Rattle.tm_rules.specs.Policy.{kernel}
 use Rattle.tm_rules.specs.Transition.{is_domain_name}
-use Rattle.tm_domain.specs.Names.{is_path}
+use Rattle.tm_line.specs.Names.{is_path}
 use Rattle.tm_entry.specs.Entries.{is_entry}
 use Rattle.tm_except.specs.Written.{is_rule, is_listed}
 use Rattle.tm_profile.specs.Texts.{IsEffect, IsNamespaceWord}

@@ -15,7 +15,7 @@ ghost use Rattle.tm_types.specs.declared.step.FileKind.{FileKind};
 ghost use Rattle.tm_rules.specs.Words.{DomainName};
 ghost use Rattle.tm_word.specs.Texts.{is_word};
 ghost use Rattle.tm_rules.specs.Transition.{is_domain_name};
-ghost use Rattle.tm_domain.specs.Names.{is_path};
+ghost use Rattle.tm_line.specs.Names.{is_path};
 ghost use Rattle.tm_line.specs.DomainWords.{domain_parts};
 ghost use Rattle.tm_line.specs.Namespaces.{IsNamespace};
 ghost use Rattle.tm_entry.specs.Entries.{entry_words, is_entry};

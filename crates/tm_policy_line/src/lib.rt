@@ -13,3 +13,6 @@ pub use printing::{
     print_name_line, print_non_root_line, print_profile_line, print_quota_line,
 };
 pub use reading::read_line;
+pub use tm_entry as entry;
+pub use tm_entry::{cond, file as files, net};
+pub use tm_except as except;

@@ -3,9 +3,9 @@ use Rattle.std.proofs.Common.{◌≡◌, false, [], Some, None, Ok, Err, refl}
 use Rattle.std.specs.Prelude.{codes}
 use Rattle.tm_word.specs.Spelling.{words_of}
 use Rattle.tm_number.specs.Numbers.{number_of, value_of, plain_of}
-use Rattle.tm_pattern.specs.Tokens.{token_at}
-use Rattle.tm_pattern.specs.Reading.{step, ended, parsed, pattern_of}
-use Rattle.tm_domain.specs.Names.{is_path, domain_of}
+use Rattle.tm_line.specs.Tokens.{token_at}
+use Rattle.tm_line.specs.Reading.{step, ended, parsed, pattern_of}
+use Rattle.tm_line.specs.Names.{is_path, domain_of}
 use Rattle.tm_types.specs.declared.entry.LineKind.{LineKind}
 use Rattle.tm_types.specs.declared.policy.Mode.{Mode}
 use Rattle.tm_types.specs.declared.policy.Function.{Function}

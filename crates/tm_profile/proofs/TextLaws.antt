@@ -16,7 +16,7 @@ use Rattle.tm_types.specs.declared.policy.ProfileEffect.{ProfileEffect}
 use Rattle.tm_rules.specs.Edit.{profile_line}
 use Rattle.tm_word.specs.Texts.{lines_of, is_solid, is_word}
 use Rattle.tm_rules.proofs.EqualityLaws.{both}
-use Rattle.tm_domain.proofs.NameLaws.{texts_same}
+use Rattle.tm_line.proofs.NameLaws.{texts_same}
 use Rattle.tm_line.specs.Lines.{spaced}
 use Rattle.tm_line.proofs.JoinLaws.{joined_is}
 use Rattle.tm_profile.specs.Slots.{slot_text}

@@ -16,7 +16,7 @@ use Rattle.tm_word.specs.Words.{Text}
 use Rattle.tm_word.specs.Spelling.{is_separator}
 use Rattle.tm_number.specs.Numbers.{plain_of}
 use Rattle.tm_number.proofs.NumberLaws.{plain_again}
-use Rattle.tm_addr.proofs.Free.{Free, free_digits, place_at}
+use Rattle.tm_line.proofs.Free.{Free, free_digits, place_at}
 use Rattle.tm_types.specs.declared.entry.LineKind.{LineKind}
 use Rattle.tm_types.specs.declared.policy.Mode.{Mode}
 use Rattle.tm_types.specs.declared.policy.Function.{Function}

@@ -1,1 +1,2 @@
 pub mod Executes
+pub use Rattle.tm_grammar.proofs.IsOne

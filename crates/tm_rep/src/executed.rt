@@ -3,7 +3,7 @@ ghost use Rattle.std.specs.Prelude.{◌≡◌, true};
 ghost use Rattle.tm_rules.specs.Condition.{is_execute};
 ghost use Rattle.tm_rules.specs.Search.{aggregated, path_of};
 
-use tm_except::aggregated;
+use tm_grammar::except::aggregated;
 use tm_types::policy::Namespace;
 use tm_types::request::Request;
 use tm_word::Word;

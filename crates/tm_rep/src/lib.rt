@@ -8,3 +8,6 @@ mod rep;
 
 pub use executed::executed_name;
 pub use rep::Rep;
+pub use tm_change_domains as change_domains;
+pub use tm_change_domains::profile;
+pub use tm_grammar::{cond, entry, except, file, net, policy_line};

@@ -4,7 +4,7 @@ use Rattle.std.specs.Prelude.{Some}
 use Rattle.std.proofs.lemmas.List.{map-append}
 use Rattle.tm_types.specs.declared.step.Made.{Made}
 use Rattle.tm_types.specs.declared.step.Reply.{Reply}
-use Rattle.tm_grammar.specs.Tomoyo.{tomoyo_grammar}
+use Rattle.tm_machine.specs.Tomoyo.{tomoyo_grammar}
 use Rattle.tm_legal.specs.Steps.{Applied, opening, apply, after}
 use Rattle.tm_legal.specs.Run.{History}
 use Rattle.tm_legal.specs.Legal.{Replies}

@@ -5,3 +5,4 @@ mod Given
 mod Ending
 mod Playing
 mod Whole
+pub use Rattle.tm_machine.proofs.Offices

@@ -11,8 +11,8 @@ use Rattle.tm_types.specs.declared.request.Request.{Request}
 use Rattle.tm_types.specs.declared.step.Made.{Made}
 use Rattle.tm_types.specs.declared.step.Reply.{Reply}
 use Rattle.tm_types.specs.declared.step.Start.{Start}
-use Rattle.tm_grammar.specs.Tomoyo.{tomoyo_grammar}
-use Rattle.tm_grammar.proofs.IsOne.{is_one}
+use Rattle.tm_machine.specs.Tomoyo.{tomoyo_grammar}
+use Rattle.tm_machine.proofs.IsOne.{is_one}
 use Rattle.tm_legal.specs.Steps.{State, opening, apply, after}
 use Rattle.tm_legal.specs.Run.{Situation}
 use Rattle.tm_legal.specs.Legal.{Scene, Replies}

@@ -14,7 +14,7 @@ use Rattle.tm_types.specs.declared.step.Start.{Start}
 use Rattle.tm_types.specs.declared.step.Step.{Step}
 use Rattle.tm_rules.specs.Queries.{numbered, first_query}
 use Rattle.tm_rules.specs.Words.{Trace}
-use Rattle.tm_grammar.specs.Tomoyo.{tomoyo_grammar}
+use Rattle.tm_machine.specs.Tomoyo.{tomoyo_grammar}
 use Rattle.tm_legal.specs.Legal.{Scene, RisesFrom}
 use Rattle.tm_legal.specs.Play.{all_ended}
 use Rattle.tm_legal.specs.Steps.{State, opening, after}

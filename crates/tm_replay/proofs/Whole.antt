@@ -10,8 +10,8 @@ use Rattle.tm_types.specs.declared.step.Run.{Run}
 use Rattle.tm_types.specs.declared.step.Start.{Start}
 use Rattle.tm_types.specs.declared.step.Take.{Take}
 use Rattle.tm_rules.specs.Words.{Trace}
-use Rattle.tm_trace.specs.Written.{IsTrace}
-use Rattle.tm_grammar.specs.Tomoyo.{tomoyo_grammar}
+use Rattle.tm_machine.specs.Written.{IsTrace}
+use Rattle.tm_machine.specs.Tomoyo.{tomoyo_grammar}
 use Rattle.tm_legal.specs.Steps.{State, opening, after}
 use Rattle.tm_legal.specs.Run.{steps_of}
 use Rattle.tm_legal.specs.Legal.{Legal, Replies, NoLookBeforeAttach, opening_of, final_policy}
@@ -32,7 +32,7 @@ use Rattle.tm_seat.specs.declared.tree.PlayedTree.{PlayedTree}
 use Rattle.tm_seat.specs.declared.tree.TreeToPlay.{TreeToPlay}
 use Rattle.tm_seat.specs.Seats.{FitsFrom}
 use Rattle.tm_seat.specs.Rows.{row_of}
-use Rattle.tm_deal.specs.Dealing.{hand_of}
+use Rattle.tm_parts.specs.Dealing.{hand_of}
 use Rattle.tm_parts.specs.declared.part.Part.{Part}
 use Rattle.tm_parts.specs.Parts.{coming, trees_from, editor_parts, working_parts, desk_parts, CanBegin, IsWorking, PartWaits, PartIsDone, EachPart, Deed, PlayedTogether}
 use Rattle.tm_parts.specs.Replayed.{scene_of, AreDealt, Replayed, run_of, ReplayedRunsAreLegal}

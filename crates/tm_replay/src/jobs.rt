@@ -21,10 +21,10 @@ use tm_engine::engine::Engine;
 use tm_engine::gate::Gate;
 use tm_list::{NoMemory, Seq};
 use tm_machine::Machine;
+use tm_machine::rep::Rep;
 use tm_parts::{Part, Work};
 use tm_publish::front::{Front, Named};
 use tm_publish::pass::Pass;
-use tm_rep::Rep;
 use tm_serve::begin;
 use tm_types::step::Query;
 

@@ -14,3 +14,8 @@ mod run;
 pub use at::At;
 pub use lone::Lone;
 pub use run::{play_parts, replay_all, replay_run, takes_of};
+pub use tm_core::take;
+pub use tm_machine as machine;
+pub use tm_machine::rep;
+pub use tm_parts as parts;
+pub use tm_seat as seat;

@@ -5,7 +5,7 @@ use crate::looks::{is_there, judge_at, shown};
 use std::alloc::{AllocError, Global};
 use tm_list::NoMemory;
 use tm_machine::Machine;
-use tm_rep::Rep;
+use tm_machine::rep::Rep;
 use tm_seat::{Seat, Shown};
 use tm_types::request::{Proc, Request};
 use tm_types::step::{Answered, Made, Reply, Settled};

@@ -3,7 +3,7 @@ ghost use Rattle.std.specs.Prelude.{◌≡◌, List, Some, true, IfOk, IfSome, I
 ghost use Rattle.tm_types.specs.declared.step.Made.{Made};
 ghost use Rattle.tm_types.specs.declared.step.Start.{Start};
 ghost use Rattle.tm_rules.specs.Requests.{is_request};
-ghost use Rattle.tm_grammar.specs.Tomoyo.{tomoyo_grammar};
+ghost use Rattle.tm_machine.specs.Tomoyo.{tomoyo_grammar};
 ghost use Rattle.tm_legal.specs.Play.{IsNamed, IsOpened};
 ghost use Rattle.tm_legal.specs.Stages.{DomainIn};
 ghost use Rattle.tm_made.specs.Made.{EachFits};
@@ -21,10 +21,10 @@ use tm_core::{Judged, judge};
 use tm_engine::engine::EngineOf;
 use tm_list::NoMemory;
 use tm_machine::Machine;
+use tm_machine::rep::Rep;
 use tm_publish::front::Named;
 use tm_publish::page::Sheet;
 use tm_publish::pass::Pass;
-use tm_rep::Rep;
 use tm_seat::Shown;
 use tm_types::request::{Proc, Request};
 

@@ -1,7 +1,7 @@
 //! Steps of a pass at an engine on a machine, and the answers that it hears.
 ghost use Rattle.std.specs.Prelude.{◌≡◌, ◌++◌, ◌∷◌, [], Some, IfOk, OnErr, IsSome, length};
 ghost use Rattle.tm_rules.specs.Queries.{answer_of};
-ghost use Rattle.tm_grammar.specs.Tomoyo.{tomoyo_grammar};
+ghost use Rattle.tm_machine.specs.Tomoyo.{tomoyo_grammar};
 ghost use Rattle.tm_legal.specs.Steps.{apply};
 ghost use Rattle.tm_publish.specs.Words.{home, known, made_of};
 ghost use Rattle.tm_seat.specs.Seats.{state_of, FitsFrom, Begins, IsMade};
@@ -12,10 +12,10 @@ use std::sync::Wait;
 use tm_engine::engine::EngineOf;
 use tm_list::NoMemory;
 use tm_machine::Machine;
+use tm_machine::rep::Rep;
 use tm_publish::front::Named;
 use tm_publish::page::Sheet;
 use tm_publish::pass::Pass;
-use tm_rep::Rep;
 use tm_types::step::{Answered, Made, Reply, Settled};
 
 /// Makes a step that fits, after whatever others have made, and gives its number and its reply.

@@ -4,15 +4,15 @@ use Rattle.std.specs.Prelude.{Option, Some, None, IsTrue, ◌↔◌}
 use Rattle.std.specs.List.{slice_index_or}
 use Rattle.std.specs.Bool.{beq}
 use Rattle.std.proofs.lemmas.Bool.{eqb-true}
-use Rattle.tm_word.specs.Words.{Text, Part}
-use Rattle.tm_word.specs.declared.Element.{Element}
-use Rattle.tm_word.specs.declared.Repeat.{Repeat}
-use Rattle.tm_word.specs.declared.Component.{Component}
-use Rattle.tm_number.specs.declared.Base.{Base}
-use Rattle.tm_number.specs.declared.Number.{Number}
-use Rattle.tm_number.specs.declared.Range.{Range}
-use Rattle.tm_number.specs.declared.Addr.{Addr}
-use Rattle.tm_number.specs.declared.AddrRange.{AddrRange}
+use Rattle.tm_types.specs.Words.{Text, Part}
+use Rattle.tm_types.specs.Element.{Element}
+use Rattle.tm_types.specs.Repeat.{Repeat}
+use Rattle.tm_types.specs.Component.{Component}
+use Rattle.tm_types.specs.Base.{Base}
+use Rattle.tm_types.specs.Number.{Number}
+use Rattle.tm_types.specs.Range.{Range}
+use Rattle.tm_types.specs.Addr.{Addr}
+use Rattle.tm_types.specs.AddrRange.{AddrRange}
 use Rattle.tm_types.specs.declared.unions.NameUnion.{NameUnion}
 use Rattle.tm_types.specs.declared.unions.NumberUnion.{NumberUnion}
 use Rattle.tm_types.specs.declared.unions.AddrUnion.{AddrUnion}
@@ -30,7 +30,7 @@ use Rattle.tm_types.specs.declared.entry.Clause.{Clause}
 use Rattle.tm_types.specs.declared.entry.Cond.{Cond}
 use Rattle.tm_types.specs.declared.entry.Entry.{Entry}
 use Rattle.tm_rules.specs.Equality.{options_equal, element_place, base_place, inet_place, unix_place, id_place, stat_place, field_place, kind_place, repeat_place, parts_equal, components_equal, patterns_equal, numbers_equal, ranges_equal, addrs_equal, names_equal, number_unions_equal, addr_unions_equal, prefers_equal, args_equal, attrs_equal, rights_equal, clauses_equal, conds_equal}
-use Rattle.tm_word.specs.Texts.{lists_equal, texts_equal}
+use Rattle.tm_types.specs.WordTexts.{lists_equal, texts_equal}
 use Rattle.tm_rules.specs.Policy.{same_line}
 
 -- Tests joined by `&&`

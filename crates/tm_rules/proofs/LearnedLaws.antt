@@ -5,13 +5,13 @@ use Rattle.std.specs.List.{list_any, list_all}
 use Rattle.std.proofs.lemmas.Bool.{and_parts, and_from, eq-eqb, le-leb}
 use Rattle.std.proofs.lemmas.List.Folds.{list_all-append}
 use Rattle.std.proofs.lemmas.Nat.Bits.{bit_at-pow_same}
-use Rattle.tm_word.specs.Words.{Text, Word, Pattern}
-use Rattle.tm_word.specs.Matching.{matches, is_empty}
-use Rattle.tm_word.specs.Printing.{literal, literal_word}
-use Rattle.tm_word.proofs.Literals.{literal-own, literal-name}
-use Rattle.tm_number.specs.declared.Number.{Number}
-use Rattle.tm_number.specs.declared.Addr.{Addr}
-use Rattle.tm_number.specs.Addresses.{addr_le}
+use Rattle.tm_types.specs.Words.{Text, Word, Pattern}
+use Rattle.tm_types.specs.Matching.{matches, is_empty}
+use Rattle.tm_types.specs.Printing.{literal, literal_word}
+use Rattle.tm_types.proofs.WordLiterals.{literal-own, literal-name}
+use Rattle.tm_types.specs.Number.{Number}
+use Rattle.tm_types.specs.Addr.{Addr}
+use Rattle.tm_types.specs.Addresses.{addr_le}
 use Rattle.tm_types.specs.Request.{name_value}
 use Rattle.tm_types.specs.declared.unions.Groups.{Groups}
 use Rattle.tm_types.specs.declared.unions.NameUnion.{NameUnion}
@@ -32,8 +32,8 @@ use Rattle.tm_rules.specs.Policy.{has_permission, permission}
 use Rattle.tm_rules.specs.Search.{number_value, addr_value, aggregated, path_of, args_grant, grants, searched}
 use Rattle.tm_rules.specs.Learned.{is_word, learned_line, line_of}
 use Rattle.tm_rules.specs.Requests.{is_literal, is_written, is_name, is_number, is_addr_value, is_addr, are_literal, has_its_attributes, is_request}
-use Rattle.tm_word.specs.Spelling.{are_bytes}
-use Rattle.tm_word.specs.Texts.{begins_with_byte}
+use Rattle.tm_types.specs.Spelling.{are_bytes}
+use Rattle.tm_types.specs.WordTexts.{begins_with_byte}
 use Rattle.tm_types.specs.Functions.{function_of}
 use Rattle.tm_rules.proofs.EqualityLaws.{same_patterns, same_number, same_addrs, same_texts}
 

@@ -1,7 +1,7 @@
 -- Plain policies, quiet edits and clean runs.
 use Rattle.std.specs.Prelude.{ℕ, Bool, true, false, ◌&&◌, ◌||◌, not, List, [], ◌∷◌, Option, Some, None, if◌then◌else◌, ◌==◌, codes}
 use Rattle.std.specs.List.{list_any, list_all, slice_split}
-use Rattle.tm_word.specs.Words.{Text}
+use Rattle.tm_types.specs.Words.{Text}
 use Rattle.tm_types.specs.declared.entry.Attr.{Attr}
 use Rattle.tm_types.specs.declared.entry.Clause.{Clause}
 use Rattle.tm_types.specs.declared.entry.Args.{Args}
@@ -21,8 +21,8 @@ use Rattle.tm_types.specs.declared.step.Take.{Take}
 use Rattle.tm_types.specs.declared.step.Run.{Run}
 use Rattle.tm_types.specs.declared.policy.DomainRule.{DomainRule}
 use Rattle.tm_types.specs.declared.policy.PolicyLine.{PolicyLine}
-use Rattle.tm_word.specs.Texts.{texts_equal, begins_with_byte}
-use Rattle.tm_word.specs.Spelling.{words_of}
+use Rattle.tm_types.specs.WordTexts.{texts_equal, begins_with_byte}
+use Rattle.tm_types.specs.Spelling.{words_of}
 use Rattle.tm_rules.specs.Policy.{has_permission}
 
 -- Plain

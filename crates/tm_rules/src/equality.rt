@@ -2,12 +2,12 @@
 ghost use Rattle.std.specs.Prelude.{◌≡◌, ◌↔◌, IsTrue};
 ghost use Rattle.tm_types.specs.declared.entry.Entry.{Entry};
 ghost use Rattle.tm_rules.specs.Equality.{args_equal, conds_equal};
-ghost use Rattle.tm_word.specs.Texts.{texts_equal};
+ghost use Rattle.tm_types.specs.WordTexts.{texts_equal};
 ghost use Rattle.tm_rules.specs.Policy.{same_line};
 
-use tm_list::Same;
 use tm_types::entry::{Args, Cond, Entry};
-use tm_word::Text;
+use tm_types::list::Same;
+use tm_types::word::Text;
 
 fn args_equal(left: &Args, right: &Args) -> bool
     ensures { result ≡ args_equal left.now right.now }

@@ -25,8 +25,8 @@ use Rattle.tm_types.specs.declared.step.Run.{Run}
 use Rattle.tm_word.specs.Printing.{spelled_pattern}
 use Rattle.tm_line.specs.Permissions.{perm_on}
 use Rattle.tm_line.specs.Printing.{name_spelling}
-use Rattle.tm_file.specs.FileLines.{file_words}
-use Rattle.tm_cond.specs.Reading.{cond_words}
+use Rattle.tm_entry.specs.FileLines.{file_words}
+use Rattle.tm_entry.specs.Reading.{cond_words}
 use Rattle.tm_entry.specs.Entries.{acl_words, entry_words}
 use Rattle.tm_run.specs.RunText.{run_text}
 

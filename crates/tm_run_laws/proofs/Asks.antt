@@ -22,9 +22,9 @@ use Rattle.tm_types.specs.declared.verdict.Verdict.{Verdict}
 use Rattle.tm_domain.specs.Names.{is_path}
 use Rattle.tm_domain.proofs.NameLaws.{texts_same}
 use Rattle.tm_line.proofs.WholeLaws.{words_again}
-use Rattle.tm_entry.specs.Entries.{entry_words, entry_of, acl_line, is_entry}
-use Rattle.tm_entry.proofs.EntryLaws.{entry_again}
-use Rattle.tm_entry.proofs.EntryText.{entry_are}
+use Rattle.tm_trace.specs.Entries.{entry_words, entry_of, acl_line, is_entry}
+use Rattle.tm_trace.proofs.EntryLaws.{entry_again}
+use Rattle.tm_trace.proofs.EntryText.{entry_are}
 use Rattle.tm_rules.specs.Grammar.{Grammar}
 use Rattle.tm_rules.specs.Requests.{is_request}
 use Rattle.tm_trace.specs.Written.{is_trace_request}

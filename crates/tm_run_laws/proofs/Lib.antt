@@ -6,3 +6,4 @@ pub mod Asks
 pub mod Audits
 pub mod Replied
 pub mod Runs
+pub use Rattle.tm_grammar.proofs.IsOne

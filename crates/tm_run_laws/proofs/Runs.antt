@@ -7,7 +7,7 @@ use Rattle.tm_word.specs.Words.{Text}
 use Rattle.tm_rules.specs.Grammar.{Grammar}
 use Rattle.tm_rules.specs.Transition.{is_domain_name}
 use Rattle.tm_domain.specs.Names.{is_path}
-use Rattle.tm_entry.specs.Entries.{is_entry}
+use Rattle.tm_trace.specs.Entries.{is_entry}
 use Rattle.tm_types.specs.declared.step.FileKind.{FileKind}
 use Rattle.tm_types.specs.declared.step.Editor.{Editor}
 use Rattle.tm_types.specs.declared.step.Step.{Step}

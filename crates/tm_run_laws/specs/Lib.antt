@@ -1,1 +1,2 @@
 pub mod Scenes
+pub use Rattle.tm_grammar.specs.Tomoyo

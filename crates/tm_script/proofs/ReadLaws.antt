@@ -25,7 +25,7 @@ use Rattle.tm_word.specs.Texts.{texts_equal, begins_with_byte, lines_of, is_word
 use Rattle.tm_rules.specs.Requests.{is_path_word}
 use Rattle.tm_rules.specs.Transition.{is_domain_name}
 use Rattle.tm_rules.specs.Words.{DomainName}
-use Rattle.tm_domain.specs.Names.{is_path}
+use Rattle.tm_line.specs.Names.{is_path}
 use Rattle.tm_line.specs.Domains.{domain_words}
 use Rattle.tm_line.specs.Lines.{is_last}
 use Rattle.tm_line.proofs.Steps.{both, all}

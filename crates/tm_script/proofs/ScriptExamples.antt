@@ -10,7 +10,7 @@ use Rattle.tm_word.specs.declared.Repeat.{Repeat}
 use Rattle.tm_number.specs.Numbers.{number_of, value_of, plain_of}
 use Rattle.tm_pattern.specs.Tokens.{token_at}
 use Rattle.tm_pattern.specs.Reading.{step, ended, parsed, pattern_of}
-use Rattle.tm_domain.specs.Names.{is_path, domain_of}
+use Rattle.tm_line.specs.Names.{is_path, domain_of}
 use Rattle.tm_types.specs.declared.request.ScriptKind.{ScriptKind}
 use Rattle.tm_types.specs.declared.step.Answer.{Answer}
 use Rattle.tm_types.specs.declared.step.Book.{Book}

@@ -16,7 +16,7 @@ use Rattle.tm_rules.specs.Book.{code_of}
 use Rattle.tm_word.specs.Texts.{texts_equal, lines_of}
 use Rattle.tm_rules.specs.Requests.{is_path_word}
 use Rattle.tm_rules.specs.Transition.{is_domain_name}
-use Rattle.tm_domain.specs.Names.{is_path}
+use Rattle.tm_line.specs.Names.{is_path}
 use Rattle.tm_types.specs.declared.request.ScriptKind.{ScriptKind}
 use Rattle.tm_script.specs.Lines.{FirstWrong}
 use Rattle.tm_script.specs.Edits.{no_edits, edits_line, edits_of}

@@ -12,7 +12,7 @@ use Rattle.tm_types.specs.declared.step.Reply.{Reply}
 use Rattle.tm_types.specs.declared.step.Start.{Start}
 use Rattle.tm_types.specs.declared.step.Step.{Step}
 use Rattle.tm_rules.specs.Changes.{is_manager}
-use Rattle.tm_grammar.specs.Tomoyo.{tomoyo_grammar}
+use Rattle.tm_take.specs.Tomoyo.{tomoyo_grammar}
 use Rattle.tm_legal.specs.Steps.{State, Applied, apply, opening, edit_step, unfit}
 use Rattle.tm_made.specs.Made.{steps_made}
 use Rattle.tm_made.proofs.Fits.{steps-last}

@@ -4,3 +4,4 @@ mod TakeEvents
 mod TreeEvents
 mod EditEvents
 pub mod WorkerEvents
+pub use Rattle.tm_joint.proofs.Gathering

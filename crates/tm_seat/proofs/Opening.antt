@@ -14,8 +14,8 @@ use Rattle.tm_types.specs.declared.step.Made.{Made}
 use Rattle.tm_types.specs.declared.step.Reply.{Reply}
 use Rattle.tm_types.specs.declared.step.Start.{Start}
 use Rattle.tm_types.specs.declared.step.Step.{Step}
-use Rattle.tm_grammar.specs.Tomoyo.{tomoyo_grammar}
-use Rattle.tm_grammar.proofs.IsOne.{is_one}
+use Rattle.tm_take.specs.Tomoyo.{tomoyo_grammar}
+use Rattle.tm_take.proofs.IsOne.{is_one}
 use Rattle.tm_legal.specs.Steps.{State, apply, after, opening}
 use Rattle.tm_legal.specs.Run.{Situation}
 use Rattle.tm_legal.specs.Legal.{Replies, opening_of}

@@ -18,7 +18,7 @@ use Rattle.tm_types.specs.declared.step.Maker.{Maker}
 use Rattle.tm_types.specs.declared.step.Reply.{Reply}
 use Rattle.tm_types.specs.declared.step.Start.{Start}
 use Rattle.tm_types.specs.declared.step.Step.{Step}
-use Rattle.tm_grammar.specs.Tomoyo.{tomoyo_grammar}
+use Rattle.tm_take.specs.Tomoyo.{tomoyo_grammar}
 use Rattle.tm_legal.specs.Steps.{State, apply}
 use Rattle.tm_legal.specs.Run.{Situation}
 use Rattle.tm_legal.specs.Legal.{own_numbers}

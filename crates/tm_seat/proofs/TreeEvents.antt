@@ -19,8 +19,8 @@ use Rattle.tm_types.specs.declared.step.Maker.{Maker}
 use Rattle.tm_types.specs.declared.step.Start.{Start}
 use Rattle.tm_types.specs.declared.step.Step.{Step}
 use Rattle.tm_types.specs.declared.step.Take.{Take}
-use Rattle.tm_grammar.specs.Tomoyo.{tomoyo_grammar}
-use Rattle.tm_grammar.proofs.IsOne.{is_one}
+use Rattle.tm_take.specs.Tomoyo.{tomoyo_grammar}
+use Rattle.tm_take.proofs.IsOne.{is_one}
 use Rattle.tm_legal.specs.Steps.{apply, opening}
 use Rattle.tm_legal.specs.Run.{Situation, Situations, with_situation, with_ids, forked, at_start, do_pids}
 use Rattle.tm_legal.specs.Legal.{Scene, own_numbers}

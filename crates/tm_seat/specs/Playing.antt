@@ -13,7 +13,7 @@ use Rattle.tm_types.specs.declared.step.Take.{Take}
 use Rattle.tm_rules.specs.Words.{DomainName, Trace}
 use Rattle.tm_rules.specs.Policy.{live_domain}
 use Rattle.tm_rules.specs.Requests.{item_is_request}
-use Rattle.tm_grammar.specs.Tomoyo.{tomoyo_grammar}
+use Rattle.tm_take.specs.Tomoyo.{tomoyo_grammar}
 use Rattle.tm_legal.specs.Run.{Situation, Situations}
 use Rattle.tm_legal.specs.Legal.{own_numbers}
 use Rattle.tm_legal.specs.Cases.{IsLegalTake}

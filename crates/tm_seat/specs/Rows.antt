@@ -11,7 +11,7 @@ use Rattle.tm_types.specs.declared.step.Step.{Step}
 use Rattle.tm_rules.specs.Words.{DomainName, Trace}
 use Rattle.tm_rules.specs.Policy.{live_domain}
 use Rattle.tm_rules.specs.Requests.{item_is_request}
-use Rattle.tm_grammar.specs.Tomoyo.{tomoyo_grammar}
+use Rattle.tm_take.specs.Tomoyo.{tomoyo_grammar}
 use Rattle.tm_legal.specs.Run.{do_pids}
 use Rattle.tm_joint.specs.Played.{Row, row_own, RowHolds}
 use Rattle.tm_seat.specs.declared.tree.PlayedTree.{PlayedTree}

@@ -12,7 +12,7 @@ use Rattle.tm_types.specs.declared.step.Reply.{Reply}
 use Rattle.tm_types.specs.declared.step.Start.{Start}
 use Rattle.tm_rules.specs.Words.{Trace}
 use Rattle.tm_rules.specs.Audit.{audit_text}
-use Rattle.tm_grammar.specs.Tomoyo.{tomoyo_grammar}
+use Rattle.tm_take.specs.Tomoyo.{tomoyo_grammar}
 use Rattle.tm_legal.specs.Verdict.{verdict}
 use Rattle.tm_legal.specs.Steps.{State, opening, apply}
 use Rattle.tm_legal.specs.Legal.{Scene, Replies}

@@ -22,7 +22,7 @@ pub trait Seat {
     ghost use Rattle.tm_types.specs.declared.step.Made.{Made};
     ghost use Rattle.tm_rules.specs.Queries.{answer_of};
     ghost use Rattle.tm_rules.specs.Requests.{is_request};
-    ghost use Rattle.tm_grammar.specs.Tomoyo.{tomoyo_grammar};
+    ghost use Rattle.tm_take.specs.Tomoyo.{tomoyo_grammar};
     ghost use Rattle.tm_legal.specs.Steps.{apply};
     ghost use Rattle.tm_legal.specs.Play.{IsOpened, IsNamed};
     ghost use Rattle.tm_legal.specs.Stages.{DomainIn};

@@ -4,7 +4,7 @@ ghost use Rattle.tm_rules.specs.Requests.{is_request};
 ghost use Rattle.tm_types.specs.declared.step.Step.{Step};
 ghost use Rattle.tm_types.specs.declared.step.Maker.{Maker};
 ghost use Rattle.tm_types.specs.declared.verdict.Verdict.{Verdict};
-ghost use Rattle.tm_grammar.specs.Tomoyo.{tomoyo_grammar};
+ghost use Rattle.tm_take.specs.Tomoyo.{tomoyo_grammar};
 ghost use Rattle.tm_legal.specs.Legal.{own_numbers};
 ghost use Rattle.tm_legal.specs.Play.{Stage, IsOpened, IsNamed, taken};
 ghost use Rattle.tm_legal.specs.Stages.{DomainIn};

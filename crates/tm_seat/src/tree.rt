@@ -6,7 +6,7 @@ ghost use Rattle.tm_rules.specs.Policy.{live_domain};
 ghost use Rattle.tm_rules.specs.Requests.{item_is_request};
 ghost use Rattle.tm_types.specs.declared.request.Item.{Item};
 ghost use Rattle.tm_types.specs.declared.step.Take.{Take};
-ghost use Rattle.tm_grammar.specs.Tomoyo.{tomoyo_grammar};
+ghost use Rattle.tm_take.specs.Tomoyo.{tomoyo_grammar};
 ghost use Rattle.tm_legal.specs.Legal.{own_numbers};
 ghost use Rattle.tm_legal.specs.Cases.{TreePlayed};
 ghost use Rattle.tm_legal.specs.Play.{IsOpened, IsNamed};

@@ -2,7 +2,7 @@
 ghost use Rattle.std.specs.Prelude.{◌≡◌, ◌++◌, ℕ, List, length, IfOk, OnOk};
 ghost use Rattle.std.specs.List.{AllByRecursion};
 ghost use Rattle.tm_types.specs.declared.step.Made.{Made};
-ghost use Rattle.tm_grammar.specs.Tomoyo.{tomoyo_grammar};
+ghost use Rattle.tm_take.specs.Tomoyo.{tomoyo_grammar};
 ghost use Rattle.tm_legal.specs.Play.{IsOpened, IsNamed};
 ghost use Rattle.tm_seat.specs.Seats.{FitsFrom, Begins, MadeBy};
 ghost use Rattle.tm_seat.specs.Rows.{IsReady, EachIsPlayed, RowSince, WorksOn, rows_own, makers_all};

@@ -3,11 +3,11 @@ use Rattle.std.proofs.Common.{◌≡◌, ℕ, true, List, [], ◌++◌, ap, ◌�
 use Rattle.std.specs.Prelude.{Result, Ok, Err, IfOk}
 use Rattle.tm_types.specs.declared.request.Request.{Request}
 use Rattle.tm_rules.specs.Requests.{is_request}
-use Rattle.tm_grammar.specs.Tomoyo.{tomoyo_grammar}
+use Rattle.tm_replay.specs.Tomoyo.{tomoyo_grammar}
 use Rattle.tm_types.specs.declared.step.Made.{Made}
 use Rattle.tm_types.specs.declared.step.Start.{Start}
 use Rattle.tm_rules.specs.Words.{Trace}
-use Rattle.tm_seat.specs.Seats.{Begins}
+use Rattle.tm_replay.specs.SeatSeats.{Begins}
 use Rattle.tm_steal_rows.specs.declared.played.Played.{Played}
 use Rattle.tm_steal_rows.specs.Playing.{IsStealing, StealsOn}
 use Rattle.tm_steal_rows.proofs.Stealing.{stealing-later}

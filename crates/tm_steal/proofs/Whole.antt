@@ -5,19 +5,19 @@ use Rattle.tm_types.specs.declared.step.Run.{Run}
 use Rattle.tm_types.specs.declared.step.Start.{Start}
 use Rattle.tm_types.specs.declared.step.Take.{Take}
 use Rattle.tm_rules.specs.Words.{Trace}
-use Rattle.tm_grammar.specs.Tomoyo.{tomoyo_grammar}
+use Rattle.tm_replay.specs.Tomoyo.{tomoyo_grammar}
 use Rattle.tm_legal.specs.Steps.{State, opening}
 use Rattle.tm_legal.specs.Legal.{Legal, Replies, NoLookBeforeAttach, opening_of}
 use Rattle.tm_legal.specs.Play.{CanPlay}
 use Rattle.tm_made.specs.Made.{history_made, told_from, steps_made}
 use Rattle.tm_made.proofs.Telling.{told-again}
 use Rattle.tm_joint.specs.Joint.{takes_in}
-use Rattle.tm_machine.specs.Machine.{Course, history_of}
-use Rattle.tm_machine.specs.Office.{list_of}
-use Rattle.tm_machine.proofs.Offices.{course-steps}
-use Rattle.tm_seat.specs.declared.tree.PlayedTree.{PlayedTree}
-use Rattle.tm_seat.specs.Rows.{row_of}
-use Rattle.tm_parts.specs.Replayed.{scene_of, run_of}
+use Rattle.tm_replay.specs.Machine.{Course, history_of}
+use Rattle.tm_replay.specs.Office.{list_of}
+use Rattle.tm_replay.proofs.Offices.{course-steps}
+use Rattle.tm_replay.specs.PlayedTree.{PlayedTree}
+use Rattle.tm_replay.specs.Rows.{row_of}
+use Rattle.tm_replay.specs.Replayed.{scene_of, run_of}
 use Rattle.tm_steal_rows.specs.Stolen.{StolenRunsAreLegal}
 use Rattle.tm_steal.specs.declared.board.Hand.{Hand}
 use Rattle.tm_steal.specs.Boards.{AreStolen}

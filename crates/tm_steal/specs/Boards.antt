@@ -7,9 +7,9 @@ use Rattle.tm_types.specs.declared.step.Made.{Made}
 use Rattle.tm_types.specs.declared.step.Start.{Start}
 use Rattle.tm_rules.specs.Words.{Trace}
 use Rattle.tm_rules.specs.Requests.{item_is_request}
-use Rattle.tm_grammar.specs.Tomoyo.{tomoyo_grammar}
-use Rattle.tm_seat.specs.declared.tree.PlayedTree.{PlayedTree}
-use Rattle.tm_seat.specs.Rows.{Shift}
+use Rattle.tm_replay.specs.Tomoyo.{tomoyo_grammar}
+use Rattle.tm_replay.specs.PlayedTree.{PlayedTree}
+use Rattle.tm_replay.specs.Rows.{Shift}
 use Rattle.tm_steal_rows.specs.declared.played.Played.{Played}
 use Rattle.tm_steal_rows.specs.Lines.{places_from}
 use Rattle.tm_steal_rows.specs.Playing.{IsStealing}

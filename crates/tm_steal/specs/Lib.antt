@@ -1,1 +1,2 @@
 pub mod Boards
+pub use Rattle.tm_replay.specs.Machine

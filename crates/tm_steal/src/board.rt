@@ -7,8 +7,8 @@ use crossbeam_deque::{Steal, Stealer, Worker};
 use std::alloc::{AllocError, Global};
 use std::sync::atomic::{AtomicU64, Ordering};
 use tm_list::NoMemory;
+use tm_replay::take::ProcessSituation;
 use tm_steal_rows::{LinePlace, places_of};
-use tm_take::ProcessSituation;
 use tm_types::request::{Ids, Proc, Tree};
 
 /// A process that can be played: its place among all processes, and where it stands at its start.

@@ -9,3 +9,5 @@ mod run;
 mod thief;
 
 pub use run::{steal_all, steal_run};
+pub use tm_replay as replay;
+pub use tm_replay::machine;

@@ -1,14 +1,14 @@
 //! A trace played by threads that share its processes, from its opening to its closing.
 ghost use Rattle.std.specs.Prelude.{◌≡◌, ◌<◌, [], length, IfOk};
 ghost use Rattle.tm_rules.specs.Few.{IsFew};
-ghost use Rattle.tm_trace.specs.Written.{IsTrace};
+ghost use Rattle.tm_replay.specs.Written.{IsTrace};
 ghost use Rattle.tm_legal.specs.Legal.{Legal, NoLookBeforeAttach, final_policy};
 ghost use Rattle.tm_legal.specs.Play.{CanPlay};
 ghost use Rattle.tm_legal.specs.Steps.{opening};
-ghost use Rattle.tm_core.specs.Scenes.{scene_of};
+ghost use Rattle.tm_replay.specs.Scenes.{scene_of};
 ghost use Rattle.tm_desk.specs.Desks.{desk_book, IsDesk};
-ghost use Rattle.tm_machine.specs.Machine.{history_of};
-ghost use Rattle.tm_machine.specs.Office.{list_of};
+ghost use Rattle.tm_replay.specs.Machine.{history_of};
+ghost use Rattle.tm_replay.specs.Office.{list_of};
 ghost use Rattle.tm_steal_rows.specs.Gathering.{homes_of};
 ghost use Rattle.tm_steal.specs.Boards.{AreStolen};
 
@@ -19,10 +19,10 @@ use std::thread::Threads;
 use tm_desk::Desk;
 use tm_engine::gate::Gate;
 use tm_list::NoMemory;
-use tm_machine::Machine;
-use tm_rep::Rep;
+use tm_replay::machine::Machine;
+use tm_replay::rep::Rep;
+use tm_replay::seat::PlayedTree;
 use tm_replay::{play_parts, takes_of};
-use tm_seat::PlayedTree;
 use tm_steal_rows::{gather, stolen_runs_are_legal};
 use tm_types::policy::Policy;
 use tm_types::request::{Trace, Tree};

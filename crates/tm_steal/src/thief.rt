@@ -2,10 +2,10 @@
 ghost use Rattle.std.specs.Prelude.{◌≡◌, true, Some, IfOk, OnOk, slice_get};
 ghost use Rattle.tm_types.specs.declared.step.Start.{Start};
 ghost use Rattle.tm_rules.specs.Requests.{is_request};
-ghost use Rattle.tm_grammar.specs.Tomoyo.{tomoyo_grammar};
+ghost use Rattle.tm_replay.specs.Tomoyo.{tomoyo_grammar};
 ghost use Rattle.tm_steal_rows.specs.Playing.{all_requests};
-ghost use Rattle.tm_seat.specs.Seats.{Begins};
-ghost use Rattle.tm_parts.specs.Parts.{CanBegin};
+ghost use Rattle.tm_replay.specs.SeatSeats.{Begins};
+ghost use Rattle.tm_replay.specs.Parts.{CanBegin};
 ghost use Rattle.tm_steal.specs.Boards.{IsBoard, GoesOn};
 
 use crate::board::{Board, Hand, Job};
@@ -14,12 +14,12 @@ use std::alloc::{AllocError, Global};
 use std::sync::Wait;
 use std::thread;
 use tm_list::{Copied, NoMemory};
-use tm_parts::Work;
-use tm_seat::Seat;
+use tm_replay::parts::Work;
+use tm_replay::seat::Seat;
+use tm_replay::take::ProcessSituation;
 use tm_steal_rows::{
     Played, end_trees, lines_can_be_asked, play_line, request_at, workers_steal_on,
 };
-use tm_take::ProcessSituation;
 use tm_types::request::{Proc, Request};
 
 // The request of a line, copied, since any worker may need it.

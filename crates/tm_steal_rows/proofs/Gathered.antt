@@ -17,9 +17,9 @@ use Rattle.tm_legal.specs.Cases.{IsLegalTake}
 use Rattle.tm_made.specs.Made.{history_made, made_step}
 use Rattle.tm_joint.specs.Played.{RowHolds, EachRow}
 use Rattle.tm_joint.proofs.Rows.{All-right}
-use Rattle.tm_seat.specs.declared.tree.PlayedTree.{PlayedTree}
-use Rattle.tm_seat.specs.Seats.{scene_of}
-use Rattle.tm_seat.specs.Rows.{row_of}
+use Rattle.tm_parts.specs.PlayedTree.{PlayedTree}
+use Rattle.tm_parts.specs.Seats.{scene_of}
+use Rattle.tm_parts.specs.Rows.{row_of}
 use Rattle.tm_steal_rows.specs.declared.played.PlayedTake.{PlayedTake}
 use Rattle.tm_steal_rows.specs.Playing.{requests_in, all_requests, TakeIsPlayed}
 use Rattle.tm_steal_rows.specs.Gathering.{EachStands, TakesRow, RowsAreOf, homes_of}

@@ -18,9 +18,9 @@ use Rattle.tm_joint.specs.Joint.{takes_in}
 use Rattle.tm_joint.specs.Makers.{EachClaims}
 use Rattle.tm_joint.specs.Played.{row_own, RowHolds, EachRow}
 use Rattle.tm_joint.proofs.Rows.{All-flat}
-use Rattle.tm_seat.specs.declared.tree.PlayedTree.{PlayedTree}
-use Rattle.tm_seat.specs.Playing.{LooksSince}
-use Rattle.tm_seat.specs.Rows.{row_of}
+use Rattle.tm_parts.specs.PlayedTree.{PlayedTree}
+use Rattle.tm_parts.specs.Playing.{LooksSince}
+use Rattle.tm_parts.specs.Rows.{row_of}
 use Rattle.tm_parts.specs.Parts.{Deed, EachPart}
 use Rattle.tm_parts.specs.Replayed.{scene_of, run_of}
 use Rattle.tm_parts.proofs.Lists.{All-at, All-of, All-mapped}

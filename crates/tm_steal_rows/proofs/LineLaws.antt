@@ -8,7 +8,7 @@ use Rattle.tm_types.specs.declared.request.Request.{Request}
 use Rattle.tm_types.specs.declared.request.Tree.{Tree}
 use Rattle.tm_rules.specs.Requests.{is_request, item_is_request}
 use Rattle.tm_rules.specs.Words.{Trace}
-use Rattle.tm_grammar.specs.Tomoyo.{tomoyo_grammar}
+use Rattle.tm_verify_notes.specs.Tomoyo.{tomoyo_grammar}
 use Rattle.tm_joint.proofs.Rows.{All-flat}
 use Rattle.tm_parts.proofs.Lists.{All-at}
 use Rattle.tm_steal_rows.specs.Playing.{requests_in, all_requests}

@@ -3,7 +3,7 @@ use Rattle.std.proofs.Common.{◌≡◌, ◌+◌, ℕ, suc, List, [], ◌∷◌,
 use Rattle.std.specs.Prelude.{Option}
 use Rattle.tm_types.specs.declared.request.Tree.{Tree}
 use Rattle.tm_rules.specs.Words.{Trace}
-use Rattle.tm_seat.specs.declared.tree.PlayedTree.{PlayedTree}
+use Rattle.tm_parts.specs.PlayedTree.{PlayedTree}
 use Rattle.tm_steal_rows.specs.declared.played.PlayedTake.{PlayedTake}
 use Rattle.tm_steal_rows.specs.Gathering.{TakesRow, RowsAreOf}
 

@@ -15,7 +15,7 @@ use Rattle.tm_types.specs.declared.step.Start.{Start}
 use Rattle.tm_types.specs.declared.step.Step.{Step}
 use Rattle.tm_types.specs.declared.step.Take.{Take}
 use Rattle.tm_rules.specs.Words.{Trace}
-use Rattle.tm_grammar.specs.Tomoyo.{tomoyo_grammar}
+use Rattle.tm_verify_notes.specs.Tomoyo.{tomoyo_grammar}
 use Rattle.tm_legal.specs.Steps.{apply, opening}
 use Rattle.tm_legal.specs.Run.{History}
 use Rattle.tm_legal.specs.Legal.{own_numbers}
@@ -27,12 +27,12 @@ use Rattle.tm_made.proofs.Telling.{made-append, more_made}
 use Rattle.tm_made.proofs.Fits.{steps-last}
 use Rattle.tm_joint.proofs.Later.{claims-later, claims-push, made_step-later, made_step-last}
 use Rattle.tm_joint.proofs.Rows.{All-left, All-right}
-use Rattle.tm_take.specs.declared.situations.ProcessSituation.{ProcessSituation}
-use Rattle.tm_take.specs.Situations.{situation_of}
-use Rattle.tm_seat.specs.Seats.{scene_of, state_of, Begins, IsMade, MadeBy}
-use Rattle.tm_seat.specs.Playing.{TakeIsLegal, LooksSince}
-use Rattle.tm_seat.specs.Rows.{Shift}
-use Rattle.tm_seat.proofs.Opening.{begins-further}
+use Rattle.tm_verify_notes.specs.ProcessSituation.{ProcessSituation}
+use Rattle.tm_verify_notes.specs.Situations.{situation_of}
+use Rattle.tm_parts.specs.Seats.{scene_of, state_of, Begins, IsMade, MadeBy}
+use Rattle.tm_parts.specs.Playing.{TakeIsLegal, LooksSince}
+use Rattle.tm_parts.specs.Rows.{Shift}
+use Rattle.tm_parts.proofs.Opening.{begins-further}
 use Rattle.tm_parts.specs.Parts.{Deed, deed}
 use Rattle.tm_parts.proofs.Moving.{claimed-later, deed_at}
 use Rattle.tm_steal_rows.specs.declared.played.Played.{Played}

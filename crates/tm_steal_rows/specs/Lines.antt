@@ -6,7 +6,7 @@ use Rattle.tm_types.specs.declared.request.Request.{Request}
 use Rattle.tm_types.specs.declared.request.Tree.{Tree}
 use Rattle.tm_rules.specs.Requests.{is_request, item_is_request}
 use Rattle.tm_rules.specs.Words.{Trace}
-use Rattle.tm_grammar.specs.Tomoyo.{tomoyo_grammar}
+use Rattle.tm_verify_notes.specs.Tomoyo.{tomoyo_grammar}
 use Rattle.tm_steal_rows.specs.declared.lines.LinePlace.{LinePlace}
 use Rattle.tm_steal_rows.specs.Playing.{all_requests}
 

@@ -3,19 +3,19 @@ ghost use Rattle.std.specs.Prelude.{◌≡◌, ◌<◌, ◌≤◌, ◌++◌, ◌
 ghost use Rattle.tm_types.specs.declared.step.Made.{Made};
 ghost use Rattle.tm_rules.specs.Requests.{is_request};
 ghost use Rattle.tm_rules.specs.Words.{Trace};
-ghost use Rattle.tm_grammar.specs.Tomoyo.{tomoyo_grammar};
+ghost use Rattle.tm_verify_notes.specs.Tomoyo.{tomoyo_grammar};
 ghost use Rattle.tm_legal.specs.Play.{IsOpened, IsNamed};
 ghost use Rattle.tm_legal.specs.Stages.{DomainIn};
-ghost use Rattle.tm_seat.specs.Seats.{state_of, FitsFrom, Begins};
+ghost use Rattle.tm_parts.specs.Seats.{state_of, FitsFrom, Begins};
 ghost use Rattle.tm_steal_rows.specs.Playing.{all_requests, StealsOn, ends_from};
 ghost use Rattle.tm_steal_rows.specs.declared.played.Played.{Played};
 
 use std::alloc::Global;
 use tm_list::NoMemory;
-use tm_seat::{Seat, play_take};
-use tm_take::ProcessSituation;
+use tm_parts::seat::{Seat, play_take};
 use tm_types::request::Request;
 use tm_types::step::{Made, Maker, Settled, Step, Take};
+use tm_verify_notes::taking::ProcessSituation;
 
 /// A take that was played: the place of its line among the `do` lines of the trace, from 0, where
 /// its process stood, how many steps were known when it began, and the take.

@@ -11,7 +11,7 @@ use crate::walk::walk_tree;
 use std::alloc::{AllocError, Global};
 use std::collections::VecDeque;
 use tm_list::{NoMemory, Seq};
-use tm_seat::PlayedTree;
+use tm_parts::seat::PlayedTree;
 use tm_types::request::Tree;
 use tm_types::step::Take;
 use tm_verify_notes::{all_do_pids, raised_by_looks};

@@ -3,3 +3,7 @@ pub mod Passing
 pub mod Taking
 pub mod Ways
 pub mod Events
+pub use Rattle.tm_grammar.specs.Entries
+pub use Rattle.tm_grammar.specs.Tomoyo
+pub use Rattle.tm_grammar.specs.Trees
+pub use Rattle.tm_grammar.specs.Written

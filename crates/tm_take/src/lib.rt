@@ -15,4 +15,5 @@ pub use lines::{Lines, pass};
 pub use owing::grants;
 pub use requests::{NextEvent, PendingLook, RequestInProgress, begin};
 pub use situations::{ProcessSituation, ProcessSituations};
+pub use tm_grammar::entry;
 pub use ways::TreeOnWay;

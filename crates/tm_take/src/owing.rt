@@ -2,7 +2,7 @@
 ghost use Rattle.std.specs.Prelude.{◌≡◌, ◌∷◌, [], IfOk, MatchOption, if◌then◌else◌};
 ghost use Rattle.std.specs.Option.{option_to_list};
 ghost use Rattle.tm_word.specs.Matching.{is_empty};
-ghost use Rattle.tm_entry.specs.Entries.{entry_words};
+ghost use Rattle.tm_grammar.specs.Entries.{entry_words};
 ghost use Rattle.tm_word.specs.Spelling.{joined};
 ghost use Rattle.tm_legal.specs.Verdict.{is_granting};
 ghost use Rattle.tm_legal.specs.Legal.{steps_of_line, steps_of_move};
@@ -11,7 +11,7 @@ ghost use Rattle.tm_take.specs.Taking.{owed_steps, asked_of};
 
 use std::alloc::{AllocError, Global};
 use std::marker::Model;
-use tm_entry::print_entry;
+use tm_grammar::entry::print_entry;
 use tm_list::{Copied, NoMemory, Seq};
 use tm_types::entry::Entry;
 use tm_types::step::Step;

@@ -6,7 +6,7 @@ use Rattle.tm_types.specs.declared.entry.Entry.{Entry}
 use Rattle.tm_types.specs.declared.policy.Domain.{Domain}
 use Rattle.tm_types.specs.declared.policy.Policy.{Policy}
 use Rattle.tm_line.specs.DomainWords.{domain_parts}
-use Rattle.tm_entry.specs.Entries.{entry_words}
+use Rattle.tm_policy_line.specs.Entries.{entry_words}
 use Rattle.tm_policy_line.specs.Printing.{printed_line, profile_words, group_words, quota_words, failed_words}
 
 -- a line that stands where its flag is set

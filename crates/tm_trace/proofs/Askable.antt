@@ -9,7 +9,7 @@ use Rattle.tm_word.specs.Words.{Word}
 use Rattle.tm_word.specs.Matching.{is_empty}
 use Rattle.tm_word.specs.Printing.{spelled_pattern}
 use Rattle.tm_word.proofs.Literals.{literal-name}
-use Rattle.tm_pattern.specs.Grammar.{is_right}
+use Rattle.tm_line.specs.Grammar.{is_right}
 use Rattle.tm_types.specs.declared.entry.Args.{Args}
 use Rattle.tm_types.specs.declared.unions.NameUnion.{NameUnion}
 use Rattle.tm_types.specs.declared.request.Attributes.{Attributes}
@@ -21,16 +21,16 @@ use Rattle.tm_word.specs.Spelling.{are_bytes}
 use Rattle.tm_word.specs.Texts.{begins_with_byte, is_word}
 use Rattle.tm_rules.specs.Search.{path_of}
 use Rattle.tm_rules.specs.Transition.{is_domain_name}
-use Rattle.tm_domain.specs.Names.{is_path}
-use Rattle.tm_cond.specs.Written.{is_name_byte}
-use Rattle.tm_cond.proofs.LeftLaws.{name_bytes}
+use Rattle.tm_line.specs.Names.{is_path}
+use Rattle.tm_entry.specs.Written.{is_name_byte}
+use Rattle.tm_entry.proofs.LeftLaws.{name_bytes}
 use Rattle.tm_line.specs.declared.permissions.Row.{Row}
 use Rattle.tm_line.specs.Written as lines
 use Rattle.tm_line.proofs.Steps.{both, all}
-use Rattle.tm_file.specs.FileLines.{is_file}
-use Rattle.tm_file.proofs.FileText.{file_are}
-use Rattle.tm_net.specs.NetLines.{inet_permissions, unix_permissions, is_net, is_env}
-use Rattle.tm_net.proofs.NetText.{net_are}
+use Rattle.tm_entry.specs.FileLines.{is_file}
+use Rattle.tm_entry.proofs.FileText.{file_are}
+use Rattle.tm_entry.specs.NetLines.{inet_permissions, unix_permissions, is_net, is_env}
+use Rattle.tm_entry.proofs.NetText.{net_are}
 use Rattle.tm_entry.specs.Entries.{acl_words}
 use Rattle.tm_trace.specs.Attributes.{request, executes, links, is_complete}
 use Rattle.tm_trace.specs.Written.{rises, names_once, are_names, has_word, is_trace_request}

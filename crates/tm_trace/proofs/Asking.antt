@@ -20,10 +20,10 @@ use Rattle.tm_rules.specs.Requests.{is_path_word, is_name, is_number, is_addr, a
 use Rattle.tm_word.specs.Spelling.{are_bytes}
 use Rattle.tm_word.specs.Texts.{begins_with_byte}
 use Rattle.tm_rules.specs.Transition.{is_domain_name}
-use Rattle.tm_domain.specs.Names.{is_path}
+use Rattle.tm_line.specs.Names.{is_path}
 use Rattle.tm_line.specs.declared.permissions.Row.{Row}
 use Rattle.tm_line.proofs.Steps.{both, all}
-use Rattle.tm_net.specs.NetLines.{inet_permissions, unix_permissions}
+use Rattle.tm_entry.specs.NetLines.{inet_permissions, unix_permissions}
 use Rattle.tm_trace.specs.Attributes.{request, executes, links}
 use Rattle.tm_trace.specs.Written.{rises, names_once, are_names, has_word}
 use Rattle.tm_trace.proofs.Names.{is_at, is_env_name}

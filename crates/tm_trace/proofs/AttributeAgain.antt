@@ -20,10 +20,10 @@ use Rattle.tm_types.specs.declared.request.Attributes.{Attributes}
 use Rattle.tm_types.specs.declared.request.Stat.{Stat}
 use Rattle.tm_word.specs.Texts.{texts_equal}
 use Rattle.tm_rules.specs.Requests.{may_have, is_stat}
-use Rattle.tm_cond.specs.Attributes.{kind_text, kind_word, attr_text, attr_word}
-use Rattle.tm_cond.specs.Written.{is_name_byte, is_attr}
-use Rattle.tm_cond.proofs.PieceLaws.{quoted_again}
-use Rattle.tm_cond.proofs.LeftLaws.{not_equals, attr_again}
+use Rattle.tm_entry.specs.Attributes.{kind_text, kind_word, attr_text, attr_word}
+use Rattle.tm_entry.specs.Written.{is_name_byte, is_attr}
+use Rattle.tm_entry.proofs.PieceLaws.{quoted_again}
+use Rattle.tm_entry.proofs.LeftLaws.{not_equals, attr_again}
 use Rattle.tm_line.proofs.Steps.{both, all, not_true}
 use Rattle.tm_word.proofs.Spelled.{word_again}
 use Rattle.tm_trace.specs.Attributes.{stat_rank, has_stat, put_stat, executes, links, quoted_word, value_word, has_name, with_argument, with_real_path, with_name, with_target, with_stat, with_attribute, with_sides, with_word}

@@ -17,10 +17,10 @@ use Rattle.tm_types.specs.declared.request.Attributes.{Attributes}
 use Rattle.tm_types.specs.declared.request.Stat.{Stat}
 use Rattle.tm_word.specs.Texts.{texts_equal}
 use Rattle.tm_rules.specs.Requests.{may_have, is_stat}
-use Rattle.tm_cond.specs.Attributes.{or_wrong, quoted, kind_word, attr_word}
-use Rattle.tm_cond.specs.Written.{is_name_byte, is_attr}
-use Rattle.tm_cond.proofs.PieceLaws.{or_wrong_ok}
-use Rattle.tm_cond.proofs.LeftLaws.{not_equals, attr_read}
+use Rattle.tm_entry.specs.Attributes.{or_wrong, quoted, kind_word, attr_word}
+use Rattle.tm_entry.specs.Written.{is_name_byte, is_attr}
+use Rattle.tm_entry.proofs.PieceLaws.{or_wrong_ok}
+use Rattle.tm_entry.proofs.LeftLaws.{not_equals, attr_read}
 use Rattle.tm_line.specs.Arguments.{kinded}
 use Rattle.tm_word.specs.Gives.{◌>>=◌}
 use Rattle.tm_line.proofs.Steps.{bind_ok, ok_is, kinded_ok, both, all, not_true, to_not}

@@ -7,7 +7,7 @@ use Rattle.tm_types.specs.declared.request.Tree.{Tree}
 use Rattle.tm_rules.specs.Requests.{is_request, item_is_request}
 use Rattle.tm_rules.specs.Transition.{is_domain_name}
 use Rattle.tm_rules.specs.Words.{Trace}
-use Rattle.tm_domain.specs.Names.{is_path}
+use Rattle.tm_line.specs.Names.{is_path}
 use Rattle.tm_line.proofs.Steps.{both, all}
 use Rattle.tm_trace.specs.Trees.{made_by, is_among}
 use Rattle.tm_trace.specs.Written.{is_pid, is_trace_request, is_item, are_items, is_tree, IsTrace, EachAsked}

@@ -9,8 +9,8 @@ use Rattle.tm_word.specs.Printing.{literal, literal_word, spelled_pattern}
 use Rattle.tm_number.specs.Numbers.{number_of, value_of, plain_of}
 use Rattle.tm_addr.specs.Reading.{addr_of, v4_of, quad_of, v6_of, side_of, groups_after, last_of, group_of}
 use Rattle.tm_addr.specs.Printing.{v4_spelling, v6_spelling, groups_in, longest}
-use Rattle.tm_pattern.specs.Tokens.{token_at}
-use Rattle.tm_pattern.specs.Reading.{step, ended, parsed, pattern_of}
+use Rattle.tm_line.specs.Tokens.{token_at}
+use Rattle.tm_line.specs.Reading.{step, ended, parsed, pattern_of}
 use Rattle.tm_types.specs.declared.entry.Args.{Args}
 use Rattle.tm_types.specs.declared.unions.NameUnion.{NameUnion}
 use Rattle.tm_types.specs.declared.request.Request.{Request}
@@ -18,20 +18,20 @@ use Rattle.tm_types.specs.declared.request.TraceKind.{TraceKind}
 use Rattle.tm_types.specs.Functions.{function_of}
 use Rattle.tm_rules.specs.Learned.{learned_line}
 use Rattle.tm_rules.specs.Requests.{is_request}
-use Rattle.tm_pattern.specs.Grammar.{is_right}
-use Rattle.tm_cond.specs.Written.{is_attr, is_side, is_clause, is_cond}
+use Rattle.tm_line.specs.Grammar.{is_right}
+use Rattle.tm_entry.specs.Written.{is_attr, is_side, is_clause, is_cond}
 use Rattle.tm_line.specs.Written.{is_name}
 use Rattle.tm_word.specs.Texts.{texts_equal}
 use Rattle.tm_rules.specs.Words.{Trace}
-use Rattle.tm_domain.specs.Names.{is_path, domain_of}
+use Rattle.tm_line.specs.Names.{is_path, domain_of}
 use Rattle.tm_line.specs.Permissions.{perm_on}
 use Rattle.tm_line.specs.Arguments.{group_word, plain_word}
 use Rattle.tm_line.specs.Domains.{domain_words, domain_at, domain_to_end}
 use Rattle.tm_line.specs.Printing.{name_spelling, number_spelling, address_spelling}
-use Rattle.tm_file.specs.FileLines.{row_of, file_words, is_file}
-use Rattle.tm_net.specs.NetLines.{net_words, is_net}
+use Rattle.tm_entry.specs.FileLines.{row_of, file_words, is_file}
+use Rattle.tm_entry.specs.NetLines.{net_words, is_net}
 use Rattle.tm_entry.specs.Entries.{acl_words, is_entry}
-use Rattle.tm_cond.specs.Attributes.{without_last, id_word, field_word, parent_word, kind_word, attr_text, numeric_word, other_word, argv_word, envp_word, attr_word}
+use Rattle.tm_entry.specs.Attributes.{without_last, id_word, field_word, parent_word, kind_word, attr_text, numeric_word, other_word, argv_word, envp_word, attr_word}
 use Rattle.tm_trace.specs.Requests.{place_in, literal_name, path_name, single_number, single_address, env_name, args_at, mount_at, file_request, inet_request, unix_request, network_request, misc_request, task_request, request_line}
 use Rattle.tm_trace.specs.Attributes.{no_attributes, put_stat, quoted_word, value_word, with_argument, with_real_path, with_name, with_target, with_stat, with_attribute, with_sides, with_word, attributes_from}
 use Rattle.tm_trace.specs.Processes.{pid_word, id_at, ids_to_end}

@@ -19,3 +19,5 @@ pub mod PlaceLaws
 pub mod PrintLaws
 pub mod PidSets
 pub mod Keywords
+pub use Rattle.tm_entry.proofs.EntryLaws
+pub use Rattle.tm_entry.proofs.EntryText

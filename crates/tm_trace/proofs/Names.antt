@@ -10,8 +10,8 @@ use Rattle.tm_word.specs.Spelling.{spelling_of, spell, are_bytes}
 use Rattle.tm_word.specs.Matching.{is_empty}
 use Rattle.tm_word.specs.Printing.{spelled_pattern, literal, literal_word}
 use Rattle.tm_word.proofs.Literals.{literal-spelled, literal-name}
-use Rattle.tm_pattern.specs.Grammar.{is_right}
-use Rattle.tm_pattern.proofs.LiteralLaws.{literal_right}
+use Rattle.tm_line.specs.Grammar.{is_right}
+use Rattle.tm_line.proofs.LiteralLaws.{literal_right}
 use Rattle.tm_types.specs.declared.entry.LineKind.{LineKind}
 use Rattle.tm_types.specs.declared.unions.NameUnion.{NameUnion}
 use Rattle.tm_types.specs.Request.{name_value}
@@ -27,7 +27,7 @@ use Rattle.tm_line.specs.Written as lines
 use Rattle.tm_line.proofs.Steps.{bind_ok, ok_is, both, all, not_true, to_not}
 use Rattle.tm_line.proofs.GroupLaws.{group_again, group_found}
 use Rattle.tm_word.proofs.Spelled.{below, below-at}
-use Rattle.tm_net.specs.NetLines.{has_equals, is_env}
+use Rattle.tm_entry.specs.NetLines.{has_equals, is_env}
 use Rattle.tm_trace.specs.Requests.{literal_name, path_name, env_name}
 
 -- ---- the first byte of a spelled word, and whether it has an `=`

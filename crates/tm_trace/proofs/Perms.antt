@@ -10,7 +10,7 @@ use Rattle.tm_line.specs.Permissions.{names, perm_on, perms_spelling}
 use Rattle.tm_line.specs.Written.{is_set}
 use Rattle.tm_line.proofs.Steps.{both, not_true}
 use Rattle.tm_word.proofs.Spelled.{below, below-at}
-use Rattle.tm_file.specs.FileLines.{row_of}
+use Rattle.tm_entry.specs.FileLines.{row_of}
 use Rattle.tm_trace.specs.Requests.{place_in}
 
 -- how many permissions a row has

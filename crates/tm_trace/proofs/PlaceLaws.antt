@@ -14,7 +14,7 @@ use Rattle.tm_types.specs.declared.unions.NameUnion.{NameUnion}
 use Rattle.tm_line.specs.declared.permissions.Row.{Row}
 use Rattle.tm_line.specs.Permissions.{names, mask_from, mask_in}
 use Rattle.tm_word.proofs.Spelled.{below, below-at}
-use Rattle.tm_file.specs.FileLines.{row_of}
+use Rattle.tm_entry.specs.FileLines.{row_of}
 use Rattle.tm_trace.specs.Requests.{place_in, path_name, args_at, with_perm, named_path, file_request, request_line}
 
 -- the place of the lowest bit

@@ -16,8 +16,8 @@ use Rattle.tm_line.specs.declared.permissions.Row.{Row}
 use Rattle.tm_line.specs.Lines.{spaced}
 use Rattle.tm_line.specs.Permissions.{names, perm_on, perms_from, perms_spelling}
 use Rattle.tm_line.proofs.JoinLaws.{joined_is}
-use Rattle.tm_file.specs.FileLines.{file_words}
-use Rattle.tm_net.specs.NetLines.{net_words}
+use Rattle.tm_entry.specs.FileLines.{file_words}
+use Rattle.tm_entry.specs.NetLines.{net_words}
 use Rattle.tm_entry.specs.Entries.{acl_words}
 use Rattle.tm_entry.proofs.TextLaws.{acl_first}
 use Rattle.tm_trace.specs.Printing.{request_words, request_text, attribute_words, attributes_text}

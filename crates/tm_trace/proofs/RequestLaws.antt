@@ -14,7 +14,7 @@ use Rattle.tm_word.specs.Texts.{texts_equal}
 use Rattle.tm_rules.specs.Requests.{is_name, is_number, is_addr}
 use Rattle.tm_rules.specs.Transition.{is_domain_name}
 use Rattle.tm_rules.specs.Words.{DomainName}
-use Rattle.tm_domain.specs.Names.{is_path}
+use Rattle.tm_line.specs.Names.{is_path}
 use Rattle.tm_line.specs.declared.permissions.Row.{Row}
 use Rattle.tm_line.specs.Lines.{word_at}
 use Rattle.tm_word.specs.Gives.{◌>>=◌}
@@ -23,8 +23,8 @@ use Rattle.tm_line.specs.DomainWords.{ends_domain}
 use Rattle.tm_line.specs.Printing.{name_spelling, number_spelling}
 use Rattle.tm_line.proofs.Steps.{bind_ok, done, ok_is, both, all}
 use Rattle.tm_line.proofs.DomainLaws.{domain_again, at_right}
-use Rattle.tm_file.specs.FileLines.{row_of, file_words}
-use Rattle.tm_net.specs.NetLines.{inet_kind, unix_kind, inet_permissions, unix_permissions, inet_word, unix_word, net_words}
+use Rattle.tm_entry.specs.FileLines.{row_of, file_words}
+use Rattle.tm_entry.specs.NetLines.{inet_kind, unix_kind, inet_permissions, unix_permissions, inet_word, unix_word, net_words}
 use Rattle.tm_entry.specs.Entries.{acl_words}
 use Rattle.tm_trace.specs.Requests.{or_keyword, one_of, only_at, place_in, literal_name, path_name, single_number, single_address, env_name, args_at, mount_at, with_perm, row_request, file_request, inet_request, unix_request, network_request, misc_request, task_request, request_line}
 use Rattle.tm_trace.proofs.Names.{is_at, is_env_name, name_again, path_again, env_again, name_read, path_read, env_read}

@@ -13,7 +13,7 @@ use Rattle.tm_types.specs.declared.request.Tree.{Tree}
 use Rattle.tm_word.specs.Texts.{lines_of, is_solid, is_word}
 use Rattle.tm_rules.specs.Transition.{is_domain_name}
 use Rattle.tm_rules.specs.Words.{Trace}
-use Rattle.tm_domain.specs.Names.{is_path}
+use Rattle.tm_line.specs.Names.{is_path}
 use Rattle.tm_addr.proofs.Free.{Free, free_append, split_at}
 use Rattle.tm_line.specs.DomainWords.{domain_parts}
 use Rattle.tm_line.specs.Lines.{spaced}

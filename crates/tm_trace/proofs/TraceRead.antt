@@ -15,7 +15,7 @@ use Rattle.tm_types.specs.declared.request.Tree.{Tree}
 use Rattle.tm_word.specs.Texts.{texts_equal, lines_of}
 use Rattle.tm_rules.specs.Transition.{is_domain_name}
 use Rattle.tm_rules.specs.Words.{Trace}
-use Rattle.tm_domain.specs.Names.{is_path}
+use Rattle.tm_line.specs.Names.{is_path}
 use Rattle.tm_line.specs.Lines.{word_at}
 use Rattle.tm_line.specs.Arguments.{plain_word}
 use Rattle.tm_line.specs.Domains.{domain_to_end}

@@ -22,10 +22,10 @@ use Rattle.tm_types.specs.declared.request.Stat.{Stat}
 use Rattle.tm_types.specs.declared.request.Tree.{Tree}
 use Rattle.tm_rules.specs.Requests.{bytes_if, is_stat}
 use Rattle.tm_rules.specs.Transition.{is_domain_name}
-use Rattle.tm_domain.specs.Names.{is_path}
-use Rattle.tm_cond.specs.Attributes.{field_text, kind_text, place_text, attr_text}
-use Rattle.tm_cond.specs.Written.{is_name_byte}
-use Rattle.tm_cond.proofs.LeftLaws.{name_bytes}
+use Rattle.tm_line.specs.Names.{is_path}
+use Rattle.tm_entry.specs.Attributes.{field_text, kind_text, place_text, attr_text}
+use Rattle.tm_entry.specs.Written.{is_name_byte}
+use Rattle.tm_entry.proofs.LeftLaws.{name_bytes}
 use Rattle.tm_line.specs.DomainWords.{domain_parts, ends_domain}
 use Rattle.tm_line.specs.Printing.{number_spelling}
 use Rattle.tm_word.specs.Texts.{is_solid, is_word}

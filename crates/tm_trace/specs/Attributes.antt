@@ -18,7 +18,7 @@ use Rattle.tm_rules.specs.Condition.{is_execute}
 use Rattle.tm_rules.specs.Requests.{is_symlink, may_have}
 use Rattle.tm_word.specs.Gives.{◌>>=◌}
 use Rattle.tm_line.specs.Arguments.{kinded}
-use Rattle.tm_cond.specs.Attributes.{or_wrong, quoted, kind_word, attr_word}
+use Rattle.tm_entry.specs.Attributes.{or_wrong, quoted, kind_word, attr_word}
 
 -- Stats stand in the order in which they are printed
 

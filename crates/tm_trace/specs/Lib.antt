@@ -8,3 +8,4 @@ pub mod Printing
 pub mod Written
 pub mod Steps
 pub mod Named
+pub use Rattle.tm_entry.specs.Entries

@@ -20,8 +20,8 @@ use Rattle.tm_word.specs.Gives.{◌>>=◌}
 use Rattle.tm_line.specs.Permissions.{names}
 use Rattle.tm_line.specs.Arguments.{kinded, group_word}
 use Rattle.tm_line.specs.Domains.{domain_at}
-use Rattle.tm_file.specs.FileLines.{row_of}
-use Rattle.tm_net.specs.NetLines.{inet_kind, unix_kind, inet_permissions, unix_permissions, has_equals}
+use Rattle.tm_entry.specs.FileLines.{row_of}
+use Rattle.tm_entry.specs.NetLines.{inet_kind, unix_kind, inet_permissions, unix_permissions, has_equals}
 
 -- Words
 

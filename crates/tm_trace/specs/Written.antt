@@ -11,8 +11,8 @@ use Rattle.tm_types.specs.declared.request.Tree.{Tree}
 use Rattle.tm_rules.specs.Requests.{is_request}
 use Rattle.tm_rules.specs.Transition.{is_domain_name}
 use Rattle.tm_rules.specs.Words.{Trace}
-use Rattle.tm_domain.specs.Names.{is_path}
-use Rattle.tm_cond.specs.Written.{is_name_byte, has_field, has_type}
+use Rattle.tm_line.specs.Names.{is_path}
+use Rattle.tm_entry.specs.Written.{is_name_byte, has_field, has_type}
 use Rattle.tm_trace.specs.Attributes.{stat_rank, has_name}
 use Rattle.tm_trace.specs.Trees.{made_by, trace_pids, is_among}
 

@@ -7,7 +7,7 @@ ghost use Rattle.tm_trace.specs.Attributes.{no_attributes, executes, links, quot
 
 use crate::stat::{has_stat, may_have, put_stat};
 use std::alloc::Global;
-use tm_cond::{attr_word, kind_word, quoted};
+use tm_entry::cond::{attr_word, kind_word, quoted};
 use tm_list::Seq;
 use tm_number::read_number;
 use tm_types::entry::{Args, Attr, LineKind};

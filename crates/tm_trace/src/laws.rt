@@ -8,7 +8,7 @@ ghost use Rattle.tm_rules.specs.Condition.{is_execute};
 ghost use Rattle.tm_rules.specs.Learned.{learned_line};
 ghost use Rattle.tm_rules.specs.Words.{Trace};
 ghost use Rattle.tm_rules.specs.Requests.{is_path_word, is_request, item_is_request};
-ghost use Rattle.tm_domain.specs.Names.{is_path};
+ghost use Rattle.tm_line.specs.Names.{is_path};
 ghost use Rattle.tm_line.specs.DomainWords.{ends_domain};
 ghost use Rattle.tm_word.specs.Texts.{is_word};
 ghost use Rattle.tm_entry.specs.Entries.{is_entry};

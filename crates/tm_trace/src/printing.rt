@@ -6,12 +6,12 @@ ghost use Rattle.tm_word.specs.Spelling.{joined};
 ghost use Rattle.tm_types.specs.declared.request.Item.{Item};
 ghost use Rattle.tm_rules.specs.Policy.{permission};
 ghost use Rattle.tm_line.specs.Lines.{spaced};
-ghost use Rattle.tm_cond.specs.Attributes.{attr_text};
+ghost use Rattle.tm_entry.specs.Attributes.{attr_text};
 ghost use Rattle.tm_trace.specs.Named.{named_text};
 ghost use Rattle.tm_trace.specs.Printing.{quoted_text, words_if, real_path_text, environment_text, target_text, base_of, stat_text, attributes_text, request_text, ids_words, item_words, tree_words, line_text, tree_lines, trace_text};
 
 use std::alloc::Global;
-use tm_cond::{kind_text, print_attr};
+use tm_entry::cond::{kind_text, print_attr};
 use tm_entry::print_acl;
 use tm_line::print_domain;
 use tm_list::{Copied, NoMemory};

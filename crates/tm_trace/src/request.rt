@@ -4,14 +4,14 @@ ghost use Rattle.std.specs.Prelude.{◌≡◌, Some, None, IfSome, MatchOption};
 ghost use Rattle.tm_word.specs.Spelling.{words_of};
 ghost use Rattle.tm_word.specs.Gives.{Gives, GivesNow};
 ghost use Rattle.tm_line.specs.Lines.{line_cause, word_at};
-ghost use Rattle.tm_file.specs.FileLines.{row_of};
-ghost use Rattle.tm_net.specs.NetLines.{inet_kind, unix_kind};
+ghost use Rattle.tm_entry.specs.FileLines.{row_of};
+ghost use Rattle.tm_entry.specs.NetLines.{inet_kind, unix_kind};
 ghost use Rattle.tm_trace.specs.Requests.{one_of, only_at, place_in, literal_name, path_name, single_number, single_address, env_name, args_at, mount_at, row_request, named_path, file_request, inet_request, unix_request, network_request, misc_request, task_request, request_line};
 
 use std::alloc::Global;
 use tm_addr::read_addr;
+use tm_entry::net::{inet_kind, inet_permissions, unix_kind, unix_permissions};
 use tm_line::{Row, domain_at, group_word, mask_in};
-use tm_net::{inet_kind, inet_permissions, unix_kind, unix_permissions};
 use tm_number::{AddrRange, Range, read_number};
 use tm_types::entry::{Args, InetKind, LineKind, UnixKind};
 use tm_types::step::LineFault;

@@ -3,10 +3,10 @@ use Rattle.std.proofs.Common.{◌≡◌, ℕ, List, [], ◌∷◌, ◌++◌, ref
 use Rattle.std.specs.Prelude.{map, flat_map}
 use Rattle.std.specs.List.{join_with_byte}
 use Rattle.std.proofs.Common.{append-nil}
-use Rattle.tm_word.specs.declared.Component.{Component}
-use Rattle.tm_word.specs.Words.{Word}
-use Rattle.tm_word.specs.Printing.{element_bytes, literal, literal_word}
-use Rattle.tm_word.proofs.Literals.{literal-name}
+use Rattle.tm_number.specs.Component.{Component}
+use Rattle.tm_number.specs.Words.{Word}
+use Rattle.tm_number.specs.Printing.{element_bytes, literal, literal_word}
+use Rattle.tm_number.proofs.Literals.{literal-name}
 use Rattle.tm_types.specs.Request.{joined_bytes}
 
 -- the pieces joined by a byte: the first one, and each other one behind that byte

@@ -1,10 +1,10 @@
 -- Which arguments are names' literals.
 use Rattle.std.proofs.Common.{◌≡◌, refl, sym, ap, ◌∙◌}
 use Rattle.std.specs.Prelude.{[]}
-use Rattle.tm_word.specs.Words.{Word, Pattern}
-use Rattle.tm_word.specs.Printing.{literal, literal_word}
-use Rattle.tm_word.specs.Patterns.{IsNoLiteral}
-use Rattle.tm_word.proofs.Literals.{literal-name}
+use Rattle.tm_number.specs.Words.{Word, Pattern}
+use Rattle.tm_number.specs.Printing.{literal, literal_word}
+use Rattle.tm_number.specs.Patterns.{IsNoLiteral}
+use Rattle.tm_number.proofs.Literals.{literal-name}
 use Rattle.tm_types.specs.declared.unions.NameUnion.{NameUnion}
 use Rattle.tm_types.specs.Request.{name_value, IsLiteral}
 

@@ -1,7 +1,7 @@
 -- What a process asks for, and the words of its name arguments.
 use Rattle.std.specs.Prelude.{◌≡◌, ℕ, List, [], ◌∷◌, ◌++◌, ⊤, Option, Some, None, flat_map}
-use Rattle.tm_word.specs.declared.Component.{Component}
-use Rattle.tm_word.specs.Printing.{element_bytes, literal, literal_word}
+use Rattle.tm_number.specs.Component.{Component}
+use Rattle.tm_number.specs.Printing.{element_bytes, literal, literal_word}
 use Rattle.tm_types.specs.declared.unions.NameUnion.{NameUnion}
 use Rattle.tm_types.specs.declared.entry.Args.{Args}
 use Rattle.tm_types.specs.declared.request.Attributes.{Attributes}

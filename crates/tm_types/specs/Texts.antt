@@ -1,6 +1,6 @@
 -- The words of closed types, as they are written wherever they are written.
 use Rattle.std.specs.Prelude.{List, [], ◌∷◌, ◌++◌, codes}
-use Rattle.tm_word.specs.Words.{Text}
+use Rattle.tm_number.specs.Words.{Text}
 use Rattle.tm_types.specs.declared.entry.LineKind.{LineKind}
 use Rattle.tm_types.specs.declared.policy.Mode.{Mode}
 use Rattle.tm_types.specs.declared.request.TraceKind.{TraceKind}

@@ -7,7 +7,7 @@ use crate::policy::Mode;
 use crate::request::{ScriptKind, TraceKind};
 use crate::step::{EditReply, FileKind, LearnReply};
 use std::fmt;
-use tm_word::Closed;
+use tm_number::word::Closed;
 
 const MODES: [(&str, Mode); 4] = [
     ("disabled", Mode::Disabled),

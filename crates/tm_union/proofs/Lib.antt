@@ -1,0 +1,1 @@
+pub use Rattle.tm_pattern.proofs.LiteralLaws

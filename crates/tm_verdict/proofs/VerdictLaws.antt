@@ -27,7 +27,7 @@ use Rattle.tm_rules.specs.Policy.{domain_at, profile_of, namespace_of}
 use Rattle.tm_rules.specs.Requests.{is_request, are_literal}
 use Rattle.tm_rules.specs.Condition.{is_execute, is_manual}
 use Rattle.tm_rules.specs.Learned.{learned_line, line_of}
-use Rattle.tm_change_domains.specs.Standing.{Standing, StandsIn}
+use Rattle.tm_rep.specs.Standing.{Standing, StandsIn}
 use Rattle.tm_rules.specs.Search.{Granting, first, found_of}
 use Rattle.tm_rules.specs.Transition.{candidate, decision, is_domain_name, can_enter}
 use Rattle.tm_legal.specs.Verdict.{is_enforcing, made, denied, by_entry, by_mode, move_to, manual_verdict, execute_verdict, verdict_in, verdict}

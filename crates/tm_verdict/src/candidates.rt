@@ -10,9 +10,9 @@ ghost use Rattle.tm_verdict.specs.Leading.{granting_at};
 
 use std::alloc::Global;
 use std::marker::Model;
-use tm_change_domains::entry_at;
 use tm_list::{NoMemory, Seq};
 use tm_pattern::print_pattern;
+use tm_rep::change_domains::entry_at;
 use tm_rep::executed_name;
 use tm_types::entry::{Args, Entry, Prefer};
 use tm_types::policy::{Domain, Namespace};

@@ -7,4 +7,5 @@ mod candidates;
 mod targets;
 mod verdicts;
 
+pub use tm_rep as rep;
 pub use verdicts::{verdict_in, verdict_of};

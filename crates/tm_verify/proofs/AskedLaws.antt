@@ -8,7 +8,7 @@ use Rattle.tm_types.specs.declared.step.Look.{Look}
 use Rattle.tm_types.specs.declared.step.Take.{Take}
 use Rattle.tm_rules.specs.Words.{Trace}
 use Rattle.tm_rules.specs.Requests.{is_request, item_is_request}
-use Rattle.tm_grammar.specs.Tomoyo.{tomoyo_grammar}
+use Rattle.tm_core.specs.Tomoyo.{tomoyo_grammar}
 use Rattle.tm_legal.specs.Run.{Situations, with_situation, with_ids, forked, after_take, at_start, Case, tree_cases, cases_from, cases, do_pids}
 use Rattle.tm_legal.proofs.Asked.{All-append}
 use Rattle.tm_legal.specs.Legal.{cases_of}

@@ -9,12 +9,12 @@ use Rattle.tm_types.specs.declared.step.Book.{Book}
 use Rattle.tm_types.specs.declared.policy.Policy.{Policy}
 use Rattle.tm_types.specs.declared.step.Editor.{Editor}
 use Rattle.tm_rules.specs.Queries.{first_query}
-use Rattle.tm_grammar.specs.Tomoyo.{tomoyo_grammar}
-use Rattle.tm_grammar.proofs.IsOne.{is_one}
+use Rattle.tm_core.specs.Tomoyo.{tomoyo_grammar}
+use Rattle.tm_core.proofs.IsOne.{is_one}
 use Rattle.tm_legal.specs.Steps.{State, apply, after}
 use Rattle.tm_legal.specs.Run.{History}
 use Rattle.tm_legal.specs.Legal.{Scene, opening_of}
-use Rattle.tm_machine.specs.Machine.{Course, course_from}
+use Rattle.tm_core.specs.Machine.{Course, course_from}
 use Rattle.tm_legal.specs.Play.{IsNamed}
 use Rattle.tm_legal.proofs.Named.{step_keeps_names}
 use Rattle.tm_verify_laws.specs.Desk.{state_after}

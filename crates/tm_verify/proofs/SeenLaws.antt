@@ -13,7 +13,7 @@ use Rattle.tm_types.specs.declared.step.Answered.{Answered}
 use Rattle.tm_types.specs.declared.step.Look.{Look}
 use Rattle.tm_rules.specs.Audit.{audit_text}
 use Rattle.tm_rules.specs.Queries.{answer_of}
-use Rattle.tm_grammar.specs.Tomoyo.{tomoyo_grammar}
+use Rattle.tm_core.specs.Tomoyo.{tomoyo_grammar}
 use Rattle.tm_legal.specs.Steps.{State, after}
 use Rattle.tm_legal.specs.Run.{History, Case, step_at, reply_at, steps_of}
 use Rattle.tm_legal.specs.Legal as legal

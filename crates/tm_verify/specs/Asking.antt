@@ -4,7 +4,7 @@ use Rattle.std.specs.List.{AllByRecursion, list_all}
 use Rattle.tm_types.specs.declared.request.Tree.{Tree}
 use Rattle.tm_rules.specs.Words.{Trace}
 use Rattle.tm_rules.specs.Requests.{item_is_request}
-use Rattle.tm_grammar.specs.Tomoyo.{tomoyo_grammar}
+use Rattle.tm_core.specs.Tomoyo.{tomoyo_grammar}
 
 -- each `do` line asks a request
 abbrev pub IsAsking : Trace → Type 0

@@ -1,6 +1,6 @@
 -- A machine on its way along given steps.
 use Rattle.std.specs.Prelude.{◌≡◌, ◌≤◌, [], length, take}
-use Rattle.tm_grammar.specs.Tomoyo.{tomoyo_grammar}
+use Rattle.tm_core.specs.Tomoyo.{tomoyo_grammar}
 use Rattle.tm_legal.specs.Play.{IsNamed}
 use Rattle.tm_verify_laws.specs.Desk.{state_after}
 use Rattle.tm_verify_notes.specs.declared.given.Given.{Given}

@@ -5,7 +5,7 @@ use Rattle.tm_types.specs.declared.policy.Policy.{Policy}
 use Rattle.tm_types.specs.declared.step.Book.{Book}
 use Rattle.tm_types.specs.declared.step.Editor.{Editor}
 use Rattle.tm_types.specs.declared.step.Run.{Run}
-use Rattle.tm_grammar.specs.Tomoyo.{tomoyo_grammar}
+use Rattle.tm_core.specs.Tomoyo.{tomoyo_grammar}
 use Rattle.tm_legal.specs.Legal.{Scene, Legal}
 use Rattle.tm_verify_laws.specs.declared.broken.Broken.{Broken}
 use Rattle.tm_verify_laws.specs.Broken.{IsFirstBroken}

@@ -12,9 +12,9 @@ use crate::pass::Pass;
 use std::alloc::{AllocError, Global};
 use tm_core::{Judged, judge};
 use tm_list::{NoMemory, Same};
-use tm_rep::Rep;
 use tm_types::step::{Answered, Heard, Held, Look, Reply};
 use tm_types::verdict::Reason;
+use tm_verify_notes::rep::Rep;
 use tm_verify_notes::{DoCase, Given, LookOn, PartNote, VerdictNote, owns_in_order, reply_at};
 use tm_verify_steps::note_of;
 

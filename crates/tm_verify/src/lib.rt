@@ -8,5 +8,8 @@ mod pass;
 mod runs;
 
 pub use runs::{judge_run, legal};
+pub use tm_core as plays;
+pub use tm_indexed as indexed;
+pub use tm_indexed::policies as policy;
 pub use tm_verify_laws::Broken;
-pub use tm_verify_notes::Given;
+pub use tm_verify_notes::{Given, rep};

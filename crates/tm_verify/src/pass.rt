@@ -4,7 +4,7 @@ ghost use Rattle.std.specs.Option.{option_copied};
 ghost use Rattle.tm_rules.specs.Few.{IsFew};
 ghost use Rattle.tm_rules.specs.Book.{book_answer, code_of};
 ghost use Rattle.tm_rules.specs.Queries.{first_query};
-ghost use Rattle.tm_grammar.specs.Tomoyo.{tomoyo_grammar};
+ghost use Rattle.tm_core.specs.Tomoyo.{tomoyo_grammar};
 ghost use Rattle.tm_legal.specs.Play.{IsNamed};
 ghost use Rattle.tm_legal.specs.Steps.{apply};
 ghost use Rattle.tm_verify_laws.specs.Desk.{is_answered_so};
@@ -13,10 +13,10 @@ ghost use Rattle.tm_verify_notes.specs.Stepping.{suits, IsNotedIn, AreNoted};
 ghost use Rattle.tm_verify.specs.Passing.{IsAt};
 
 use std::alloc::{AllocError, Global};
+use tm_core::machines::Machine;
 use tm_list::{Copied, NoMemory, Same};
-use tm_machine::Machine;
-use tm_rep::Rep;
 use tm_types::step::{Book, Editor, Made, Maker, Reply, Step};
+use tm_verify_notes::rep::Rep;
 use tm_verify_notes::{Given, StepNote, suits};
 
 /// A machine that has made the given steps up to a version, and what it has noted of them. A step

@@ -3,7 +3,7 @@ ghost use Rattle.std.specs.Prelude.{◌≡◌, ◌+◌, ◌<◌, ◌^◌, [], le
 ghost use Rattle.std.specs.Option.{option_copied};
 ghost use Rattle.std.specs.List.{AllByRecursion};
 ghost use Rattle.tm_rules.specs.Few.{IsFew};
-ghost use Rattle.tm_grammar.specs.Tomoyo.{tomoyo_grammar};
+ghost use Rattle.tm_core.specs.Tomoyo.{tomoyo_grammar};
 ghost use Rattle.tm_legal.specs.Run.{all_do_pids};
 ghost use Rattle.tm_legal.specs.Legal.{cases_of};
 ghost use Rattle.tm_legal.specs.Play.{IsNamed};
@@ -19,11 +19,11 @@ use crate::pass::Pass;
 use std::alloc::Global;
 use tm_indexed::Indexed;
 use tm_list::{Copied, NoMemory};
-use tm_rep::Rep;
 use tm_types::policy::Policy;
 use tm_types::request::Trace;
 use tm_types::step::{Book, Editor, Run};
 use tm_verify_laws::Broken;
+use tm_verify_notes::rep::Rep;
 use tm_verify_notes::{
     DoCase, Given, LookOn, PartNote, StepNote, TakeNote, all_cases, all_completed, all_do_pids,
     all_looks, all_takes, no_parts, pairs_fault,

@@ -17,7 +17,7 @@ use Rattle.tm_types.specs.declared.step.Answered.{Answered}
 use Rattle.tm_types.specs.declared.step.Look.{Look}
 use Rattle.tm_rules.specs.Audit.{audit_text}
 use Rattle.tm_rules.specs.Queries.{answer_of}
-use Rattle.tm_grammar.specs.Tomoyo.{tomoyo_grammar}
+use Rattle.tm_take.specs.Tomoyo.{tomoyo_grammar}
 use Rattle.tm_legal.specs.Run.{History, Case, step_at, reply_at, steps_of}
 use Rattle.tm_legal.specs.Legal.{Scene, opening_of, subject_of, state_at, IsShown, LookHolds, OwnSteps, steps_asked, retry_written, look_grants, RisesFrom, MakesAfterYes, Hears, LookHears}
 use Rattle.tm_verify_laws.specs.Looks.{rises_from, is_after_answer}

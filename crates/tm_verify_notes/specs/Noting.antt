@@ -7,7 +7,7 @@ use Rattle.tm_types.specs.declared.step.Look.{Look}
 use Rattle.tm_types.specs.declared.verdict.Verdict.{Verdict}
 use Rattle.tm_rules.specs.Audit.{audit_text}
 use Rattle.tm_rules.specs.Requests.{is_request}
-use Rattle.tm_grammar.specs.Tomoyo.{tomoyo_grammar}
+use Rattle.tm_take.specs.Tomoyo.{tomoyo_grammar}
 use Rattle.tm_legal.specs.Run.{History, Case, step_at}
 use Rattle.tm_legal.specs.Legal.{Scene, Subject, subject_of, state_at, verdict_at, IsShown, LookHolds, OwnSteps, steps_asked, retry_written, look_grants, RisesFrom, MakesAfterYes, LookHears, TakeHolds, TakeHears, EndsWith, last_look}
 use Rattle.tm_verify_notes.specs.declared.notes.VerdictNote.{VerdictNote}

@@ -5,7 +5,7 @@ use Rattle.tm_types.specs.declared.step.Reply.{Reply}
 use Rattle.tm_types.specs.declared.step.Query.{Query}
 use Rattle.tm_types.specs.declared.step.Book.{Book}
 use Rattle.tm_rules.specs.Queries.{first_query}
-use Rattle.tm_grammar.specs.Tomoyo.{tomoyo_grammar}
+use Rattle.tm_take.specs.Tomoyo.{tomoyo_grammar}
 use Rattle.tm_legal.specs.Steps.{State, apply}
 use Rattle.tm_legal.specs.Run.{History}
 use Rattle.tm_legal.specs.Legal.{Scene}

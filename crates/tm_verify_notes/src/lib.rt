@@ -20,3 +20,6 @@ pub use notes::{LookNote, PartNote, VerdictNote, is_shown, look_grants, owns_in_
 pub use steps::{StepNote, suits};
 pub use sums::{Flag, TakeNote, all_completed, all_takes, take_fault};
 pub use takes::{all_do_pids, do_rise, pairs_fault};
+pub use tm_rep as rep;
+pub use tm_take as taking;
+pub use tm_take::entry;

@@ -10,7 +10,7 @@ use Rattle.tm_types.specs.declared.verdict.EntryPlace.{EntryPlace}
 use Rattle.tm_types.specs.declared.verdict.Reason.{Reason}
 use Rattle.tm_types.specs.declared.verdict.Verdict.{Verdict}
 use Rattle.tm_rules.specs.Grammar.{Grammar}
-use Rattle.tm_grammar.specs.Tomoyo.{tomoyo_grammar}
+use Rattle.tm_verify_notes.specs.Tomoyo.{tomoyo_grammar}
 use Rattle.tm_legal.specs.Run.{History, step_at}
 use Rattle.tm_legal.specs.Legal.{steps_of_line, steps_of_move, steps_asked, retry_written, look_grants, IsShown, RisesFrom, MakesAfterYes}
 use Rattle.tm_verify_laws.specs.Looks.{rises_from, is_after_answer}

@@ -1,9 +1,9 @@
 //! A look beside the verdict of its version; no step is made or copied.
 ghost use Rattle.std.specs.Prelude.{◌≡◌, ◌↔◌, ◌∷◌, ◌&&◌, [], true, IfOk, Some, map, if◌then◌else◌};
 ghost use Rattle.std.specs.Option.{option_copied};
-ghost use Rattle.tm_entry.specs.Entries.{entry_words};
+ghost use Rattle.tm_verify_notes.specs.Entries.{entry_words};
 ghost use Rattle.tm_word.specs.Spelling.{joined};
-ghost use Rattle.tm_grammar.specs.Tomoyo.{tomoyo_grammar};
+ghost use Rattle.tm_verify_notes.specs.Tomoyo.{tomoyo_grammar};
 ghost use Rattle.tm_types.specs.declared.step.Step.{Step};
 ghost use Rattle.tm_types.specs.declared.verdict.Reason.{Reason};
 ghost use Rattle.tm_legal.specs.Run.{step_at};
@@ -11,12 +11,12 @@ ghost use Rattle.tm_legal.specs.Legal.{steps_of_line, steps_of_move, steps_asked
 ghost use Rattle.tm_verify_notes.specs.Noting.{IsVerdictNote};
 
 use std::alloc::Global;
-use tm_entry::print_entry;
 use tm_list::{NoMemory, Same, Seq};
 use tm_types::entry::Entry;
 use tm_types::step::{Look, Reply, Step};
 use tm_types::unions::DomainName;
 use tm_types::verdict::{Move, Reason, Verdict};
+use tm_verify_notes::entry::print_entry;
 use tm_verify_notes::{VerdictNote, is_shown, look_grants, owns_in_order, retry_written, step_at};
 use tm_word::Text;
 

@@ -22,9 +22,9 @@ use Rattle.tm_call.specs.Stores.{stored, Leaves, names_of, is_named}
 use Rattle.tm_call.specs.Ends.{Outside, Ends, CarriedOut}
 use Rattle.tomoyo.specs.Play.{Plays}
 use Rattle.tm_gen_laws.specs.Generated.{generated_files}
-use Rattle.tm_call_input.specs.Policies.{policy_of}
-use Rattle.tm_call_input.specs.declared.reading.Judging.{Judging}
-use Rattle.tm_call_input.specs.Reading.{judging_reading}
+use Rattle.tm_gen_laws.specs.Policies.{policy_of}
+use Rattle.tm_gen_laws.specs.Judging.{Judging}
+use Rattle.tm_gen_laws.specs.Reading.{judging_reading}
 use Rattle.tomoyo.specs.Rerun.{Learns}
 use Rattle.tomoyo.specs.Print.{printed_policy}
 use Rattle.tomoyo.specs.Sort.{part_store, sort_reading}

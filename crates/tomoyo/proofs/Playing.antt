@@ -9,13 +9,13 @@ use Rattle.tm_types.specs.declared.step.Turn.{Turn}
 use Rattle.tm_legal.specs.Legal.{Scene, Legal, NoLookBeforeAttach, final_policy}
 use Rattle.tm_legal.specs.Play.{Player, CanPlay, turns, run_of}
 use Rattle.tm_legal.specs.Play as core
-use Rattle.tm_machine.specs.Machine.{Course}
-use Rattle.tm_core.specs.Scenes.{IsReached}
-use Rattle.tm_core.specs.Scenes as scenes
+use Rattle.tm_steal.specs.Machine.{Course}
+use Rattle.tm_verify.specs.Scenes.{IsReached}
+use Rattle.tm_verify.specs.Scenes as scenes
 use Rattle.tomoyo.specs.declared.way.Way.{Way}
 use Rattle.tomoyo.specs.declared.play.Played.{Played}
-use Rattle.tm_call_input.specs.declared.reading.Loaded.{Loaded}
-use Rattle.tm_call_input.specs.Reading.{start_of, scene_of}
+use Rattle.tm_gen_laws.specs.CallInputLoaded.{Loaded}
+use Rattle.tm_gen_laws.specs.Reading.{start_of, scene_of}
 use Rattle.tomoyo.specs.Play.{IsPlayOf, IsPrinted, PlaysLoaded}
 
 -- a player at its start is one that no turn has led to

@@ -17,14 +17,14 @@ use Rattle.tm_run.specs.Reading.{run_of}
 use Rattle.tm_run.specs.Typed.{is_typed}
 use Rattle.tm_run_laws.specs.Scenes.{IsReadScene}
 use Rattle.tm_run_laws.proofs.Runs.{legal_read}
-use Rattle.tm_call_input.specs.declared.reading.Loaded.{Loaded}
+use Rattle.tm_gen_laws.specs.CallInputLoaded.{Loaded}
 use Rattle.tomoyo.specs.declared.way.Way.{Way}
 use Rattle.tomoyo.specs.declared.learn.Learned.{Learned}
 use Rattle.tomoyo.specs.declared.learn.RerunTexts.{RerunTexts}
 use Rattle.tm_call.specs.Fetches.{Texts, content}
-use Rattle.tm_call_input.specs.Reading.{homeless, scene_of}
+use Rattle.tm_gen_laws.specs.Reading.{homeless, scene_of}
 use Rattle.tomoyo.specs.Rerun.{again, CanRerun, Reruns, LearnsLoaded, IsReadBack}
-use Rattle.tm_call_input.proofs.Readings.{AreRead, can-play}
+use Rattle.tm_gen_laws.proofs.Readings.{AreRead, can-play}
 use Rattle.tomoyo.proofs.Rerunning.{rerun-needs, can-rerun}
 
 -- what a switched policy keeps: it is opened where the policy is, and has its domains, which are

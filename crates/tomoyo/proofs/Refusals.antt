@@ -16,9 +16,9 @@ use Rattle.tm_call.specs.declared.status.What.{What}
 use Rattle.tm_call.specs.declared.words.Command.{Command}
 use Rattle.tm_call.specs.declared.fetches.Want.{Want}
 use Rattle.tm_call.specs.Fetches.{Texts, AllGiven, content}
-use Rattle.tm_call_input.specs.Policies.{policy_of}
-use Rattle.tm_call_input.specs.Reading.{refused, scene_reading, judging_reading}
-use Rattle.tm_call_input.proofs.Refusals.{IsLater, failed, was-refused, step-refused, scene-refused, load-refused, step-kind, HasFault, early, fault-line, fault-undefined, fault-early, IsRefusal, IsRunFault, judging-refused}
+use Rattle.tm_gen_laws.specs.Policies.{policy_of}
+use Rattle.tm_gen_laws.specs.Reading.{refused, scene_reading, judging_reading}
+use Rattle.tm_gen_laws.proofs.Refusals.{IsLater, failed, was-refused, step-refused, scene-refused, load-refused, step-kind, HasFault, early, fault-line, fault-undefined, fault-early, IsRefusal, IsRunFault, judging-refused}
 use Rattle.tomoyo.specs.declared.sort.Sorting.{Sorting}
 use Rattle.tomoyo.specs.Sort.{of_audit, of_rules, few_rules, sort_reading}
 use Rattle.tomoyo.specs.Call.{scene_wants, wants_of, refusal_of, IsLoadFault, IsStepFault, IsSortFault}

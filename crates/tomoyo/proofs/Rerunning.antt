@@ -14,8 +14,8 @@ use Rattle.tm_types.specs.declared.policy.Policy.{Policy}
 use Rattle.tm_types.specs.declared.policy.Profile.{Profile}
 use Rattle.tm_types.specs.declared.request.Tree.{Tree}
 use Rattle.tm_types.specs.declared.step.Run.{Run}
-use Rattle.tm_grammar.specs.Tomoyo.{tomoyo_grammar}
-use Rattle.tm_grammar.proofs.IsOne.{is_one}
+use Rattle.tm_run_laws.specs.Tomoyo.{tomoyo_grammar}
+use Rattle.tm_run_laws.proofs.IsOne.{is_one}
 use Rattle.tm_legal.specs.Clean.{switched, switched_profile}
 use Rattle.tm_legal.specs.Steps.{after}
 use Rattle.tm_legal.specs.Legal.{Scene, Legal, state_at, final_policy}
@@ -28,12 +28,12 @@ use Rattle.tm_legal.proofs.Histories.{state_at-newest}
 use Rattle.tm_rerun.specs.Rerun.{rerun_text}
 use Rattle.tomoyo.specs.declared.way.Way.{Way}
 use Rattle.tomoyo.specs.declared.play.Played.{Played}
-use Rattle.tm_call_input.specs.declared.reading.Loaded.{Loaded}
+use Rattle.tm_gen_laws.specs.CallInputLoaded.{Loaded}
 use Rattle.tomoyo.specs.declared.learn.RerunTexts.{RerunTexts}
-use Rattle.tm_call_input.specs.Reading.{homeless, scene_of}
+use Rattle.tm_gen_laws.specs.Reading.{homeless, scene_of}
 use Rattle.tomoyo.specs.Play.{IsPlayOf, IsPrinted}
 use Rattle.tomoyo.specs.Rerun.{again, nobody_else, CanRerun, IsPlayAlone, IsRerunPrinted, Reruns, IsRepeated, LearnsLoaded}
-use Rattle.tm_call_input.proofs.Readings.{homes-there}
+use Rattle.tm_gen_laws.proofs.Readings.{homes-there}
 
 -- What a rerun needs
 

@@ -18,10 +18,10 @@ use Rattle.tm_call.specs.declared.fetches.Want.{Want}
 use Rattle.tm_call.specs.Fetches.{Texts, TellsAll, told, told_texts}
 use Rattle.tm_call.specs.Stores.{is_named}
 use Rattle.tm_call.specs.Ends.{Outside}
-use Rattle.tm_call_input.specs.declared.reading.Loaded.{Loaded}
-use Rattle.tm_call_input.specs.Policies.{policy_of}
-use Rattle.tm_call_input.specs.Reading.{parts_reading, scene_reading, scene_of}
-use Rattle.tm_call_input.proofs.Readings.{step-scene, judging-read}
+use Rattle.tm_gen_laws.specs.CallInputLoaded.{Loaded}
+use Rattle.tm_gen_laws.specs.Policies.{policy_of}
+use Rattle.tm_gen_laws.specs.Reading.{parts_reading, scene_reading, scene_of}
+use Rattle.tm_gen_laws.proofs.Readings.{step-scene, judging-read}
 use Rattle.tomoyo.specs.declared.way.Way.{Way}
 use Rattle.tomoyo.specs.Play.{reading_of}
 use Rattle.tomoyo.specs.Verify.{verdict_text}

@@ -5,9 +5,9 @@ use Rattle.tm_rules.specs.Few.{IsFew}
 use Rattle.tm_io.specs.declared.names.FileName.{FileName}
 use Rattle.tm_trace.proofs.TraceRead.{trace_read}
 use Rattle.tm_call.specs.Fetches.{Texts, content}
-use Rattle.tm_call_input.specs.declared.reading.Loaded.{Loaded}
-use Rattle.tm_call_input.specs.Reading.{refused, step_refusal}
-use Rattle.tm_call_input.proofs.Readings.{AreRead, scene-read, step-read, can-play}
+use Rattle.tm_gen_laws.specs.CallInputLoaded.{Loaded}
+use Rattle.tm_gen_laws.specs.Reading.{refused, step_refusal}
+use Rattle.tm_gen_laws.proofs.Readings.{AreRead, scene-read, step-read, can-play}
 use Rattle.tomoyo.specs.declared.way.Way.{Way}
 use Rattle.tomoyo.specs.Play.{reading_of, refusal_by}
 use Rattle.tomoyo.specs.Closures.{IsPlayable}

@@ -31,14 +31,14 @@ use Rattle.tm_call.specs.Ends.{Outside, Untouched, Ends}
 use Rattle.tm_types.specs.declared.step.Run.{Run}
 use Rattle.tm_legal.specs.Legal.{Legal}
 use Rattle.tm_run.specs.Reading.{run_of}
-use Rattle.tm_call_input.specs.declared.reading.Loaded.{Loaded}
-use Rattle.tm_call_input.specs.declared.reading.Judging.{Judging}
-use Rattle.tm_call_input.specs.Reading.{refused, scene_reading, judging_reading, step_refusal, scene_of, RefusedBy}
+use Rattle.tm_gen_laws.specs.CallInputLoaded.{Loaded}
+use Rattle.tm_gen_laws.specs.Judging.{Judging}
+use Rattle.tm_gen_laws.specs.Reading.{refused, scene_reading, judging_reading, step_refusal, scene_of, RefusedBy}
 use Rattle.tm_verify_laws.specs.declared.broken.Broken.{Broken}
 use Rattle.tm_verify.specs.Verified.{IsVerified}
 use Rattle.tomoyo.specs.Play.{Plays}
 use Rattle.tomoyo.specs.Rerun.{Learns}
-use Rattle.tm_call_input.specs.Policies.{policy_of, policy_refusal}
+use Rattle.tm_gen_laws.specs.Policies.{policy_of, policy_refusal}
 use Rattle.tm_gen_laws.specs.Generated.{generated_files}
 use Rattle.tm_sort.specs.declared.rules.Rule.{Rule}
 use Rattle.tm_sort.specs.declared.parts.Part.{Part}

@@ -11,8 +11,8 @@ use Rattle.tm_call.specs.declared.words.Command.{Command}
 use Rattle.tm_call.specs.declared.status.Status.{Status}
 use Rattle.tm_call.specs.declared.carry.Outcome.{Outcome}
 use Rattle.tm_call.specs.Fetches.{Texts}
-use Rattle.tm_call_input.specs.declared.reading.Loaded.{Loaded}
-use Rattle.tm_call_input.specs.Reading.{start_of, scene_of}
+use Rattle.tm_gen_laws.specs.CallInputLoaded.{Loaded}
+use Rattle.tm_gen_laws.specs.Reading.{start_of, scene_of}
 use Rattle.tomoyo.specs.declared.way.Way.{Way}
 use Rattle.tomoyo.specs.Play.{IsPlayOf}
 use Rattle.tomoyo.specs.Call.{Refuses, Allows}

@@ -19,10 +19,10 @@ use Rattle.tm_text.specs.ProfileText.{profile_text}
 use Rattle.tomoyo.specs.declared.play.Printed.{Printed}
 use Rattle.tomoyo.specs.declared.play.Played.{Played}
 use Rattle.tomoyo.specs.declared.way.Way.{Way}
-use Rattle.tm_call_input.specs.declared.reading.Loaded.{Loaded}
+use Rattle.tm_gen_laws.specs.CallInputLoaded.{Loaded}
 use Rattle.tm_call.specs.declared.status.Status.{Status}
 use Rattle.tm_call.specs.Fetches.{Texts}
-use Rattle.tm_call_input.specs.Reading.{refused, step_reading, step_refusal, scene_reading, scene_of}
+use Rattle.tm_gen_laws.specs.Reading.{refused, step_reading, step_refusal, scene_reading, scene_of}
 
 -- what is read of the files; threads have no schedule
 abbrev pub reading_of : Way → Texts → Result Loaded Status

@@ -8,7 +8,7 @@ use Rattle.tm_rules.specs.Clean.{is_plain, is_clean}
 use Rattle.tm_types.specs.declared.policy.Policy.{Policy}
 use Rattle.tm_types.specs.declared.request.Tree.{Tree}
 use Rattle.tm_types.specs.declared.step.Run.{Run}
-use Rattle.tm_grammar.specs.Tomoyo.{tomoyo_grammar}
+use Rattle.tm_run_laws.specs.Tomoyo.{tomoyo_grammar}
 use Rattle.tm_legal.specs.Clean.{switched, SameDomains}
 use Rattle.tm_legal.specs.Legal.{Scene, Legal, final_policy}
 use Rattle.tm_legal.specs.Play.{IsOpened, IsNamed}
@@ -20,9 +20,9 @@ use Rattle.tm_rerun.specs.Rerun.{rerun_text}
 use Rattle.tomoyo.specs.declared.learn.RerunTexts.{RerunTexts}
 use Rattle.tomoyo.specs.declared.learn.Learned.{Learned}
 use Rattle.tomoyo.specs.declared.way.Way.{Way}
-use Rattle.tm_call_input.specs.declared.reading.Loaded.{Loaded}
+use Rattle.tm_gen_laws.specs.CallInputLoaded.{Loaded}
 use Rattle.tm_call.specs.Fetches.{Texts}
-use Rattle.tm_call_input.specs.Reading.{homeless, scene_of}
+use Rattle.tm_gen_laws.specs.Reading.{homeless, scene_of}
 use Rattle.tomoyo.specs.Play.{reading_of, Came, audits_of, IsPrinted}
 
 -- the trace under a policy with its profiles enforcing: no editors, and no supervisor

@@ -1,11 +1,11 @@
 //! The rerun of a run: the same trace under the run's final policy with its profiles enforcing.
 ghost use Rattle.std.specs.Prelude.{◌≡◌, IfOk, IfErr, None};
 ghost use Rattle.tm_rules.specs.Few.{IsFew};
-ghost use Rattle.tm_grammar.specs.Tomoyo.{tomoyo_grammar};
+ghost use Rattle.tm_run_laws.specs.Tomoyo.{tomoyo_grammar};
 ghost use Rattle.tm_legal.specs.Play.{CanPlay};
 ghost use Rattle.tm_legal.specs.Replay.{alone};
 ghost use Rattle.tm_trace.specs.Written.{IsTrace};
-ghost use Rattle.tm_call_input.specs.Reading.{RefusedBy};
+ghost use Rattle.tm_gen_laws.specs.Reading.{RefusedBy};
 ghost use Rattle.tomoyo.specs.Play.{refusal_by};
 ghost use Rattle.tomoyo.specs.Closures.{IsPlayable, PlaysSo};
 ghost use Rattle.tomoyo.specs.Rerun.{nobody_else, CanRerun, IsPlayAlone, IsRerunPrinted, Reruns, LearnsLoaded, Learns};
@@ -15,8 +15,7 @@ use crate::way::Way;
 use crate::ways::{Ended, Playing, run_by_turns};
 use std::alloc::Global;
 use tm_call::Status;
-use tm_call_input::{Loaded, homeless};
-use tm_indexed::Indexed;
+use tm_gen_laws::call_input::{Loaded, homeless};
 use tm_io::FileList;
 use tm_list::{Copied, NoMemory, Seq};
 use tm_rerun::{has_same_domains, rerun_line, switched};
@@ -27,6 +26,7 @@ use tm_run::print_run;
 use tm_types::policy::Policy;
 use tm_types::request::Trace;
 use tm_types::step::{Book, Run};
+use tm_verify::indexed::Indexed;
 use tm_word::Text;
 
 /// What a rerun gives: the text of its run, the audit texts of its takes, and the line that it adds

@@ -2,7 +2,7 @@
 ghost use Rattle.std.specs.Prelude.{◌≡◌, ◌<◌, ◌≤◌, [], true, None, IfOk, IfErr};
 ghost use Rattle.tm_call.specs.Words.{is_alone, IsSized};
 ghost use Rattle.tm_call.specs.declared.words.Command.{Command};
-ghost use Rattle.tm_call_input.specs.Reading.{RefusedBy};
+ghost use Rattle.tm_gen_laws.specs.Reading.{RefusedBy};
 ghost use Rattle.tm_gen_laws.specs.Generated.{generated_files};
 ghost use Rattle.tomoyo.specs.Play.{refusal_by, Plays};
 ghost use Rattle.tomoyo.specs.Closures.{IsPlayable, IsEnded, PlaysSo};
@@ -19,8 +19,8 @@ use std::alloc::{AllocError, Global};
 use std::sync::Wait;
 use std::thread::Threads;
 use tm_call::{Command, Outcome, Status};
-use tm_call_input::{Loaded, load_files};
 use tm_engine::gate::Gate;
+use tm_gen_laws::call_input::{Loaded, load_files};
 use tm_gen_laws::generated_files_are_never_refused;
 use tm_io::FileList;
 use tm_list::NoMemory;

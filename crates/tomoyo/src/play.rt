@@ -6,14 +6,14 @@ ghost use Rattle.tm_text.specs.DomainText.{domain_text};
 ghost use Rattle.tm_text.specs.ExceptionText.{exception_text};
 ghost use Rattle.tm_text.specs.ManagerText.{manager_text};
 ghost use Rattle.tm_text.specs.ProfileText.{profile_text};
-ghost use Rattle.tm_call_input.specs.Reading.{RefusedBy};
+ghost use Rattle.tm_gen_laws.specs.Reading.{RefusedBy};
 ghost use Rattle.tomoyo.specs.Play.{refusal_by, PlaysLoaded, Plays, audit_word, audits_of, IsPrinted, IsPolicyPrinted};
 ghost use Rattle.tomoyo.specs.Closures.{IsPlayable, PlaysSo};
 
 use crate::ways::{Ended, Playing};
 use std::alloc::Global;
 use tm_call::Status;
-use tm_call_input::Loaded;
+use tm_gen_laws::call_input::Loaded;
 use tm_io::FileList;
 use tm_list::NoMemory;
 use tm_rerun::summary_line;

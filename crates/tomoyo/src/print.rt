@@ -6,8 +6,8 @@ ghost use Rattle.tomoyo.specs.Print.{counts_text};
 use std::alloc::Global;
 use tm_list::NoMemory;
 use tm_number::{Base, Number, write_number};
-use tm_policy::count_live;
 use tm_types::policy::Policy;
+use tm_verify::policy::count_live;
 use tm_word::Text;
 
 /// Appends a count.

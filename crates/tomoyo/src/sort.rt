@@ -5,7 +5,7 @@ ghost use Rattle.tm_sort.specs.Records.{records_of};
 ghost use Rattle.tm_sort.specs.Rules.{rules_of};
 ghost use Rattle.tm_io.specs.declared.names.FileName.{FileName};
 ghost use Rattle.tm_call.specs.Fetches.{content};
-ghost use Rattle.tm_call_input.specs.Reading.{refused, status_cause, RefusedBy};
+ghost use Rattle.tm_gen_laws.specs.Reading.{refused, status_cause, RefusedBy};
 ghost use Rattle.tomoyo.specs.Sort.{of_audit, of_rules, few_rules, sort_reading, part_store, sort_outcome};
 ghost use Rattle.tomoyo.specs.Call.{Allows, Refuses};
 ghost use Rattle.tm_call.specs.declared.words.Command.{Command};

@@ -3,7 +3,7 @@ ghost use Rattle.std.specs.Prelude.{◌≡◌, ◌++◌, Option, IfOk, IfErr, On
 ghost use Rattle.tm_rules.specs.Few.{IsFew};
 ghost use Rattle.tm_legal.specs.Play.{CanPlay};
 ghost use Rattle.tm_call.specs.declared.words.Command.{Command};
-ghost use Rattle.tm_call_input.specs.Reading.{scene_of};
+ghost use Rattle.tm_gen_laws.specs.Reading.{scene_of};
 ghost use Rattle.tm_verify_laws.specs.declared.broken.Broken.{Broken};
 ghost use Rattle.tm_verify.specs.Verified.{IsVerified};
 ghost use Rattle.tomoyo.specs.Verify.{roman, verdict_text, verify_outcome};
@@ -12,11 +12,11 @@ ghost use Rattle.tomoyo.specs.Call.{Allows, Refuses};
 use crate::print::push_count;
 use std::alloc::{AllocError, Global};
 use tm_call::{Outcome, Status};
-use tm_call_input::{Judging, read_judging};
+use tm_gen_laws::call_input::{Judging, read_judging};
 use tm_io::FileList;
 use tm_list::NoMemory;
-use tm_rep::Rep;
 use tm_script::has_supervisor;
+use tm_verify::rep::Rep;
 use tm_verify::{Broken, legal};
 use tm_word::Text;
 

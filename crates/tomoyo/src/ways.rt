@@ -5,8 +5,8 @@ ghost use Rattle.tm_rules.specs.Few.{IsFew};
 ghost use Rattle.tm_trace.specs.Written.{IsTrace};
 ghost use Rattle.tm_script.specs.Written.{has_supervisor};
 ghost use Rattle.tm_legal.specs.Play.{CanPlay};
-ghost use Rattle.tm_machine.specs.Machine.{course_from};
-ghost use Rattle.tm_call_input.specs.Reading.{status_cause, start_of, scene_of};
+ghost use Rattle.tm_steal.specs.Machine.{course_from};
+ghost use Rattle.tm_gen_laws.specs.Reading.{status_cause, start_of, scene_of};
 ghost use Rattle.tomoyo.specs.Play.{reading_of, IsPlayOf};
 ghost use Rattle.tomoyo.specs.Closures.{IsPlayable, IsEnded, PlaysSo};
 
@@ -15,19 +15,19 @@ use std::alloc::{AllocError, Global};
 use std::sync::Wait;
 use std::thread::Threads;
 use tm_call::Status;
-use tm_call_input::{Loaded, read_scene, read_step};
-use tm_core::{into_run, play_out, start_play};
 use tm_desk::{Desk, book_code};
 use tm_engine::gate::Gate;
-use tm_indexed::Indexed;
+use tm_gen_laws::call_input::{Loaded, read_scene, read_step};
 use tm_io::FileList;
 use tm_list::{NoMemory, Seq};
-use tm_machine::Machine;
-use tm_replay::replay_run;
 use tm_script::has_supervisor;
+use tm_steal::machine::Machine;
+use tm_steal::replay::replay_run;
 use tm_steal::steal_run;
 use tm_types::policy::Policy;
 use tm_types::step::{Book, Editor, Query, Run, Start};
+use tm_verify::indexed::Indexed;
+use tm_verify::plays::{into_run, play_out, start_play};
 
 /// A run, its opening, and the policy at its last version; or want of memory.
 pub type Ended = Result<(Run, Start, Policy), NoMemory>;

@@ -1,8 +1,8 @@
 use Rattle.std.proofs.Common.{◌≡◌, ◌&&◌, ℕ, List, drop}
 use Rattle.std.specs.List.{position_from}
-use Rattle.tm_word.specs.declared.Component.{Component}
-use Rattle.tm_word.specs.Matching.{matches}
-use Rattle.tm_word.specs.Texts.{texts_equal}
+use Rattle.tm_pattern.specs.Component.{Component}
+use Rattle.tm_pattern.specs.Matching.{matches}
+use Rattle.tm_pattern.specs.Texts.{texts_equal}
 use Rattle.tm_union.proofs.first_member.Given as goal
 
 -- the first one from here on is the first one of all

@@ -1,6 +1,6 @@
 use Rattle.std.proofs.Common.{ap, ◌∙◌}
 use Rattle.std.specs.Prelude.{option_map}
-use Rattle.tm_types.specs.declared.unions.NamePlace.{NamePlace}
+use Rattle.tm_rules.specs.NamePlace.{NamePlace}
 use Rattle.tm_rules.specs.Group.{name_in}
 use Rattle.tm_union.proofs.name_in.Goals as goal
 

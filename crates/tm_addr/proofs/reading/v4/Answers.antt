@@ -1,5 +1,5 @@
 use Rattle.std.proofs.Common.{◌==◌, refl}
-use Rattle.tm_word.proofs.Cuts.{pieces_of}
+use Rattle.tm_number.proofs.Cuts.{pieces_of}
 use Rattle.tm_addr.specs.Reading.{v4_of}
 use Rattle.tm_addr.proofs.reading.v4.Goals as goal
 

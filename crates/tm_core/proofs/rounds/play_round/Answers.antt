@@ -3,7 +3,7 @@ use Rattle.std.specs.Prelude.{List, Some, is_some}
 use Rattle.tm_types.specs.declared.step.Start.{Start}
 use Rattle.tm_types.specs.declared.step.Turn.{Turn}
 use Rattle.tm_desk.specs.Desks.{desk_book}
-use Rattle.tm_grammar.specs.Tomoyo.{tomoyo_grammar}
+use Rattle.tm_audit.specs.Tomoyo.{tomoyo_grammar}
 use Rattle.tm_legal.specs.Play.{numbers_to, player_event}
 use Rattle.tm_core.specs.Scenes.{scene_of}
 use Rattle.tm_core.specs.Rounds.{HasPlayed}

@@ -3,7 +3,7 @@ use Rattle.std.specs.Prelude.{None}
 use Rattle.tm_word.specs.Texts.{lines_of}
 use Rattle.tm_rules.specs.Few.{IsFew}
 use Rattle.tm_rules.specs.Load.{load_lines}
-use Rattle.tm_grammar.specs.Tomoyo.{tomoyo_grammar}
+use Rattle.tm_rep.specs.Tomoyo.{tomoyo_grammar}
 use Rattle.tm_policy.proofs.loading.load_file.Given as goal
 
 -- from here on it gives what the whole gives

@@ -2,7 +2,7 @@ use Rattle.std.proofs.Common.{subst}
 use Rattle.std.specs.Prelude.{IsSome}
 use Rattle.std.proofs.lemmas.Result.{IfOk-weaker}
 use Rattle.tm_types.specs.declared.step.Start.{Start}
-use Rattle.tm_grammar.specs.Tomoyo.{tomoyo_grammar}
+use Rattle.tm_machine.specs.Tomoyo.{tomoyo_grammar}
 use Rattle.tm_legal.specs.Steps.{apply}
 use Rattle.tm_publish.specs.Words.{known}
 use Rattle.tm_seat.specs.Seats.{state_of, FitsFrom, IsMade}

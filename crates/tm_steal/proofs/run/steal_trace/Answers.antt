@@ -4,8 +4,8 @@ use Rattle.tm_types.specs.declared.step.Start.{Start}
 use Rattle.tm_legal.specs.Steps.{State}
 use Rattle.tm_rules.specs.Words.{Trace}
 use Rattle.tm_desk.specs.Desks.{desk_book}
-use Rattle.tm_machine.specs.Office.{list_of}
-use Rattle.tm_parts.specs.Parts.{PlayedTogether}
+use Rattle.tm_replay.specs.Office.{list_of}
+use Rattle.tm_replay.specs.Parts.{PlayedTogether}
 use Rattle.tm_steal_rows.specs.Playing.{HandDid}
 use Rattle.tm_steal_rows.specs.Gathering.{homes_of, IsGathered}
 use Rattle.tm_steal.proofs.run.steal_trace.Goals as goal

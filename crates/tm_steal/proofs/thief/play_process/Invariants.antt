@@ -1,5 +1,5 @@
 use Rattle.std.proofs.Common.{◌≡◌}
-use Rattle.tm_seat.specs.Seats.{Begins}
+use Rattle.tm_replay.specs.SeatSeats.{Begins}
 use Rattle.tm_steal.specs.Boards.{GoesOn}
 use Rattle.tm_steal.proofs.thief.play_process.Given as goal
 

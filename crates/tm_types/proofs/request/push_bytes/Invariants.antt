@@ -1,5 +1,5 @@
 use Rattle.std.proofs.Common.{◌≡◌, ◌++◌, take, flat_map}
-use Rattle.tm_word.specs.Printing.{element_bytes}
+use Rattle.tm_number.specs.Printing.{element_bytes}
 use Rattle.tm_types.proofs.request.push_bytes.Given as goal
 
 abbrev pub invariant-loop-element : goal.invariant-loop-element

@@ -1,6 +1,6 @@
 use Rattle.std.proofs.Common.{◌≡◌, ◌∷◌, ◌++◌, take, flat_map}
-use Rattle.tm_word.specs.declared.Component.{Component}
-use Rattle.tm_word.specs.Printing.{element_bytes}
+use Rattle.tm_number.specs.Component.{Component}
+use Rattle.tm_number.specs.Printing.{element_bytes}
 use Rattle.tm_types.proofs.request.push_components.Given as goal
 
 abbrev pub invariant-loop-component : goal.invariant-loop-component

@@ -1,6 +1,6 @@
 use Rattle.std.proofs.Common.{sym, subst}
 use Rattle.tm_rules.specs.Few.{IsFew}
-use Rattle.tm_call_input.specs.declared.reading.Loaded.{Loaded}
+use Rattle.tm_gen_laws.specs.CallInputLoaded.{Loaded}
 use Rattle.tm_trace.specs.Written.{IsTrace}
 use Rattle.tomoyo.proofs.Rerunning.{alone-so, can-alone}
 use Rattle.tomoyo.proofs.learn.play_alone.Goals as goal

@@ -2,11 +2,11 @@ use Rattle.std.proofs.Common.{◌≡◌, ◌∙◌, sym, subst}
 use Rattle.std.specs.Prelude.{None}
 use Rattle.tm_rules.specs.Few.{IsFew}
 use Rattle.tm_types.specs.declared.policy.Policy.{Policy}
-use Rattle.tm_grammar.specs.Tomoyo.{tomoyo_grammar}
+use Rattle.tm_run_laws.specs.Tomoyo.{tomoyo_grammar}
 use Rattle.tm_legal.specs.Clean.{switched}
 use Rattle.tm_legal.specs.Play.{CanPlay}
 use Rattle.tm_legal.specs.Replay.{alone}
-use Rattle.tm_call_input.specs.Reading.{homeless}
+use Rattle.tm_gen_laws.specs.Reading.{homeless}
 use Rattle.tomoyo.specs.Rerun.{again, IsPlayAlone}
 use Rattle.tomoyo.proofs.Rerunning.{few-switched, all-at-home, can-rerun, homes-kept, rerun-so}
 use Rattle.tomoyo.proofs.learn.rerun_of.Goals as goal

@@ -1,8 +1,8 @@
 use Rattle.std.proofs.Common.{subst}
 use Rattle.std.specs.Prelude.{Option}
 use Rattle.tm_call.specs.declared.status.Status.{Status}
-use Rattle.tm_call_input.specs.Reading.{RefusedBy}
-use Rattle.tm_call_input.proofs.Refusals.{refuses}
+use Rattle.tm_gen_laws.specs.Reading.{RefusedBy}
+use Rattle.tm_gen_laws.proofs.Refusals.{refuses}
 use Rattle.tomoyo.specs.Play.{reading_of}
 use Rattle.tomoyo.proofs.ReadBack.{read-back}
 use Rattle.tomoyo.proofs.WayLaws.{refused-by, none-refused, way-read, playable}

@@ -1,4 +1,4 @@
-use Rattle.tm_call_input.proofs.Readings.{scene-read, judging-read, can-play}
+use Rattle.tm_gen_laws.proofs.Readings.{scene-read, judging-read, can-play}
 use Rattle.tomoyo.proofs.verify.make_verify.Goals as goal
 
 pub verify_outcome-requires-clause-can : goal.verify_outcome-requires-clause-can

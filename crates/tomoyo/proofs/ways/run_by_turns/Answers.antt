@@ -1,13 +1,13 @@
 use Rattle.std.proofs.Common.{rules, ◌≡◌, ◌∙◌, sym, ap, subst}
 use Rattle.tm_desk.specs.Desks.{desk_book}
 use Rattle.tm_types.specs.declared.step.Book.{Book}
-use Rattle.tm_machine.specs.Machine.{Course}
+use Rattle.tm_steal.specs.Machine.{Course}
 use Rattle.tm_legal.specs.Play.{Player}
 use Rattle.tm_legal.specs.Play as core
-use Rattle.tm_core.specs.Scenes.{IsReached}
-use Rattle.tm_core.specs.Scenes as scenes
-use Rattle.tm_core.specs.Players.{course_of, player_of}
-use Rattle.tm_call_input.specs.Reading.{start_of}
+use Rattle.tm_verify.specs.Scenes.{IsReached}
+use Rattle.tm_verify.specs.Scenes as scenes
+use Rattle.tm_verify.specs.Players.{course_of, player_of}
+use Rattle.tm_gen_laws.specs.Reading.{start_of}
 use Rattle.tomoyo.proofs.Playing.{reached, play-of}
 use Rattle.tomoyo.proofs.ways.run_by_turns.Goals as goal
 

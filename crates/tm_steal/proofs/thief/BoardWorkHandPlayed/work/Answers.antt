@@ -1,5 +1,5 @@
 use Rattle.std.proofs.Common.{List, sym, subst}
-use Rattle.tm_seat.specs.Rows.{Shift}
+use Rattle.tm_replay.specs.Rows.{Shift}
 use Rattle.tm_steal_rows.specs.declared.played.Played.{Played}
 use Rattle.tm_steal_rows.specs.Playing.{IsStealing}
 use Rattle.tm_steal.proofs.thief.BoardWorkHandPlayed.work.Goals as goal

@@ -1,0 +1,1 @@
+pub use Rattle.tm_learn.specs.Counting
