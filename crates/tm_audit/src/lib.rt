@@ -77,6 +77,10 @@ fn reason_text(reason: Reason) -> &'static [u8]
     }
 }
 
+/// Room for most texts, so that they are made without moving. What is kept of a text is made
+/// anew, without the room that is left.
+const TEXT_ROOM: usize = 1024;
+
 /// Appends a key and a number, or a part of it.
 fn push_id(alloc: Global, key: &[u8], id: u32, out: &mut Vec<u8>) -> Result<(), NoMemory>
     ensures { OnOk result (out.new.items ≡ out.old.items ++ key.now ++ decimal id) }
@@ -112,7 +116,8 @@ fn header(
 ) -> Result<Vec<u8>, NoMemory>
     ensures { IfOk result (λ text. text.items ≡ header domain.now mode process.now reason) }
 {
-    let mut text = Vec::from_slice(alloc, b"profile=")?;
+    let mut text = Vec::with_capacity(alloc, TEXT_ROOM)?;
+    text.extend_from_slice(b"profile=")?;
     write_decimal(alloc, u64::from(domain.profile), &mut text)?;
     text.extend_from_slice(b" mode=")?;
     text.extend_from_slice(mode.text().as_bytes())?;
@@ -142,7 +147,7 @@ fn lines(
     text.push(b'\n')?;
     print_request(alloc, request, &mut text)?;
     text.extend_from_slice(b"\n\n")?;
-    Ok(Seq::from_vec(text))
+    Seq::from_bytes(alloc, text.as_slice())
 }
 
 /// The mode of the text of this verdict, where one is made. Takes no memory.

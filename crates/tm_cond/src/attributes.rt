@@ -128,23 +128,19 @@ pub fn number_of(attr: &Attr, process: &Proc, request: &Request) -> Option<u64>
         Attr::Task(field) => Some(u64::from(id_of(*field, process))),
         Attr::Argc => {
             if is_execute(request) {
-                Some(request.attributes().argv.len() as u64)
+                Some(request.argv().len() as u64)
             } else {
                 None
             }
         }
         Attr::Envc => {
             if is_execute(request) {
-                Some(request.attributes().envp.len() as u64)
+                Some(request.envp().len() as u64)
             } else {
                 None
             }
         }
-        Attr::Stat(place, field) => first_number(
-            request.attributes().stats.as_slice(),
-            *place,
-            *field,
-        ),
+        Attr::Stat(place, field) => first_number(request.stats(), *place, *field),
         Attr::Kind(_) | Attr::Argv(_) | Attr::Envp(_) | Attr::RealPath | Attr::Target => None,
     }
 }
@@ -155,31 +151,24 @@ pub fn number_of(attr: &Attr, process: &Proc, request: &Request) -> Option<u64>
 pub fn word_of<'a>(attr: &Attr, request: &'a Request) -> Option<&'a Word>
     ensures { option_copied result ≡ word_of attr.now request.now }
 {
-    let attributes = request.attributes();
     let executes = is_execute(request);
     match attr {
         Attr::Argv(place) => {
             if executes {
-                attributes.argv.get(*place as usize)
+                request.argv().get(*place as usize)
             } else {
                 None
             }
         }
         Attr::Envp(name) => {
             if executes {
-                value_of(attributes.envp.as_slice(), name)
+                value_of(request.envp(), name)
             } else {
                 None
             }
         }
-        Attr::RealPath => {
-            if executes {
-                attributes.real_path.as_ref()
-            } else {
-                None
-            }
-        }
-        Attr::Target => attributes.target.as_ref(),
+        Attr::RealPath => { if executes { request.real_path() } else { None } }
+        Attr::Target => request.target(),
         Attr::Task(_) | Attr::Argc | Attr::Envc | Attr::Stat(_, _) | Attr::Kind(_) => None,
     }
 }

@@ -83,9 +83,9 @@ fn push_envp(alloc: Global, name: &Word, out: &mut Vec<u8>) -> Result<(), NoMemo
     out.extend_from_slice(b"]")
 }
 
-// Appends an attribute.
+/// Appends an attribute as it is written. After want of memory a part of it may stand there.
 #[tactic(auto, unfolding(crate::specs::Attributes::attr_text))]
-fn push_attr(alloc: Global, attr: &Attr, out: &mut Vec<u8>) -> Result<(), NoMemory>
+pub fn push_attr(alloc: Global, attr: &Attr, out: &mut Vec<u8>) -> Result<(), NoMemory>
     ensures { OnOk result (out.new.items ≡ out.old.items ++ attr_text attr.now) }
 {
     match attr {
@@ -99,24 +99,6 @@ fn push_attr(alloc: Global, attr: &Attr, out: &mut Vec<u8>) -> Result<(), NoMemo
         Attr::RealPath => out.extend_from_slice(b"exec.realpath"),
         Attr::Target => out.extend_from_slice(b"symlink.target"),
     }
-}
-
-// How an attribute is written.
-fn attr_text(alloc: Global, attr: &Attr) -> Result<Vec<u8>, NoMemory>
-    ensures { IfOk result (λ text. text.items ≡ attr_text attr.now) }
-{
-    let mut text = Vec::new(alloc);
-    push_attr(alloc, attr, &mut text)?;
-    Ok(text)
-}
-
-/// Appends an attribute as it is written. After want of memory `out` is as before.
-pub fn print_attr(alloc: Global, attr: &Attr, out: &mut Vec<u8>) -> Result<(), NoMemory>
-    ensures ok { OnOk result (out.new.items ≡ out.old.items ++ attr_text attr.now) }
-    ensures err { OnErr result (out.new.items ≡ out.old.items) }
-{
-    let text = attr_text(alloc, attr)?;
-    out.extend_from_slice(&text)
 }
 
 // Appends a right side.

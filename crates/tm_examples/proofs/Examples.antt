@@ -3,6 +3,7 @@ use Rattle.std.specs.Prelude.{ℕ, ◌^◌, Bool, true, false, List, [], ◌∷�
 use Rattle.std.specs.List.{find}
 use Rattle.std.specs.Fmt.{digits}
 use Rattle.tm_word.specs.Words.{Text, Pattern}
+use Rattle.tm_types.specs.Request.{no_attributes}
 use Rattle.tm_types.specs.declared.unions.NameUnion.{NameUnion}
 use Rattle.tm_types.specs.declared.entry.Args.{Args}
 use Rattle.tm_types.specs.declared.entry.Attr.{Attr}
@@ -20,7 +21,6 @@ use Rattle.tm_types.specs.declared.step.FileKind.{FileKind}
 use Rattle.tm_types.specs.declared.entry.LineKind.{LineKind}
 use Rattle.tm_types.specs.declared.request.Ids.{Ids}
 use Rattle.tm_types.specs.declared.request.Proc.{Proc}
-use Rattle.tm_types.specs.declared.request.Attributes.{Attributes}
 use Rattle.tm_types.specs.declared.request.Request.{Request}
 use Rattle.tm_types.specs.declared.request.Item.{Item}
 use Rattle.tm_types.specs.declared.request.Tree.{Tree}
@@ -87,9 +87,6 @@ plain_cond = record { clauses = []; grant_log = None }
 
 abbrev pub file_line : ℕ → Pattern → Entry
 file_line perms name = record { args = Args.Path (NameUnion.One name); perms = record { bits = perms }; cond = plain_cond }
-
-abbrev pub no_attributes : Attributes
-no_attributes = record { real_path = None; argv = []; envp = []; target = None; stats = [] }
 
 abbrev pub file_request : ℕ → Text → Request
 file_request perm name = record { args = Args.Path (NameUnion.One (literal name)); perm = perm; attributes = no_attributes }

@@ -6,6 +6,7 @@ use Rattle.tm_word.specs.declared.Repeat.{Repeat}
 use Rattle.tm_word.specs.declared.Element.{Element}
 use Rattle.tm_number.specs.declared.Base.{Base}
 use Rattle.tm_number.specs.declared.Addr.{Addr}
+use Rattle.tm_types.specs.Request.{no_attributes}
 use Rattle.tm_types.specs.declared.unions.NameUnion.{NameUnion}
 use Rattle.tm_types.specs.declared.unions.NumberUnion.{NumberUnion}
 use Rattle.tm_types.specs.declared.unions.AddrUnion.{AddrUnion}
@@ -31,7 +32,7 @@ use Rattle.tm_legal.specs.Clean.{domain_names}
 use Rattle.tm_legal.specs.Replay.{rerun_scene}
 use Rattle.tm_legal.specs.Play.{rounds, start_of, run_of, NobodyCanMove}
 use Rattle.tm_rerun.specs.Summary.{summary_text}
-use Rattle.tm_examples.proofs.Examples.{computed, «<kernel>», no_groups, domain, policy_of, file_line, read, file_request, execute, no_attributes, begins_with_slash, grammar}
+use Rattle.tm_examples.proofs.Examples.{computed, «<kernel>», no_groups, domain, policy_of, file_line, read, file_request, execute, begins_with_slash, grammar}
 
 abbrev logged : Mode → Profile
 logged mode = record { comment = []; max_audit_log = 1024; max_learning_entry = 2048; config = record { mode = mode; logs = record { grant = false; reject = true } }; slots = [] }

@@ -7,6 +7,7 @@ use Rattle.tm_word.specs.declared.Component.{Component}
 use Rattle.tm_number.specs.declared.Base.{Base}
 use Rattle.tm_number.specs.declared.Number.{Number}
 use Rattle.tm_number.specs.declared.Addr.{Addr}
+use Rattle.tm_types.specs.Request.{no_attributes}
 use Rattle.tm_types.specs.declared.unions.NameUnion.{NameUnion}
 use Rattle.tm_types.specs.declared.unions.NumberUnion.{NumberUnion}
 use Rattle.tm_types.specs.declared.unions.AddrUnion.{AddrUnion}
@@ -54,7 +55,7 @@ use Rattle.tm_rules.specs.Changes.{is_manager}
 use Rattle.tm_rules.specs.Queries.{answer_of}
 use Rattle.tm_legal.specs.Steps.{State, opening, apply, after}
 use Rattle.tm_rules.specs.Book.{book_answer}
-use Rattle.tm_examples.proofs.Examples.{computed, «<kernel>», no_groups, kernel_namespace, domain, policy_of, file_line, read, execute, process, no_ids, no_attributes, begins_with_slash, grammar}
+use Rattle.tm_examples.proofs.Examples.{computed, «<kernel>», no_groups, kernel_namespace, domain, policy_of, file_line, read, execute, process, no_ids, begins_with_slash, grammar}
 
 abbrev plain : List Element → Component
 plain part = record { repeat = Repeat.Once; first = part; minus = [] }

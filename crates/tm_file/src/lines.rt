@@ -86,7 +86,7 @@ fn device_at(alloc: Global, words: &[Text]) -> Result<(Args, &[Text]), LineFault
     let (mode, rest) = number_at(alloc, rest)?;
     let (major, rest) = number_at(alloc, rest)?;
     let (minor, rest) = number_at(alloc, rest)?;
-    Ok((Args::Device(name, mode, major, minor), rest))
+    Ok((Args::device(alloc, name, mode, major, minor)?, rest))
 }
 
 // Two names.
@@ -127,7 +127,7 @@ fn mount_at(alloc: Global, words: &[Text]) -> Result<(Args, &[Text]), LineFault>
     let (dir, rest) = name_at(alloc, rest)?;
     let (kind, rest) = name_at(alloc, rest)?;
     let (flags, rest) = number_at(alloc, rest)?;
-    Ok((Args::Mount(device, dir, kind, flags), rest))
+    Ok((Args::mount(alloc, device, dir, kind, flags)?, rest))
 }
 
 // Permissions of one row, and its arguments.

@@ -46,7 +46,7 @@ pub(crate) fn first_pattern(args: &Args) -> Option<&Pattern>
         Args::PathNumber(name, _) => pattern_of(name),
         Args::Device(name, _, _, _) => pattern_of(name),
         Args::Path2(name, _) => pattern_of(name),
-        Args::Mount(name, _, _, _) => pattern_of(name),
+        Args::Mount(name, _, _, _) => pattern_of(name.get()),
         Args::Inet(_, _, _) => None,
         Args::Unix(_, name) => pattern_of(name),
         Args::Env(pattern) => Some(pattern),

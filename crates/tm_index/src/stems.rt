@@ -107,7 +107,7 @@ pub fn addr_of(args: &Args) -> Option<&AddrUnion>
     ensures { option_copied result ≡ addr_of args.now }
 {
     match args {
-        Args::Inet(_, addr, _) => Some(addr),
+        Args::Inet(_, addr, _) => Some(addr.get()),
         _ => None,
     }
 }

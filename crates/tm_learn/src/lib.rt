@@ -62,15 +62,9 @@ fn push_word(
 fn execute_clauses(alloc: Global, request: &Request) -> Result<Seq<Clause>, NoMemory>
     ensures { IfOk result (λ clauses. clauses ≡ execute_clauses request.now.attributes) }
 {
-    let attributes = request.attributes();
     let mut clauses = Seq::new(alloc);
-    push_word(
-        alloc,
-        Attr::RealPath,
-        attributes.real_path.as_ref(),
-        &mut clauses,
-    )?;
-    push_word(alloc, Attr::Argv(0), attributes.argv.get(0), &mut clauses)?;
+    push_word(alloc, Attr::RealPath, request.real_path(), &mut clauses)?;
+    push_word(alloc, Attr::Argv(0), request.argv().first(), &mut clauses)?;
     Ok(clauses)
 }
 
@@ -78,14 +72,8 @@ fn execute_clauses(alloc: Global, request: &Request) -> Result<Seq<Clause>, NoMe
 fn target_clauses(alloc: Global, request: &Request) -> Result<Seq<Clause>, NoMemory>
     ensures { IfOk result (λ clauses. clauses ≡ target_clauses request.now.attributes) }
 {
-    let attributes = request.attributes();
     let mut clauses = Seq::new(alloc);
-    push_word(
-        alloc,
-        Attr::Target,
-        attributes.target.as_ref(),
-        &mut clauses,
-    )?;
+    push_word(alloc, Attr::Target, request.target(), &mut clauses)?;
     Ok(clauses)
 }
 

@@ -187,12 +187,12 @@ fn attributes_of(
 }
 
 // Whether it is an execute of which the kernel left words out.
-fn is_cut_execute(attributes: &Attributes, header: &Header) -> bool
-    ensures { result ≡ is_cut_execute attributes.now header.now }
+fn is_cut_execute(request: &Request, header: &Header) -> bool
+    ensures { result ≡ is_cut_execute request.now.attributes header.now }
 {
     match &header.exec {
         None => false,
-        Some(exec) => attributes.real_path.is_some() && is_cut(exec),
+        Some(exec) => request.real_path().is_some() && is_cut(exec),
     }
 }
 
@@ -229,7 +229,7 @@ fn asked(alloc: Global, header: &Header, words: &[Text]) -> Result<Request, Reco
 fn told(header: Header, domain: DomainName, request: Request) -> Record
     ensures { result ≡ told header domain request }
 {
-    let cut = is_cut_execute(request.attributes(), &header);
+    let cut = is_cut_execute(&request, &header);
     Record {
         global_pid: header.global_pid,
         process: header.process,

@@ -5,9 +5,8 @@ use Rattle.std.specs.BTreeMap.{is_at, insert_entry}
 use Rattle.std.specs.Map.{lookup}
 use Rattle.tm_word.specs.Words.{Text, Word}
 use Rattle.tm_word.specs.Texts.{texts_equal}
-use Rattle.tm_types.specs.Request.{argument_words}
+use Rattle.tm_types.specs.Request.{argument_words, no_attributes}
 use Rattle.tm_types.specs.declared.entry.Args.{Args}
-use Rattle.tm_types.specs.declared.request.Attributes.{Attributes}
 use Rattle.tm_types.specs.declared.request.Item.{Item}
 use Rattle.tm_types.specs.declared.request.Proc.{Proc}
 use Rattle.tm_types.specs.declared.request.Request.{Request}
@@ -126,7 +125,7 @@ put s origin domain = put_by (settled_in s.list domain) s origin domain
 
 -- the request of a manual transition
 abbrev pub manual_request : DomainName → Request
-manual_request domain = record { args = Args.Manual domain; perm = 0; attributes = record { real_path = None; argv = []; envp = []; target = None; stats = [] } }
+manual_request domain = record { args = Args.Manual domain; perm = 0; attributes = no_attributes }
 
 -- a process goes to this domain by a manual transition
 unfoldable pub gone_manually : Making → ℕ → DomainName → Making

@@ -81,14 +81,7 @@ fn differs(before: Option<u32>, ppid: u32) -> bool
 fn manual_request(alloc: Global, domain: DomainName) -> Result<Request, NoMemory>
     ensures { IfOk result (λ request. request ≡ manual_request domain) }
 {
-    let attributes = Attributes {
-        real_path: None,
-        argv: Seq::new(alloc),
-        envp: Seq::new(alloc),
-        target: None,
-        stats: Seq::new(alloc),
-    };
-    Request::new(alloc, Args::Manual(domain), 0, attributes)
+    Request::new(alloc, Args::Manual(domain), 0, Attributes::none(alloc))
 }
 
 // Whether a word ends like this.

@@ -92,7 +92,7 @@ fn inet_row(
     match request.args() {
         Args::Inet(asked, asked_addr, asked_port) => {
             if inet_place(kind) == inet_place(*asked)
-                && addr_in(groups, addr, &addr_value(asked_addr))
+                && addr_in(groups, addr, &addr_value(asked_addr.get()))
                 && number_in(groups, port, number_value(asked_port))
             {
                 Some(NamePlace::Own)
@@ -183,7 +183,7 @@ pub fn net_args_match(args: &Args, groups: &Groups, request: &Request) -> Option
     ensures { result ≡ net_args_grant groups.now args.now request.now.args }
 {
     match args {
-        Args::Inet(kind, addr, port) => inet_row(*kind, addr, port, groups, request),
+        Args::Inet(kind, addr, port) => inet_row(*kind, addr.get(), port, groups, request),
         Args::Unix(kind, name) => unix_row(*kind, name, groups, request),
         Args::Env(pattern) => env_row(pattern, request),
         Args::Manual(domain) => manual_row(domain, request),

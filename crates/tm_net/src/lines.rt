@@ -109,7 +109,11 @@ fn inet_line(alloc: Global, words: &[Text]) -> Result<(Args, Perms, &[Text]), Li
     let (bits, rest) = perms_at(alloc, inet_permissions(kind), rest)?;
     let (address, rest) = address_at(alloc, rest)?;
     let (port, rest) = number_at(alloc, rest)?;
-    Ok((Args::Inet(kind, address, port), Perms { bits }, rest))
+    Ok((
+        Args::inet(alloc, kind, address, port)?,
+        Perms { bits },
+        rest,
+    ))
 }
 
 // What stands after `network unix`.

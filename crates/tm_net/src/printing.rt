@@ -104,7 +104,7 @@ fn text_of(alloc: Global, args: &Args, bits: u16) -> Result<Vec<u8>, NoMemory>
     ensures { IfOk result (λ text. text.items ≡ joined (net_words args.now bits)) }
 {
     match args {
-        Args::Inet(kind, address, port) => inet_text(alloc, *kind, address, port, bits),
+        Args::Inet(kind, address, port) => inet_text(alloc, *kind, address.get(), port, bits),
         Args::Unix(kind, name) => unix_text(alloc, *kind, name, bits),
         Args::Env(name) => env_text(alloc, name, bits),
         Args::Manual(domain) => manual_text(alloc, domain, bits),

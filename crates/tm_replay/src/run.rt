@@ -270,10 +270,8 @@ pub fn takes_of(alloc: Global, rows: Vec<PlayedTree>) -> Result<Seq<Take>, NoMem
 fn push_all(takes: &mut Vec<Take>, more: Seq<Take>) -> Result<(), NoMemory>
     ensures { OnOk result (takes.new.items ≡ takes.old.items ++ more) }
 {
-    for take in more.into_vec() {
-        takes.push(take)?;
-    }
-    Ok(())
+    let mut more = more.into_vec();
+    takes.append(&mut more)
 }
 
 /// Plays a trace by so many workers beside each other, while the machine's editors make their lines

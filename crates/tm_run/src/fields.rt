@@ -6,6 +6,7 @@ ghost use Rattle.tm_run.specs.Fields.{u8_of, u32_of, u64_of, case_of, reason_of,
 use std::alloc::Global;
 use tm_list::{NoMemory, Seq};
 use tm_number::plain_number;
+use tm_types::brief::Brief;
 use tm_types::step::{Answered, FileKind, Heard};
 use tm_types::verdict::{EntryPlace, Move, Reason};
 use tm_word::{Text, bytes_equal, cut_at, of_word, value_of};
@@ -120,10 +121,10 @@ pub(crate) fn move_of(alloc: Global, word: &[u8]) -> Result<Move, NoMemory>
 }
 
 // The numbers between the commas of a word.
-fn listed(alloc: Global, pieces: &[Text]) -> Result<Seq<u64>, NoMemory>
+fn listed(alloc: Global, pieces: &[Text]) -> Result<Brief<u64>, NoMemory>
     ensures { IfOk result (λ numbers. numbers ≡ map u64_of pieces.now) }
 {
-    let mut numbers = Seq::new(alloc);
+    let mut numbers = Brief::new(alloc);
     for piece in pieces {
         numbers.push(u64_of(piece.bytes()))?;
     }
@@ -131,11 +132,11 @@ fn listed(alloc: Global, pieces: &[Text]) -> Result<Seq<u64>, NoMemory>
 }
 
 #[tactic(auto, unfolding(crate::specs::Fields::numbers_of))]
-pub(crate) fn numbers_of(alloc: Global, word: &[u8]) -> Result<Seq<u64>, NoMemory>
+pub(crate) fn numbers_of(alloc: Global, word: &[u8]) -> Result<Brief<u64>, NoMemory>
     ensures { IfOk result (λ numbers. numbers ≡ numbers_of word.now) }
 {
     if bytes_equal(word, b"-") {
-        return Ok(Seq::new(alloc));
+        return Ok(Brief::new(alloc));
     }
     let found = pieces(alloc, b',', word)?;
     listed(alloc, &found)

@@ -143,8 +143,9 @@ fn play_records<S: Seat>(
     ensures grows { Begins (S.at seat.old) (S.at seat.new) }
 {
     let mut known = ProcessSituations::new(alloc, Some(home));
+    let mut takes = Vec::with_capacity(alloc, records.len())?;
+    played.reserve_exact(records.len())?;
     let mut lines = Lines::new(records);
-    let mut takes = Vec::new(alloc);
     let mut place: u32 = 0;
     while let Some(item) = lines.next() {
         place = place.saturating_add(1);

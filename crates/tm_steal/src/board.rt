@@ -9,7 +9,7 @@ use std::sync::atomic::{AtomicU64, Ordering};
 use tm_list::NoMemory;
 use tm_replay::take::ProcessSituation;
 use tm_steal_rows::{LinePlace, places_of};
-use tm_types::request::{Ids, Proc, Tree};
+use tm_types::request::{Ids, Proc, Request, Tree};
 
 /// A process that can be played: its place among all processes, and where it stands at its start.
 #[derive(Clone, Copy, Drop)]
@@ -18,12 +18,13 @@ pub(crate) struct Job {
     pub(crate) now: ProcessSituation,
 }
 
-/// What a worker has for itself: its number, from 0, and the processes that it plays next, first in
-/// first out, from which others steal.
+/// What a worker has for itself: its number, from 0, the processes that it plays next, first in
+/// first out, from which others steal, and the list in which it frees a request.
 #[derive(Drop)]
 pub(crate) struct Hand {
     pub(crate) number: u32,
     pub(crate) own: Worker<Job>,
+    pub(crate) spent: Vec<Request>,
 }
 
 /// What all workers share: the trace with its processes and the places of its requests in their
@@ -113,7 +114,8 @@ fn empty_hands(alloc: Global, workers: u32) -> Result<Vec<Hand>, NoMemory> {
     let mut hands = Vec::new(alloc);
     for number in 0..workers {
         let own = Worker::new_fifo(alloc, 64)?;
-        hands.push(Hand { number, own })?;
+        let spent = Vec::new(alloc);
+        hands.push(Hand { number, own, spent })?;
     }
     Ok(hands)
 }

@@ -21,13 +21,15 @@ pub(crate) struct Process {
     pub(crate) lines: Vec<Line>,
 }
 
-/// The processes that were met so far: by pid the place of each, and how many `do` lines there
-/// were. The first process of the tree of number t stands at the place `firsts[t - 1]`.
+/// The processes that were met so far: by pid the place of each, the one that was looked for last,
+/// and how many `do` lines there were. The first process of the tree of number t stands at the
+/// place `firsts[t - 1]`.
 #[derive(Drop)]
 pub(crate) struct Processes {
     pub(crate) all: Vec<Process>,
     pub(crate) firsts: Vec<(u32, usize)>,
     places: BTreeMap<u32, usize>,
+    last: Option<(u32, usize)>,
     requests: u64,
 }
 
@@ -38,6 +40,7 @@ impl Processes {
             all: Vec::new(alloc),
             firsts: Vec::new(alloc),
             places: BTreeMap::new(alloc),
+            last: None,
             requests: 0,
         }
     }
@@ -54,11 +57,23 @@ impl Processes {
     }
 
     // The place of a process; one that nobody forked is its tree's too.
-    fn place_of(&mut self, alloc: Global, tree: u32, pid: u32) -> Result<usize, NoMemory> {
+    fn looked_for(&mut self, alloc: Global, tree: u32, pid: u32) -> Result<usize, NoMemory> {
         match self.places.get(&pid) {
             Some(place) => Ok(*place),
             None => self.add(alloc, tree, pid),
         }
+    }
+
+    // The same. Most lines are of the process that the line before is of.
+    fn place_of(&mut self, alloc: Global, tree: u32, pid: u32) -> Result<usize, NoMemory> {
+        if let Some((last, place)) = self.last {
+            if last == pid {
+                return Ok(place);
+            }
+        }
+        let place = self.looked_for(alloc, tree, pid)?;
+        self.last = Some((pid, place));
+        Ok(place)
     }
 
     // A line more of the process at this place.
@@ -104,6 +119,30 @@ impl Processes {
         }
         Ok(())
     }
+}
+
+/// Whether a process may wait for a worker that has nothing to do: where a tree forks, or where
+/// there are more trees than workers.
+pub(crate) fn is_shared(trace: &[Tree], workers: u32) -> bool {
+    if trace.len() > workers as usize {
+        return true;
+    }
+    for tree in trace {
+        if has_fork(tree.records.as_slice()) {
+            return true;
+        }
+    }
+    false
+}
+
+// Whether one of these records forks.
+fn has_fork(records: &[Item]) -> bool {
+    for item in records {
+        if let Item::Fork(_, _) = item {
+            return true;
+        }
+    }
+    false
 }
 
 /// The processes of a trace: the first process of each tree, and every child.

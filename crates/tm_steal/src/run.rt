@@ -13,6 +13,7 @@ ghost use Rattle.tm_steal_rows.specs.Gathering.{homes_of};
 ghost use Rattle.tm_steal.specs.Boards.{AreStolen};
 
 use crate::board::{Hand, board_of};
+use crate::processes::is_shared;
 use std::alloc::Global;
 use std::sync::Wait;
 use std::thread::Threads;
@@ -22,7 +23,7 @@ use tm_list::NoMemory;
 use tm_replay::machine::Machine;
 use tm_replay::rep::Rep;
 use tm_replay::seat::PlayedTree;
-use tm_replay::{play_parts, takes_of};
+use tm_replay::{play_parts, replay_all, replay_run, takes_of};
 use tm_steal_rows::{gather, stolen_runs_are_legal};
 use tm_types::policy::Policy;
 use tm_types::request::{Trace, Tree};
@@ -83,7 +84,8 @@ fn steal_trace<
 /// opening, and ends when all trees have been played. The gate is called before each request is
 /// first looked at, and before each line of an editor. Gives the run, its takes in the order of the
 /// trace, the opening, and the policy at the last version. Each request is copied where it is
-/// played.
+/// played. Where no process would ever wait for a worker, trees are played as `replay_run` plays
+/// them, and nothing is copied.
 ///
 /// Errors: want of memory, or more than 32 threads.
 pub fn steal_run<
@@ -115,6 +117,9 @@ pub fn steal_run<
         final_policy (scene_of machine.start trace (desk_book desk.now)) ended.0 ≡ ended.2) }
     ensures few { IfOk result (λ ended. IsFew ended.2) }
 {
+    if !is_shared(trace.as_slice(), workers) {
+        return replay_run(rt, alloc, machine, trace, workers, desk, gate);
+    }
     stolen_runs_are_legal::<Hand>();
     let (machine, rows) = steal_trace(rt, alloc, machine, &trace, workers, desk, gate)?;
     machine.versions();
@@ -154,6 +159,9 @@ pub fn steal_all<
     ensures opening { IfOk result (λ ended. ended.1.start ≡ machine.start) }
     ensures steps { IfOk result (λ ended. ended.0.steps ≡ history_of ended.1) }
 {
+    if !is_shared(trace.as_slice(), workers) {
+        return replay_all(rt, alloc, machine, trace, workers, desk, gate);
+    }
     stolen_runs_are_legal::<Hand>();
     let (machine, rows) = steal_trace(rt, alloc, machine, trace, workers, desk, gate)?;
     machine.versions();

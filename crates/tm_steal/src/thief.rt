@@ -20,6 +20,7 @@ use tm_replay::take::ProcessSituation;
 use tm_steal_rows::{
     Played, end_trees, lines_can_be_asked, play_line, request_at, workers_steal_on,
 };
+use tm_types::kept::Kept;
 use tm_types::request::{Proc, Request};
 
 // The request of a line, copied, since any worker may need it.
@@ -45,6 +46,7 @@ fn play_request<S: Seat>(
     place: u32,
     line: u64,
     now: ProcessSituation,
+    spent: &mut Vec<Request>,
     played: &mut Vec<Played>,
 ) -> Result<u32, NoMemory>
     requires can { CanBegin (S.opening seat.old) }
@@ -62,9 +64,11 @@ fn play_request<S: Seat>(
         return Err(AllocError);
     }
     let request = request_of(board, alloc, line)?;
-    let taken = play_line(seat, alloc, tree, place, line, now, domain, request, since)?;
+    let taken = play_line(
+        seat, alloc, tree, place, line, now, domain, request, since, spent,
+    )?;
     let after = taken.take.after;
-    played.push(Played::Take(taken))?;
+    played.push(Played::Take(Kept::new(alloc, taken)?))?;
     Ok(after)
 }
 
@@ -113,7 +117,8 @@ fn pass_line<S: Seat>(
             Ok(now)
         }
         Line::Do(number, place) => {
-            let after = play_request(board, seat, alloc, tree, place, number, now, played)?;
+            let spent = &mut hand.spent;
+            let after = play_request(board, seat, alloc, tree, place, number, now, spent, played)?;
             Ok(ProcessSituation {
                 process,
                 domain: Some(after),

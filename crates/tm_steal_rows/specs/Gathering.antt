@@ -24,6 +24,10 @@ abbrev pub IsOwned : (ℕ → Option ℕ) → ℕ → Played → Type 0
 IsOwned owner worker (Played.Take played) = owner played.take.pid ≡ Some worker
 IsOwned owner worker (Played.End tree number) = worker ≡ 0
 
+-- the process of this pid, if one is told, is one that this worker owns
+abbrev pub IsOwnedIf : (ℕ → Option ℕ) → ℕ → Option ℕ → Type 0
+IsOwnedIf owner worker last = IfSome last (λ pid. owner pid ≡ Some worker)
+
 -- all that each worker gives back, where the first of these has that number
 abbrev pub EachOwned : (ℕ → Option ℕ) → ℕ → List (List Played) → Type 0
 EachOwned owner worker [] = ⊤

@@ -13,6 +13,7 @@ ghost use Rattle.tm_steal_rows.specs.declared.played.Played.{Played};
 use std::alloc::Global;
 use tm_list::NoMemory;
 use tm_parts::seat::{Seat, play_take};
+use tm_types::kept::Kept;
 use tm_types::request::Request;
 use tm_types::step::{Made, Maker, Settled, Step, Take};
 use tm_verify_notes::taking::ProcessSituation;
@@ -28,15 +29,16 @@ pub struct PlayedTake {
 }
 
 /// What a worker has played: a take, or the End of the tree of a number, with the number of its
-/// step.
+/// step. Takes are kept apart, since they are put into other orders.
 #[derive(Drop)]
 pub enum Played {
-    Take(PlayedTake),
+    Take(Kept<PlayedTake>),
     End(u32, u64),
 }
 
 /// Plays the request of a line, whose process stands here, in the domain of this number, by a seat
-/// that knows at least so many steps.
+/// that knows at least so many steps. The request is freed; `spent` is what it is put into for
+/// that, so that no list is made for it.
 ///
 /// Errors: want of memory, or that no answer can come any more.
 pub fn play_line<S: Seat>(
@@ -49,6 +51,7 @@ pub fn play_line<S: Seat>(
     domain: u32,
     request: Request,
     since: u64,
+    spent: &mut Vec<Request>,
 ) -> Result<PlayedTake, NoMemory>
     requires opened { IsOpened (S.opening seat.old).policy }
     requires named { IsNamed tomoyo_grammar.is_path (S.opening seat.old).policy }
@@ -69,8 +72,8 @@ pub fn play_line<S: Seat>(
     ensures grows { Begins (S.at seat.old) (S.at seat.new) }
 {
     seat.begin(tree, place);
-    let mut played = Vec::new(alloc);
-    let take = play_take(seat, alloc, now, domain, request, &mut played)?;
+    let take = play_take(seat, alloc, now, domain, request, spent)?;
+    spent.clear();
     Ok(PlayedTake {
         line,
         stood: now,

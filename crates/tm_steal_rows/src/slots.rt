@@ -6,19 +6,20 @@ use crate::played::{Played, PlayedTake};
 use std::alloc::{AllocError, Global};
 use std::collections::VecDeque;
 use tm_list::{NoMemory, Seq};
+use tm_types::kept::Kept;
 
 /// All takes, by their lines, and all Ends, each with its tree's number.
 #[derive(Drop)]
 pub(crate) struct InOrder {
-    pub(crate) takes: VecDeque<PlayedTake>,
+    pub(crate) takes: VecDeque<Kept<PlayedTake>>,
     pub(crate) ends: VecDeque<(u32, u64)>,
 }
 
 // So many empty places.
-fn empty_slots(alloc: Global, count: usize) -> Result<Vec<Option<PlayedTake>>, NoMemory>
+fn empty_slots(alloc: Global, count: usize) -> Result<Vec<Option<Kept<PlayedTake>>>, NoMemory>
     ensures { IfOk result (λ slots. slots.items ≡ replicate count None) }
 {
-    let mut slots = Vec::new(alloc);
+    let mut slots = Vec::with_capacity(alloc, count)?;
     for _place in 0..count {
         slots.push(None)?;
     }
@@ -26,10 +27,10 @@ fn empty_slots(alloc: Global, count: usize) -> Result<Vec<Option<PlayedTake>>, N
 }
 
 // A take at the place of its line.
-fn fill(slots: &mut Vec<Option<PlayedTake>>, played: PlayedTake) -> Result<(), NoMemory>
+fn fill(slots: &mut Vec<Option<Kept<PlayedTake>>>, played: Kept<PlayedTake>) -> Result<(), NoMemory>
     ensures { OnOk result (Fills slots.old.items played slots.new.items) }
 {
-    let place = played.line as usize;
+    let place = played.get().line as usize;
     match slots.get(place) {
         Some(None) => {
             slots[place] = Some(played);
@@ -41,7 +42,7 @@ fn fill(slots: &mut Vec<Option<PlayedTake>>, played: PlayedTake) -> Result<(), N
 
 // What was played: a take at the place of its line, or an End behind the others.
 fn lay(
-    slots: &mut Vec<Option<PlayedTake>>,
+    slots: &mut Vec<Option<Kept<PlayedTake>>>,
     ends: &mut VecDeque<(u32, u64)>,
     played: Played,
 ) -> Result<(), NoMemory>
@@ -59,7 +60,7 @@ fn lay(
 
 // All that a worker has played.
 fn lay_all(
-    slots: &mut Vec<Option<PlayedTake>>,
+    slots: &mut Vec<Option<Kept<PlayedTake>>>,
     ends: &mut VecDeque<(u32, u64)>,
     all: Seq<Played>,
 ) -> Result<(), NoMemory>
@@ -74,7 +75,7 @@ fn lay_all(
 
 // All that the workers give back.
 fn lay_given(
-    slots: &mut Vec<Option<PlayedTake>>,
+    slots: &mut Vec<Option<Kept<PlayedTake>>>,
     ends: &mut VecDeque<(u32, u64)>,
     given: Vec<Seq<Played>>,
 ) -> Result<(), NoMemory>
@@ -90,7 +91,10 @@ fn lay_given(
 }
 
 // The takes of all places, none of which may be empty.
-fn in_order(alloc: Global, slots: Vec<Option<PlayedTake>>) -> Result<VecDeque<PlayedTake>, NoMemory>
+fn in_order(
+    alloc: Global,
+    slots: Vec<Option<Kept<PlayedTake>>>,
+) -> Result<VecDeque<Kept<PlayedTake>>, NoMemory>
     ensures { IfOk result (λ takes. map Some takes.items ≡ slots.items) }
 {
     let mut takes = VecDeque::new(alloc);

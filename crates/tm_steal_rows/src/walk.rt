@@ -9,6 +9,7 @@ use crate::played::PlayedTake;
 use std::alloc::{AllocError, Global};
 use std::collections::VecDeque;
 use tm_list::{NoMemory, Same};
+use tm_types::kept::Kept;
 use tm_types::request::{Ids, Item, Proc};
 use tm_types::step::Take;
 use tm_verify_notes::{Stand, Stands};
@@ -46,7 +47,7 @@ fn stands_there(stand: Stand, played: &PlayedTake) -> bool
 // The take of the next request, which is of this process: the first that is left.
 fn next_take(
     known: &mut Stands,
-    left: &mut VecDeque<PlayedTake>,
+    left: &mut VecDeque<Kept<PlayedTake>>,
     pid: u32,
 ) -> Result<Take, NoMemory>
     ensures { IfOk result (λ take. (played : PlayedTake)
@@ -55,13 +56,15 @@ fn next_take(
         × (stands known.new ≡ with_situation (stands known.old) pid
         (after_take (stands known.old pid) take))) }
 {
-    let Some(played) = left.pop_front() else {
+    let Some(kept) = left.pop_front() else {
         return Err(AllocError);
     };
-    if played.take.pid != pid || !stands_there(known.at(pid), &played) {
+    let played = kept.into_value();
+    let stand = known.at(pid);
+    if played.take.pid != pid || !stands_there(stand, &played) {
         return Err(AllocError);
     }
-    known.take(pid, &played.take)?;
+    known.take(pid, stand, &played.take)?;
     Ok(played.take)
 }
 
@@ -69,7 +72,7 @@ fn next_take(
 // take.
 fn walk_line(
     known: &mut Stands,
-    left: &mut VecDeque<PlayedTake>,
+    left: &mut VecDeque<Kept<PlayedTake>>,
     item: &Item,
     takes: &mut Vec<Take>,
 ) -> Result<(), NoMemory>
@@ -96,7 +99,7 @@ pub(crate) fn walk_tree(
     alloc: Global,
     home: Option<u32>,
     records: &[Item],
-    left: &mut VecDeque<PlayedTake>,
+    left: &mut VecDeque<Kept<PlayedTake>>,
 ) -> Result<Vec<Take>, NoMemory>
     ensures { IfOk result (λ takes.
         TakesOfTree home records.now left.old.items takes.items left.new.items) }

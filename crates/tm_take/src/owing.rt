@@ -9,57 +9,20 @@ ghost use Rattle.tm_legal.specs.Legal.{steps_of_line, steps_of_move};
 ghost use Rattle.tm_grammar.specs.Tomoyo.{tomoyo_grammar};
 ghost use Rattle.tm_take.specs.Taking.{owed_steps, asked_of};
 
-use std::alloc::{AllocError, Global};
-use std::marker::Model;
+use std::alloc::Global;
 use tm_grammar::entry::print_entry;
 use tm_list::{Copied, NoMemory, Seq};
 use tm_types::entry::Entry;
+use tm_types::kept::Kept;
 use tm_types::step::Step;
 use tm_types::verdict::{Move, Reason, Verdict};
 use tm_word::Text;
 
-/// A step that is kept apart, so that what owes it is small where it is moved.
-#[derive(Drop)]
-pub(crate) struct KeptStep {
-    step: Box<Step>,
-}
-
-impl Model for KeptStep {
-    ghost use Rattle.tm_types.specs.declared.step.Step.{Step};
-
-    ghost Value = { Step };
-
-    ghost view = { λ kept. kept.step.value };
-}
-
-impl KeptStep {
-    // This step, kept apart.
-    fn new(alloc: Global, step: Step) -> Result<KeptStep, NoMemory>
-        ensures { IfOk result (λ kept. kept ≡ step) }
-    {
-        match Box::new(alloc, step) {
-            Ok(step) => Ok(KeptStep { step }),
-            Err(refused) => {
-                drop(refused);
-                Err(AllocError)
-            }
-        }
-    }
-
-    // The step.
-    pub(crate) fn into_step(self) -> Step
-        ensures { result ≡ self }
-    {
-        let KeptStep { step } = self;
-        Box::into_inner(step)
-    }
-}
-
 /// The steps that a take owes: the one of its line, and then the one of its move.
 #[derive(Drop)]
 pub(crate) struct Owed {
-    pub line: Option<KeptStep>,
-    pub lead: Option<KeptStep>,
+    pub line: Option<Kept<Step>>,
+    pub lead: Option<Kept<Step>>,
 }
 
 /// What a take waits for: its own steps, one after another; the answer to the query of a serial;
@@ -98,22 +61,22 @@ fn line_owed(
     before: u32,
     retry: u32,
     verdict: &Verdict,
-) -> Result<Option<KeptStep>, NoMemory>
+) -> Result<Option<Kept<Step>>, NoMemory>
     ensures { IfOk result
         (λ step. option_to_list step ≡ steps_of_line tomoyo_grammar before retry verdict.now) }
 {
     match verdict.reason {
         Reason::Learn => match &verdict.line {
             Some(line) => {
-                let learn = Step::Learn(before, line.copy(alloc)?);
-                Ok(Some(KeptStep::new(alloc, learn)?))
+                let learn = Step::Learn(before, line.get().copy(alloc)?);
+                Ok(Some(Kept::new(alloc, learn)?))
             }
             None => Ok(None),
         },
         Reason::Ask => match &verdict.line {
             Some(line) => {
-                let ask = Step::Ask(before, retry, printed(alloc, line)?);
-                Ok(Some(KeptStep::new(alloc, ask)?))
+                let ask = Step::Ask(before, retry, printed(alloc, line.get())?);
+                Ok(Some(Kept::new(alloc, ask)?))
             }
             None => Ok(None),
         },
@@ -132,18 +95,18 @@ pub(crate) fn lead_owed(
     alloc: Global,
     before: u32,
     verdict: &Verdict,
-) -> Result<Option<KeptStep>, NoMemory>
+) -> Result<Option<Kept<Step>>, NoMemory>
     ensures { IfOk result (λ step. option_to_list step ≡ steps_of_move before verdict.now) }
 {
     match verdict.step {
         Move::Make => match &verdict.target {
             Some(name) => {
                 let make = Step::Make(before, name.copy(alloc)?);
-                Ok(Some(KeptStep::new(alloc, make)?))
+                Ok(Some(Kept::new(alloc, make)?))
             }
             None => Ok(None),
         },
-        Move::Fail => Ok(Some(KeptStep::new(alloc, Step::Fail(before))?)),
+        Move::Fail => Ok(Some(Kept::new(alloc, Step::Fail(before))?)),
         Move::Stay | Move::Enter(_) => Ok(None),
     }
 }
@@ -153,7 +116,7 @@ fn lead_if_granted(
     alloc: Global,
     before: u32,
     verdict: &Verdict,
-) -> Result<Option<KeptStep>, NoMemory>
+) -> Result<Option<Kept<Step>>, NoMemory>
     ensures { IfOk result
         (λ step. option_to_list step
         ≡ (if is_granting verdict.now.reason then steps_of_move before verdict.now else [])) }
@@ -202,7 +165,7 @@ impl Owed {
     }
 
     // The first step, and what is owed after it; None where nothing is owed.
-    pub(crate) fn first(self) -> Option<(KeptStep, Owed)>
+    pub(crate) fn first(self) -> Option<(Kept<Step>, Owed)>
         ensures { MatchOption result (owed_steps self ≡ [])
             (λ next. owed_steps self ≡ next.0 ∷ owed_steps next.1) }
     {

@@ -6,12 +6,14 @@ ghost use Rattle.tm_grammar.specs.Tomoyo.{tomoyo_grammar};
 ghost use Rattle.tm_take.specs.Situations.{situation_of};
 ghost use Rattle.tm_take.specs.Taking.{owed_steps, stage_of, in_progress, rest_of, serial_of, begun_with, IsNext, TakesOut, LooksAgain};
 
-use crate::owing::{Awaited, KeptStep, Owed, grants, lead_owed, steps_owed};
+use crate::owing::{Awaited, Owed, grants, lead_owed, steps_owed};
 use crate::situations::ProcessSituation;
 use std::alloc::{AllocError, Global};
 use std::marker::Model;
 use std::mem::replace;
 use tm_list::{NoMemory, Seq};
+use tm_types::brief::Brief;
+use tm_types::kept::Kept;
 use tm_types::request::{Proc, Request};
 use tm_types::step::{Answered, Heard, Held, Look, MakeReply, Reply, Step, Take};
 use tm_types::verdict::{Move, Reason, Verdict};
@@ -85,7 +87,7 @@ impl Model for RequestInProgress {
 }
 
 // The first step that is owed, and what is owed after it; None where none is owed.
-fn first_owed(awaited: Awaited) -> Option<(KeptStep, Owed)>
+fn first_owed(awaited: Awaited) -> Option<(Kept<Step>, Owed)>
     ensures { MatchOption result (rest_of (stage_of awaited) ≡ [])
         (λ next. stage_of awaited ≡ Stage.Owing (next.0 ∷ owed_steps next.1)) }
 {
@@ -170,7 +172,7 @@ fn parts_at(
         mode: verdict.mode,
         reason: verdict.reason,
         step: verdict.step,
-        own: Seq::new(alloc),
+        own: Brief::new(alloc),
         heard: None,
     };
     let PendingLook {
@@ -313,7 +315,7 @@ impl RequestInProgress {
         let (awaited, attempt) = self.take_awaited();
         let (step, left) = first_owed(awaited)?;
         let next = attempt.awaiting(Awaited::Steps(left));
-        Some((step.into_step(), next))
+        Some((step.into_value(), next))
     }
 
     // It waits for this from now on.

@@ -81,7 +81,7 @@ fn connect(alloc: Global, addr: Addr) -> Result<Request, NoMemory> {
         low: port,
         high: port,
     });
-    request(alloc, Args::Inet(InetKind::Stream, addr, port), 2)
+    request(alloc, Args::inet(alloc, InetKind::Stream, addr, port)?, 2)
 }
 
 /// The policy of these files, with an index.

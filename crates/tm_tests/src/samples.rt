@@ -55,13 +55,7 @@ pub fn read(alloc: Global, name: &[u8]) -> Result<Request, NoMemory> {
 
 /// A request with these arguments and the permission at this place, and nothing recorded besides.
 pub fn request(alloc: Global, args: Args, perm: u8) -> Result<Request, NoMemory> {
-    let attributes = Attributes {
-        real_path: None,
-        argv: Seq::new(alloc),
-        envp: Seq::new(alloc),
-        target: None,
-        stats: Seq::new(alloc),
-    };
+    let attributes = Attributes::none(alloc);
     Request::new(alloc, args, perm, attributes)
 }
 

@@ -108,7 +108,10 @@ const RETRY: [(FileName, &str); 6] = [
     (FileName::Profile, PROFILE),
     (FileName::DomainPolicy, "<kernel>\nuse_profile 1\n"),
     (FileName::Manager, "/usr/sbin/admin\n"),
-    (FileName::Trace, "tree 7 <kernel>\ndo 7 file read /x\n"),
+    (
+        FileName::Trace,
+        "tree 7 <kernel>\nfork 7 9\ndo 9 file read /x\n",
+    ),
     (
         FileName::Edits,
         "editor 0 0 /usr/sbin/admin <kernel>\n\

@@ -56,7 +56,7 @@ fn two_trees_look_beside_each_other(rt: HostRuntime) -> Result<(), Fail> {
 
 #[test]
 fn a_child_looks_beside_its_parent(rt: HostRuntime) -> Result<(), Fail> {
-    let gate = Meeting::new((1, 2), (1, 3));
+    let gate = Meeting::new((1, 3), (1, 4));
     expect(
         &rt,
         rt.alloc(),
@@ -66,11 +66,11 @@ fn a_child_looks_beside_its_parent(rt: HostRuntime) -> Result<(), Fail> {
             (FileName::DomainPolicy, LEARNING),
             (
                 FileName::Trace,
-                "tree 1 <kernel>\nfork 1 11\ndo 1 file read /a\ndo 11 file read /b\n",
+                "tree 1 <kernel>\ndo 1 file read /a\nfork 1 11\ndo 1 file read /b\ndo 11 file read /c\n",
             ),
         ],
         &gate,
-        "requests 2 granted 2 denied 0 learned 2 steps 2 domains 1 clean yes plain yes\n",
+        "requests 3 granted 3 denied 0 learned 3 steps 3 domains 1 clean yes plain yes\n",
     )?;
     assert!(&rt; gate.took_place());
     Ok(())
@@ -164,7 +164,7 @@ const LEAVING: [(FileName, &str); 4] = [
     (FileName::DomainPolicy, ENFORCING),
     (
         FileName::Trace,
-        "tree 7 <kernel>\ndo 7 file read /x\ndo 7 file read /z\ntree 8 <kernel>\ndo 8 file read /y\n",
+        "tree 7 <kernel>\nfork 7 9\ndo 7 file read /x\ndo 9 file read /z\ntree 8 <kernel>\ndo 8 file read /y\n",
     ),
     (FileName::Answers, "rule yes : any : any\ndetach 0\n"),
 ];

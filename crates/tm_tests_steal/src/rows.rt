@@ -3,31 +3,34 @@ use std::alloc::Global;
 use tm_list::{NoMemory, Seq};
 use tm_steal_rows::{Played, PlayedTake, gather, places_of, request_at};
 use tm_take::ProcessSituation;
+use tm_types::brief::Brief;
 use tm_types::entry::Args;
+use tm_types::kept::Kept;
 use tm_types::request::{Attributes, Ids, Item, Proc, Request, Tree};
 use tm_types::step::{Look, Take};
 use tm_types::verdict::{Move, Reason};
 
 /// A take: the worker that has played it, its line, its process with its parent, the domain that
-/// the process was in, how many steps were known, the version of its look, and the domain after.
-type Row = [u32; 8];
+/// the process was in, how many steps were known, the version of its look, the domain after, and
+/// the user of the process.
+type Row = [u32; 9];
 
 /// An End: the worker that has made it, the tree, and its number.
 type End = [u32; 3];
 
 // The first worker plays process 5, the second one its child 6 and process 7 of the other tree.
 const TAKES: [Row; 4] = [
-    [0, 0, 5, 0, 0, 0, 3, 1],
-    [1, 3, 7, 0, 2, 0, 2, 2],
-    [0, 2, 5, 0, 1, 3, 5, 1],
-    [1, 1, 6, 5, 1, 4, 4, 1],
+    [0, 0, 5, 0, 0, 0, 3, 1, 0],
+    [1, 3, 7, 0, 2, 0, 2, 2, 0],
+    [0, 2, 5, 0, 1, 3, 5, 1, 0],
+    [1, 1, 6, 5, 1, 4, 4, 1, 0],
 ];
 
 const ENDS: [End; 2] = [[0, 1, 9], [0, 2, 10]];
 
-fn no_ids() -> Ids {
+fn ids_of(uid: u32) -> Ids {
     Ids {
-        uid: 0,
+        uid,
         euid: 0,
         suid: 0,
         fsuid: 0,
@@ -40,13 +43,7 @@ fn no_ids() -> Ids {
 
 /// A request of this permission.
 fn request(alloc: Global, perm: u8) -> Result<Request, NoMemory> {
-    let attributes = Attributes {
-        real_path: None,
-        argv: Seq::new(alloc),
-        envp: Seq::new(alloc),
-        target: None,
-        stats: Seq::new(alloc),
-    };
+    let attributes = Attributes::none(alloc);
     let domain = Seq::from_bytes(alloc, b"<kernel>")?;
     Request::new(alloc, Args::Manual(domain), perm, attributes)
 }
@@ -83,7 +80,7 @@ fn take(alloc: Global, row: &Row) -> Result<Take, NoMemory> {
         mode: None,
         reason: Reason::Disabled,
         step: Move::Stay,
-        own: Seq::new(alloc),
+        own: Brief::new(alloc),
         heard: None,
     })?;
     Ok(Take {
@@ -100,9 +97,9 @@ fn played(alloc: Global, row: &Row) -> Result<Played, NoMemory> {
     let process = Proc {
         pid: row[2],
         ppid: row[3],
-        ids: no_ids(),
+        ids: ids_of(row[8]),
     };
-    Ok(Played::Take(PlayedTake {
+    let played = PlayedTake {
         line: u64::from(row[1]),
         stood: ProcessSituation {
             process,
@@ -110,7 +107,8 @@ fn played(alloc: Global, row: &Row) -> Result<Played, NoMemory> {
         },
         since: u64::from(row[5]),
         take: take(alloc, row)?,
-    }))
+    };
+    Ok(Played::Take(Kept::new(alloc, played)?))
 }
 
 /// What a worker gives back.
@@ -197,6 +195,10 @@ fn takes_that_do_not_agree_are_refused(rt: HostRuntime) -> Result<(), NoMemory> 
     }
     let few = gathered(rt.alloc(), &TAKES[1..], ENDS.as_slice(), true)?;
     assert!(rt; few.is_none());
+    let mut other_user = TAKES;
+    other_user[3][8] = 1;
+    let told = gathered(rt.alloc(), other_user.as_slice(), ENDS.as_slice(), true)?;
+    assert!(rt; told.is_none());
     Ok(())
 }
 

@@ -12,7 +12,8 @@ use Rattle.tm_rules.specs.Requests.{bytes_if, may_have, is_stat}
 use Rattle.tm_word.specs.Spelling.{are_bytes}
 use Rattle.tm_entry.specs.Written.{is_name_byte}
 use Rattle.tm_line.proofs.Steps.{both}
-use Rattle.tm_trace.specs.Attributes.{no_attributes, executes, links, with_word, is_complete, attributes_from}
+use Rattle.tm_types.specs.Request.{no_attributes}
+use Rattle.tm_trace.specs.Attributes.{executes, links, with_word, is_complete, attributes_from}
 use Rattle.tm_trace.specs.Printing.{words_if, real_path_text, argument_text, environment_text, target_text, stat_text, attribute_words}
 use Rattle.tm_trace.specs.Written.{rises, names_once, are_names, has_word}
 use Rattle.tm_trace.proofs.Asking.{Given}

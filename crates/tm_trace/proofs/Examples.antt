@@ -33,7 +33,8 @@ use Rattle.tm_entry.specs.NetLines.{net_words, is_net}
 use Rattle.tm_entry.specs.Entries.{acl_words, is_entry}
 use Rattle.tm_entry.specs.Attributes.{without_last, id_word, field_word, parent_word, kind_word, attr_text, numeric_word, other_word, argv_word, envp_word, attr_word}
 use Rattle.tm_trace.specs.Requests.{place_in, literal_name, path_name, single_number, single_address, env_name, args_at, mount_at, file_request, inet_request, unix_request, network_request, misc_request, task_request, request_line}
-use Rattle.tm_trace.specs.Attributes.{no_attributes, put_stat, quoted_word, value_word, with_argument, with_real_path, with_name, with_target, with_stat, with_attribute, with_sides, with_word, attributes_from}
+use Rattle.tm_types.specs.Request.{no_attributes}
+use Rattle.tm_trace.specs.Attributes.{put_stat, quoted_word, value_word, with_argument, with_real_path, with_name, with_target, with_stat, with_attribute, with_sides, with_word, attributes_from}
 use Rattle.tm_trace.specs.Processes.{pid_word, id_at, ids_to_end}
 use Rattle.tm_trace.specs.Reading.{new_at, process_at, request_at, request_of, tree_line, ids_line, fork_line, do_line, line_at, trace_from, trace_of, tree_line_from, tree_line_at}
 use Rattle.tm_trace.specs.Printing.{attribute_words, request_words, item_words, tree_words, trace_text}

@@ -10,7 +10,8 @@ use Rattle.tm_line.specs.DomainWords.{ends_domain}
 use Rattle.tm_word.specs.Gives.{◌>>=◌}
 use Rattle.tm_trace.specs.Lines.{in_trace}
 use Rattle.tm_trace.specs.Requests.{request_line}
-use Rattle.tm_trace.specs.Attributes.{no_attributes, request, attributes_from}
+use Rattle.tm_types.specs.Request.{no_attributes}
+use Rattle.tm_trace.specs.Attributes.{request, attributes_from}
 use Rattle.tm_trace.specs.Reading.{request_at, request_of}
 use Rattle.tm_trace.specs.Printing.{request_words, attribute_words}
 use Rattle.tm_trace.specs.Written.{is_trace_request}

@@ -13,6 +13,7 @@ use Rattle.tm_types.specs.declared.entry.StatField.{StatField}
 use Rattle.tm_types.specs.declared.request.Attributes.{Attributes}
 use Rattle.tm_types.specs.declared.request.Stat.{Stat}
 use Rattle.tm_types.specs.declared.request.Request.{Request}
+use Rattle.tm_types.specs.Request.{no_attributes}
 use Rattle.tm_word.specs.Texts.{texts_equal}
 use Rattle.tm_rules.specs.Condition.{is_execute}
 use Rattle.tm_rules.specs.Requests.{is_symlink, may_have}
@@ -57,10 +58,6 @@ put_stat stat (other ∷ stats) =
     else other ∷ put_stat stat stats
 
 -- The kind of a request, by its arguments and the place of its permission
-
--- nothing was given
-abbrev pub no_attributes : Attributes
-no_attributes = record { real_path = None; argv = []; envp = []; target = None; stats = [] }
 
 -- the request of a line with these attributes
 abbrev pub request : Args → ℕ → Attributes → Request

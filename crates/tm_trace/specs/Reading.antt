@@ -15,7 +15,8 @@ use Rattle.tm_word.specs.Gives.{◌>>=◌}
 use Rattle.tm_trace.specs.Lines.{in_trace}
 use Rattle.tm_line.specs.Lines.{ended}
 use Rattle.tm_trace.specs.Requests.{request_line}
-use Rattle.tm_trace.specs.Attributes.{no_attributes, request, attributes_from}
+use Rattle.tm_types.specs.Request.{no_attributes}
+use Rattle.tm_trace.specs.Attributes.{request, attributes_from}
 use Rattle.tm_trace.specs.Processes.{pid_word, ids_to_end}
 use Rattle.tm_trace.specs.Trees.{tree_pids, trace_pids, is_among, Trees, no_trees, all_trees, new_tree, with_tree, with_record}
 

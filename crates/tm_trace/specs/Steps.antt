@@ -13,7 +13,8 @@ use Rattle.tm_types.specs.declared.request.Tree.{Tree}
 use Rattle.tm_types.specs.declared.step.LineFault.{LineFault}
 use Rattle.tm_trace.specs.declared.faults.StepFault.{StepFault}
 use Rattle.tm_trace.specs.Lines.{fault_of, in_trace}
-use Rattle.tm_trace.specs.Attributes.{no_attributes, request, attributes_from}
+use Rattle.tm_types.specs.Request.{no_attributes}
+use Rattle.tm_trace.specs.Attributes.{request, attributes_from}
 use Rattle.tm_trace.specs.Trees.{is_among, tree_pids, Trees, with_record}
 use Rattle.tm_trace.specs.Reading.{process_at}
 

@@ -3,7 +3,8 @@ ghost use Rattle.std.specs.Prelude.{◌≡◌, ◌==◌};
 ghost use Rattle.std.specs.List.{position};
 ghost use Rattle.tm_word.specs.Gives.{Gives, GivesNow};
 ghost use Rattle.tm_line.specs.Lines.{line_cause};
-ghost use Rattle.tm_trace.specs.Attributes.{no_attributes, executes, links, quoted_word, value_word, has_name, with_argument, with_real_path, with_name, with_target, with_stat, with_attribute, with_sides, with_word, is_complete, attributes_from};
+ghost use Rattle.tm_types.specs.Request.{no_attributes};
+ghost use Rattle.tm_trace.specs.Attributes.{executes, links, quoted_word, value_word, has_name, with_argument, with_real_path, with_name, with_target, with_stat, with_attribute, with_sides, with_word, is_complete, attributes_from};
 
 use crate::stat::{has_stat, may_have, put_stat};
 use std::alloc::Global;
@@ -242,18 +243,6 @@ fn is_complete(args: &Args, perm: u8, at: &Attributes) -> bool
     true
 }
 
-fn no_attributes(alloc: Global) -> Attributes
-    ensures { result ≡ no_attributes }
-{
-    Attributes {
-        real_path: None,
-        argv: Seq::new(alloc),
-        envp: Seq::new(alloc),
-        target: None,
-        stats: Seq::new(alloc),
-    }
-}
-
 /// Reads all these words as the attributes of a request with these arguments and the permission at
 /// this place.
 ///
@@ -269,7 +258,7 @@ pub(crate) fn read_attributes(
     ensures { Gives line_cause (λ at. at) result
         (attributes_from args.now perm no_attributes words.now) }
 {
-    let mut at = no_attributes(alloc);
+    let mut at = Attributes::none(alloc);
     for word in words {
         with_word(alloc, args, perm, &mut at, word.bytes())?;
     }

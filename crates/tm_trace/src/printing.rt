@@ -2,6 +2,7 @@
 ghost use Rattle.std.specs.Prelude.{◌≡◌, ◌++◌, [], ◌∷◌, nat_lt, if◌then◌else◌, map, IfOk, OnOk, OnErr};
 ghost use Rattle.std.specs.List.{flat_map};
 ghost use Rattle.std.specs.Fmt.{decimal};
+ghost use Rattle.std.specs.Option.{option_copied};
 ghost use Rattle.tm_word.specs.Spelling.{joined};
 ghost use Rattle.tm_types.specs.declared.request.Item.{Item};
 ghost use Rattle.tm_rules.specs.Policy.{permission};
@@ -11,7 +12,7 @@ ghost use Rattle.tm_trace.specs.Named.{named_text};
 ghost use Rattle.tm_trace.specs.Printing.{quoted_text, words_if, real_path_text, environment_text, target_text, base_of, stat_text, attributes_text, request_text, ids_words, item_words, tree_words, line_text, tree_lines, trace_text};
 
 use std::alloc::Global;
-use tm_entry::cond::{kind_text, print_attr};
+use tm_entry::cond::{kind_text, push_attr};
 use tm_entry::print_acl;
 use tm_line::print_domain;
 use tm_list::{Copied, NoMemory};
@@ -60,15 +61,15 @@ fn push_attribute(
         (out.new.items ≡ out.old.items ++ 32 ∷ (attr_text attr.now ++ 61 ∷ quoted_text word.now)) }
 {
     out.push(b' ')?;
-    print_attr(alloc, attr, out)?;
+    push_attr(alloc, attr, out)?;
     out.push(b'=')?;
     push_quoted(alloc, word, out)
 }
 
 // Appends the real path of an execute, where it is there.
-fn push_real_path(alloc: Global, path: &Option<Word>, out: &mut Vec<u8>) -> Result<(), NoMemory>
-    ensures { OnOk result
-        (out.new.items ≡ out.old.items ++ spaced (words_if real_path_text path.now)) }
+fn push_real_path(alloc: Global, path: Option<&Word>, out: &mut Vec<u8>) -> Result<(), NoMemory>
+    ensures { OnOk result (out.new.items
+        ≡ out.old.items ++ spaced (words_if real_path_text (option_copied path.entry))) }
 {
     match path {
         None => Ok(()),
@@ -123,9 +124,9 @@ fn push_environment(alloc: Global, envp: &[(Word, Word)], out: &mut Vec<u8>) -> 
 }
 
 // Appends the target of a symlink, where it is there.
-fn push_target(alloc: Global, target: &Option<Word>, out: &mut Vec<u8>) -> Result<(), NoMemory>
-    ensures { OnOk result
-        (out.new.items ≡ out.old.items ++ spaced (words_if target_text target.now)) }
+fn push_target(alloc: Global, target: Option<&Word>, out: &mut Vec<u8>) -> Result<(), NoMemory>
+    ensures { OnOk result (out.new.items
+        ≡ out.old.items ++ spaced (words_if target_text (option_copied target.entry))) }
 {
     match target {
         None => Ok(()),
@@ -150,13 +151,13 @@ fn push_stat(alloc: Global, stat: Stat, out: &mut Vec<u8>) -> Result<(), NoMemor
     out.push(b' ')?;
     match stat {
         Stat::Number(place, field, value) => {
-            print_attr(alloc, &Attr::Stat(place, field), out)?;
+            push_attr(alloc, &Attr::Stat(place, field), out)?;
             out.push(b'=')?;
             let base = base_of(field);
             write_number(alloc, &Number { value, base }, out)
         }
         Stat::Kind(place, kind) => {
-            print_attr(alloc, &Attr::Kind(place), out)?;
+            push_attr(alloc, &Attr::Kind(place), out)?;
             out.push(b'=')?;
             out.extend_from_slice(kind_text(kind))
         }
@@ -173,18 +174,20 @@ fn push_stats(alloc: Global, stats: &[Stat], out: &mut Vec<u8>) -> Result<(), No
     Ok(())
 }
 
+/// Room for the attributes of most requests, so that their text is made without moving.
+const ATTRIBUTES_ROOM: usize = 512;
+
 // All attributes of a request, each after a space.
 #[tactic(auto, unfolding(crate::specs::Printing::attribute_words))]
 fn attributes_text(alloc: Global, request: &Request) -> Result<Vec<u8>, NoMemory>
     ensures { IfOk result (λ text. text.items ≡ attributes_text request.now) }
 {
-    let at = request.attributes();
-    let mut text = Vec::new(alloc);
-    push_real_path(alloc, &at.real_path, &mut text)?;
-    push_words(alloc, b"exec.argv", at.argv.as_slice(), &mut text)?;
-    push_environment(alloc, at.envp.as_slice(), &mut text)?;
-    push_target(alloc, &at.target, &mut text)?;
-    push_stats(alloc, at.stats.as_slice(), &mut text)?;
+    let mut text = Vec::with_capacity(alloc, ATTRIBUTES_ROOM)?;
+    push_real_path(alloc, request.real_path(), &mut text)?;
+    push_words(alloc, b"exec.argv", request.argv(), &mut text)?;
+    push_environment(alloc, request.envp(), &mut text)?;
+    push_target(alloc, request.target(), &mut text)?;
+    push_stats(alloc, request.stats(), &mut text)?;
     Ok(text)
 }
 

@@ -166,7 +166,7 @@ fn device_at(alloc: Global, words: &[Text]) -> Result<(Args, &[Text]), LineFault
     let (mode, rest) = number_at(rest)?;
     let (major, rest) = number_at(rest)?;
     let (minor, rest) = number_at(rest)?;
-    Ok((Args::Device(name, mode, major, minor), rest))
+    Ok((Args::device(alloc, name, mode, major, minor)?, rest))
 }
 
 // The arguments of a row with two names.
@@ -207,7 +207,7 @@ fn mount_at(alloc: Global, words: &[Text]) -> Result<(Args, &[Text]), LineFault>
     let (dir, rest) = literal_at(alloc, rest)?;
     let (kind, rest) = literal_at(alloc, rest)?;
     let (flags, rest) = number_at(rest)?;
-    Ok((Args::Mount(device, dir, kind, flags), rest))
+    Ok((Args::mount(alloc, device, dir, kind, flags)?, rest))
 }
 
 // The place of a permission in its row, from 0.
@@ -316,14 +316,14 @@ fn unix_kind_at(words: &[Text]) -> Result<(UnixKind, &[Text]), LineFault>
 
 // What stands after `network inet`.
 #[tactic(auto, unfolding(crate::specs::Requests::inet_request))]
-fn inet_request(words: &[Text]) -> Result<(Args, u8, &[Text]), LineFault>
-    ensures { GivesNow line_cause (λ x. (x.0, x.1, x.2.now)) result (inet_request words.now) }
+fn inet_request(alloc: Global, words: &[Text]) -> Result<(Args, u8, &[Text]), LineFault>
+    ensures { Gives line_cause (λ x. (x.0, x.1, x.2.now)) result (inet_request words.now) }
 {
     let (kind, rest) = inet_kind_at(words)?;
     let (perm, rest) = perm_at(inet_permissions(kind), rest)?;
     let (address, rest) = address_at(rest)?;
     let (port, rest) = number_at(rest)?;
-    Ok((Args::Inet(kind, address, port), perm, rest))
+    Ok((Args::inet(alloc, kind, address, port)?, perm, rest))
 }
 
 // What stands after `network unix`.
@@ -347,7 +347,7 @@ fn network_request(alloc: Global, words: &[Text]) -> Result<(Args, u8, &[Text]),
         [] => Err(LineFault::Kind(LineKind::Arity)),
         [word, rest @ ..] => {
             if bytes_equal(word.bytes(), b"inet") {
-                return inet_request(rest);
+                return inet_request(alloc, rest);
             }
             if bytes_equal(word.bytes(), b"unix") {
                 return unix_request(alloc, rest);

@@ -13,6 +13,15 @@ pub record Asked : Type 0 where
   pub perm : ℕ
   pub attributes : Attributes
 
+-- what is recorded of a request of which nothing is
+abbrev pub no_attributes : Attributes
+no_attributes = record { real_path = None; argv = []; envp = []; target = None; stats = [] }
+
+-- what is recorded of a request, of which attributes are kept only where there are some
+abbrev pub attributes_of : Option Attributes → Attributes
+attributes_of None = no_attributes
+attributes_of (Some attributes) = attributes
+
 -- the word of a name argument of a request; a request has no group
 abbrev pub name_value : NameUnion → List ℕ
 name_value (NameUnion.One pattern_) = literal_word pattern_

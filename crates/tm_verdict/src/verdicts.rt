@@ -29,6 +29,7 @@ use tm_rep::{Rep, executed_name};
 use tm_rules::is_execute;
 use tm_types::entry::{Args, Entry};
 use tm_types::function_at;
+use tm_types::kept::Kept;
 use tm_types::policy::{Mode, Profile};
 use tm_types::request::{Proc, Request};
 use tm_types::unions::{DomainName, NamePlace};
@@ -276,20 +277,20 @@ fn judged<R: Rep>(
 // The line to be learned or asked for. Of an execute it has the aggregated name.
 #[inline(never)]
 #[tactic(auto, using(crate::proofs::VerdictLaws::line_any))]
-fn line_of(alloc: Global, access: &Access<'_>) -> Result<Entry, NoMemory>
+fn line_of(alloc: Global, access: &Access<'_>) -> Result<Kept<Entry>, NoMemory>
     requires { access.now.request.now.perm < 16 }
     ensures { IfOk result (λ line. line ≡ line_of access.now.namespace.now access.now.request.now) }
 {
     if is_execute(access.request) {
         let name = executed_name(access.namespace, access.request);
-        return learned_line(alloc, access.request, name);
+        return Kept::new(alloc, learned_line(alloc, access.request, name)?);
     }
     let name = Seq::new(alloc);
-    learned_line(alloc, access.request, &name)
+    Kept::new(alloc, learned_line(alloc, access.request, &name)?)
 }
 
 // The whole verdict, with this line.
-fn verdict_with(bare: BareVerdict, line: Option<Entry>) -> Verdict
+fn verdict_with(bare: BareVerdict, line: Option<Kept<Entry>>) -> Verdict
     ensures { result ≡ record {
       mode = bare.mode;
       reason = bare.reason;

@@ -161,13 +161,14 @@ impl Stands {
         )
     }
 
-    /// A take: the process is in the domain after, and its floor is above all that the take has
-    /// seen.
-    pub fn take(&mut self, pid: u32, taken: &Take) -> Result<(), NoMemory>
+    /// A take of a process, which stands there: it is in the domain after, and its floor is above
+    /// all that the take has seen.
+    pub fn take(&mut self, pid: u32, stand: Stand, taken: &Take) -> Result<(), NoMemory>
+        requires { stand_of stand ≡ stands self.old pid }
         ensures { OnOk result (stands self.new
             ≡ with_situation (stands self.old) pid (after_take (stands self.old pid) taken.now)) }
     {
-        let Stand { process, floor, .. } = self.at(pid);
+        let Stand { process, floor, .. } = stand;
         let domain = Some(taken.after);
         let floor = raised_by_looks(floor, taken.looks.as_slice());
         self.put(
@@ -209,7 +210,7 @@ fn push_tree<'a>(
                         request,
                         taken,
                     })?;
-                    known.take(*pid, taken)?;
+                    known.take(*pid, stand, taken)?;
                     rest = more;
                 }
             },

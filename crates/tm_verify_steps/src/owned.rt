@@ -194,7 +194,7 @@ fn owns_by_learn(
 {
     let _ = retry;
     match &verdict.line {
-        Some(line) => owns_learn(steps, own, before, line, verdict, granted),
+        Some(line) => owns_learn(steps, own, before, line.get(), verdict, granted),
         None => owns_move_if(steps, own, before, verdict, granted),
     }
 }
@@ -216,7 +216,7 @@ fn owns_by_ask(
 {
     match &verdict.line {
         Some(line) => {
-            let text = printed(alloc, line)?;
+            let text = printed(alloc, line.get())?;
             Ok(owns_ask(steps, own, before, retry, &text, verdict, granted))
         }
         None => Ok(owns_move_if(steps, own, before, verdict, granted)),

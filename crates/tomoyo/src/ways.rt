@@ -88,6 +88,7 @@ fn machine_of(
 }
 
 /// Plays what was read by its schedule, and then in the default order.
+#[inline(never)]
 pub fn run_by_turns(alloc: Global, loaded: Loaded) -> Ended
     requires few { IsFew loaded.policy }
     requires can { CanPlay (scene_of loaded) }
@@ -111,6 +112,7 @@ pub fn run_by_turns(alloc: Global, loaded: Loaded) -> Ended
 
 /// Plays what was read on so many threads, beside those of the editors and of the supervisor. The
 /// gate may hold them back on their way.
+#[inline(never)]
 pub fn run_on_threads<W: Threads + Wait + Sync, G: Gate>(
     rt: &W,
     alloc: Global,
@@ -136,6 +138,7 @@ pub fn run_on_threads<W: Threads + Wait + Sync, G: Gate>(
 
 /// Plays what was read on so many threads that share the processes of its trees, beside those of
 /// the editors and of the supervisor. The gate may hold them back on their way.
+#[inline(never)]
 pub fn run_stealing<W: Threads + Wait + Sync, G: Gate>(
     rt: &W,
     alloc: Global,

@@ -6,4 +6,4 @@ pub returns-then-executes-2 : goal.returns-then-executes-2
 unfolding word_of
 returns-then-executes-2 c =
     let executes : is_execute c.args.request.now ≡ true = sym c.is_execute-executes.ensures ∙ c.if-executes-2.true in
-    rw (c.in-Envp.is, executes) (rw (c.as_slice.ensures, c.attributes-attributes.ensures) at c.value_of.ensures)
+    rw (c.in-Envp.is, executes) (rw (c.envp.ensures) at c.value_of.ensures)

@@ -8,7 +8,7 @@ use Rattle.tm_seat.proofs.tree.play_records.Goals as goal
 pub loop-item-init : goal.loop-item-init
 loop-item-init g c = (
   refl,
-  rw (c.new-lines.ensures, c.new-takes.ensures.items)
+  rw (c.new-lines.ensures, c.in_ok-takes.ensures.items)
       (tree-starts (g.S.Seat.opening c.args.seat.now) (g.S.Seat.at c.args.seat.now) (g.S.Seat.own c.args.seat.now) c.args.home c.args.records (situations c.new-known.result) c.requires.opened c.new-known.ensures c.requires.fitted c.requires.asked c.requires.home),
 )
 
