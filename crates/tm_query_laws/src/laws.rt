@@ -19,9 +19,9 @@ pub fn queries_are_asked()
 {}
 
 /// Whatever steps a machine makes, and whether or not they fit: a query that has an answer at their
-/// end got it by exactly one of them, after its Ask, and has it from then on. That step is the cause
-/// of the answer: the supervisor's answer to this query, with a code for it, or, where the query is
-/// closed, that the supervisor leaves.
+/// end got it by exactly one of them, after its Ask, and has it from then on. That step is the
+/// cause of the answer: the supervisor's answer to this query, with a code for it, or, where the
+/// query is closed, that the supervisor leaves.
 pub fn answers_are_given()
     ensures once { (g : Grammar) (start : Start) (list : List Made) (serial : ℕ) (given : Answered) →
         answer_of (queries_made g start list) serial ≡ Some given →

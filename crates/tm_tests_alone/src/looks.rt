@@ -16,7 +16,7 @@ use tm_core::{Machine, judge, verdict};
 use tm_io::FileName;
 use tm_list::NoMemory;
 use tm_rep::Rep;
-use tm_text::print_domain;
+use tm_text::{print_domain, print_exception, print_manager, print_profile};
 use tm_types::policy::{Mode, Policy};
 use tm_types::request::{Ids, Item, Proc, Request, Tree};
 use tm_types::verdict::Reason;
@@ -75,10 +75,13 @@ fn is_denied<R: Rep>(
     )
 }
 
-// The printed domains of a policy.
-fn domain_text(alloc: Global, policy: &Policy) -> Result<Vec<u8>, NoMemory> {
+// The four printed files of a policy, one after the other.
+fn policy_text(alloc: Global, policy: &Policy) -> Result<Vec<u8>, NoMemory> {
     let mut text = Vec::new(alloc);
+    print_profile(alloc, policy, &mut text)?;
+    print_exception(alloc, policy, &mut text)?;
     print_domain(alloc, policy, &mut text)?;
+    print_manager(alloc, policy, &mut text)?;
     Ok(text)
 }
 
@@ -86,17 +89,19 @@ fn domain_text(alloc: Global, policy: &Policy) -> Result<Vec<u8>, NoMemory> {
 // so many bytes.
 fn is_copied<R: Rep>(alloc: Global, machine: &Machine<R>, least: usize) -> Result<bool, NoMemory> {
     let copy = machine.rep().copy(alloc)?;
-    let own = domain_text(alloc, machine.policy())?;
-    let text = domain_text(alloc, copy.policy())?;
+    let own = policy_text(alloc, machine.policy())?;
+    let text = policy_text(alloc, copy.policy())?;
     Ok(own.len() > least && text.as_slice() == own.as_slice())
 }
 
-const TEXTS: [(FileName, &str); 3] = [
+const TEXTS: [(FileName, &str); 5] = [
     (
         FileName::Profile,
         "0-CONFIG={ mode=enforcing grant_log=no reject_log=yes }\n",
     ),
+    (FileName::ExceptionPolicy, "path_group LOGS /var/log/\\*\n"),
     (FileName::DomainPolicy, "<kernel>\nfile read /b\n"),
+    (FileName::Manager, "/usr/sbin/admin\n"),
     (FileName::Trace, "tree 1 <kernel>\ndo 1 file read /a\n"),
 ];
 
@@ -113,6 +118,6 @@ fn a_verdict_is_asked_of_a_machine(rt: HostRuntime) -> Result<(), Fail> {
 fn a_copied_representation_is_of_the_same_policy(rt: HostRuntime) -> Result<(), Fail> {
     let alloc = rt.alloc();
     let Opened { machine, .. } = opened(alloc, &TEXTS)?;
-    assert!(rt; is_copied(alloc, &machine, 20)?);
+    assert!(rt; is_copied(alloc, &machine, 100)?);
     Ok(())
 }

@@ -1,7 +1,7 @@
 //! Engines of a machine, on one thread.
 
 use crate::opened::{Trial, ask, learn, tried_at_machine};
-use crate::steps::{is_answered, is_replied, is_seen};
+use crate::steps::{is_answered, is_replied, is_seen, query_heard, told_newest};
 use std::alloc::Global;
 use std::cell::RefCell;
 use std::process::Abort;
@@ -72,9 +72,8 @@ impl<R: Rep + Send + Sync> Trial<Machine<R>> for Told {
         assert!(rt; is_replied(rt, alloc, engine, a, ask(alloc)?, 2, held));
         let detach = Machine::<R>::detach_step();
         assert!(rt; is_replied(rt, alloc, engine, a, detach, 3, Reply::Detach(true)));
-        let front = engine.front(rt, a);
-        assert_eq!(rt; (front.version(), b.version()), (3, 0));
-        b.told(&front);
+        assert_eq!(rt; b.version(), 0);
+        assert_eq!(rt; told_newest(rt, engine, a, b), 3);
         assert_eq!(rt; b.version(), 3);
         assert!(rt; is_seen(engine, b, 3, Some(Reply::Detach(true)), 3));
         Ok(())
@@ -164,6 +163,7 @@ impl<R: Rep + Send + Sync> Trial<Machine<R>> for Hostile {
                 Some(AnswerFault::BadAnswer)
             )
         );
+        assert!(rt; matches!(query_heard(rt, alloc, engine, a), Ok(Some(_))));
         assert!(rt; is_answered(rt, alloc, engine, a, (1, 1), 8, None));
         assert!(rt; is_answered(rt, alloc, engine, a, (1, 2), 9, Some(AnswerFault::Answered)));
         let detach = Machine::<R>::detach_step();

@@ -3,7 +3,7 @@ ghost use Rattle.std.specs.Prelude.{◌≡◌, []};
 ghost use Rattle.tm_publish.specs.Boards.{Names, blank_parts};
 
 use crate::opened::{ask, learn, machine};
-use crate::steps::{is_answered, is_replied, is_seen, settle_if_it_fits};
+use crate::steps::{answer_heard, closed, is_answered, is_replied, is_seen, settle_if_it_fits};
 use std::alloc::Global;
 use std::marker::Brand;
 use std::process::Abort;
@@ -33,7 +33,7 @@ fn answer_beside<L: Named + Send + Sync, R: Rep + Send + Sync, W: Threads + Wait
     thread::join(
         rt,
         || is_answered(rt, alloc, engine, a, (1, 1), 3, None),
-        || engine.await_answer(rt, b, 1),
+        || answer_heard(rt, engine, b, 1),
     )
 }
 
@@ -91,7 +91,7 @@ fn is_stopped_beside<L: Named + Send + Sync, R: Rep + Send + Sync, W: Threads + 
 ) -> bool {
     let (unheard, ()) = thread::join(
         rt,
-        || engine.await_answer(rt, pass, 1).is_err(),
+        || answer_heard(rt, engine, pass, 1).is_err(),
         || engine.stop(rt),
     );
     unheard
@@ -133,8 +133,7 @@ fn stopped<L: Named + Send + Sync, R: Rep + Send + Sync, W: Threads + Wait + Abo
     stop_and_go_on(rt, alloc, &engine, &mut a, &mut b)?;
     passes.push(a)?;
     passes.push(b)?;
-    let closed = engine.close(rt, passes)?;
-    assert_eq!(rt; (closed.own, closed.office.version()), (2, 2));
+    assert_eq!(rt; closed(rt, engine, passes)?.version(), 2);
     Ok(())
 }
 

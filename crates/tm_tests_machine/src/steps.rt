@@ -1,8 +1,11 @@
 //! Steps and looks of a machine at an engine, as a caller of it makes them.
-ghost use Rattle.std.specs.Prelude.{◌≡◌, List, Some, true, IsTrue, IfOk, IfSome, length};
+ghost use Rattle.std.specs.Prelude.{◌≡◌, ◌≤◌, ℕ, List, Some, None, true, IsTrue, length, slice_get};
+ghost use Rattle.std.specs.Prelude.{IfOk, IfSome, MatchOption};
+ghost use Rattle.std.specs.List.{sum_by};
+ghost use mathlib.Core.List.{IsPrefix};
 ghost use Rattle.tm_types.specs.declared.step.Made.{Made};
 ghost use Rattle.tm_types.specs.declared.step.Start.{Start};
-ghost use Rattle.tm_machine.specs.Office.{list_of, fits_at, reply_in};
+ghost use Rattle.tm_machine.specs.Office.{list_of, fits_at, reply_in, answer_in, first_in, over_in};
 ghost use Rattle.tm_publish.specs.Words.{home, known, HasSeen, made_of};
 ghost use Rattle.tm_tests_machine.specs.Steps.{IsMade};
 
@@ -13,10 +16,11 @@ use tm_engine::engine::Engine;
 use tm_list::NoMemory;
 use tm_machine::Machine;
 use tm_office::{DeskHall, Hall};
+use tm_publish::board::Closed;
 use tm_publish::front::Named;
 use tm_publish::pass::Pass;
 use tm_rep::Rep;
-use tm_types::step::{AnswerFault, Made, Reply};
+use tm_types::step::{AnswerFault, Answered, Made, Query, Reply};
 
 // Whether the step fits after the machine's steps.
 fn fits_newest<R: Rep>(alloc: Global, machine: &Machine<R>, made: &Made) -> Result<bool, NoMemory>
@@ -124,6 +128,86 @@ pub fn reply_seen<L: Named, R: Rep>(
                 × (result.1 ≡ version) }
         { (Hall::reply(machine, number), version) },
     )
+}
+
+/// Waits for the answer to the query of this serial, and gives it with the version at which it is
+/// taken.
+///
+/// Errors: that the engine was stopped.
+pub fn answer_heard<L: Named, R: Rep, W: Wait>(
+    rt: &W,
+    engine: &Engine<L, Machine<R>>,
+    pass: &mut Pass<L, Machine<R>>,
+    serial: u64,
+) -> Result<(Answered, u64), NoMemory>
+    ensures answer { IfOk result (λ heard. (p : Start) → home pass.old ≡ Some p →
+        answer_in p (known pass.new) serial ≡ Some heard.0) }
+    ensures version { IfOk result (λ heard. heard.1 ≡ length (known pass.new)) }
+    ensures knows { (xs : List Made) → HasSeen pass.old xs → HasSeen pass.new xs }
+    ensures opening { home pass.new ≡ home pass.old }
+    ensures made { made_of pass.new ≡ made_of pass.old }
+{
+    engine.await_answer(rt, pass, serial)
+}
+
+/// Waits for the first query without an answer; none where each has one and no query will come.
+///
+/// Errors: want of memory for the query, or that the engine was stopped.
+pub fn query_heard<L: Named, R: Rep, W: Wait>(
+    rt: &W,
+    alloc: Global,
+    engine: &Engine<L, Machine<R>>,
+    pass: &mut Pass<L, Machine<R>>,
+) -> Result<Option<Query>, NoMemory>
+    ensures query { IfOk result (λ first. (p : Start) → home pass.old ≡ Some p → MatchOption first
+        ((first_in p (known pass.new) ≡ None) × (over_in p (known pass.new) ≡ true))
+        (λ query. first_in p (known pass.new) ≡ Some query)) }
+    ensures knows { (xs : List Made) → HasSeen pass.old xs → HasSeen pass.new xs }
+    ensures opening { home pass.new ≡ home pass.old }
+    ensures made { made_of pass.new ≡ made_of pass.old }
+{
+    engine.await_query(rt, alloc, pass)
+}
+
+/// Tells a pass of the newest version, for which another one asks, and gives that version.
+pub fn told_newest<L: Named, R: Rep, W: Wait>(
+    rt: &W,
+    engine: &Engine<L, Machine<R>>,
+    asking: &mut Pass<L, Machine<R>>,
+    pass: &mut Pass<L, Machine<R>>,
+) -> u64
+    ensures begins { (xs : List Made) → HasSeen asking.old xs → IsPrefix xs (known asking.new) }
+    ensures version { result ≡ length (known asking.new) }
+    ensures told { HasSeen pass.new (known asking.new) }
+    ensures newer { length (known pass.old) ≤ length (known asking.new)
+        → known pass.new ≡ known asking.new }
+    ensures knows { (xs : List Made) → HasSeen pass.old xs → HasSeen pass.new xs }
+    ensures opening { home pass.new ≡ home pass.old }
+{
+    let front = engine.front(rt, asking);
+    pass.told(&front);
+    front.version()
+}
+
+/// Closes an engine, whose passes are all given back: the machine at its last version. It has as
+/// many steps as the passes have made, and all that any of them had seen begins them.
+///
+/// Errors: where a pass knows more than was made, which doesn't happen.
+pub fn closed<L: Named, R: Rep, W: Wait>(
+    rt: &W,
+    engine: Engine<L, Machine<R>>,
+    passes: Vec<Pass<L, Machine<R>>>,
+) -> Result<Machine<R>, NoMemory>
+    requires { length passes.items ≡ L.parts }
+    ensures steps { IfOk result (λ machine.
+        length (list_of machine) ≡ sum_by (λ p. length (made_of p)) passes.items) }
+    ensures begins { IfOk result (λ machine. (k : ℕ) (p : _) (xs : List Made) →
+        slice_get passes.items k ≡ Some p → HasSeen p xs → IsPrefix xs (list_of machine)) }
+    ensures opening { IfOk result (λ machine. (k : ℕ) (p : _) →
+        slice_get passes.items k ≡ Some p → home p ≡ Some machine.start) }
+{
+    let Closed { office, own: _ } = engine.close(rt, passes)?;
+    Ok(office)
 }
 
 /// Whether a step fits, is made, and has this number and this reply.

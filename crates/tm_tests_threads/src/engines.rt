@@ -159,6 +159,35 @@ fn stopped<L: Named + Send + Sync, R: Threads + Wait + Abort + Sync>(
 }
 
 #[test]
+fn a_stop_wakes_who_waits_for_a_query(rt: HostRuntime) -> Result<(), Fail> {
+    for _ in 0..10 {
+        stopped_unasked::<Brand, _>(&rt, rt.alloc(), Blank::new(2))?;
+    }
+    Ok(())
+}
+
+fn stopped_unasked<L: Named + Send + Sync, R: Threads + Wait + Abort + Sync>(
+    rt: &R,
+    alloc: Global,
+    blank: Blank<Tally>,
+) -> Result<(), Fail>
+    requires named { Names L.name L.parts L.history blank }
+    requires two { blank_parts blank ≡ 2 }
+{
+    let (engine, mut passes) = open_engine::<L, Tally, R>(rt, alloc, blank, tally(alloc), 2)?;
+    let mut a = passes.pop().ok_or("two passes")?;
+    let (found, ()) = thread::join(
+        rt,
+        || engine.await_query(rt, alloc, &mut a).is_err(),
+        || engine.stop(rt),
+    );
+    assert!(rt; found);
+    passes.push(a)?;
+    assert_eq!(rt; engine.close(rt, passes)?.own, 0);
+    Ok(())
+}
+
+#[test]
 fn a_read_stands_within_a_read(rt: HostRuntime) -> Result<(), Fail> {
     within::<Brand, _>(&rt, rt.alloc(), Blank::new(2))
 }
