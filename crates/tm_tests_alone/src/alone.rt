@@ -9,7 +9,7 @@ ghost use Rattle.tm_seat.specs.Seats.{FitsFrom};
 ghost use Rattle.tm_parts.specs.Parts.{tree_to_play, trees_from};
 ghost use Rattle.tm_tests_alone.specs.Opened.{CanBePlayed};
 
-use crate::opened::{Opened, files, opened};
+use crate::opened::{Opened, files, open_machine};
 use std::alloc::{AllocError, Global};
 use std::process::Abort;
 use std::test::Fail;
@@ -93,7 +93,7 @@ fn play_alone<R: Rep>(alloc: Global, machine: Machine<R>, trace: Trace) -> Resul
 
 // The text of the run that a seat at a machine alone makes of these files.
 fn text_alone(alloc: Global, texts: &[(FileName, &str)]) -> Result<Vec<u8>, NoMemory> {
-    let Opened { machine, trace, .. } = opened(alloc, texts)?;
+    let Opened { machine, trace, .. } = open_machine(alloc, texts)?;
     let run = play_alone(alloc, machine, trace)?;
     let mut text = Vec::new(alloc);
     print_run(alloc, &run, &mut text)?;
@@ -232,10 +232,10 @@ fn asked_and_answered(alloc: Global) -> Result<Vec<Made>, NoMemory> {
 #[test]
 fn a_seat_at_a_machine_alone_hears_the_answer_that_is_there(rt: HostRuntime) -> Result<(), Fail> {
     let alloc = rt.alloc();
-    let Opened { machine, .. } = opened(alloc, &SCHEDULE)?;
+    let Opened { machine, .. } = open_machine(alloc, &SCHEDULE)?;
     let found = heard(alloc, machine, asked_and_answered(alloc)?)?;
     assert!(rt; matches!(found, Some((Answered::Yes, 3))));
-    let Opened { machine, .. } = opened(alloc, &SCHEDULE)?;
+    let Opened { machine, .. } = open_machine(alloc, &SCHEDULE)?;
     assert!(rt; heard(alloc, machine, Vec::new(alloc))?.is_none());
     Ok(())
 }

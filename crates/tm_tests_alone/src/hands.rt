@@ -4,7 +4,7 @@ ghost use Rattle.tm_types.specs.declared.step.Book.{Book};
 ghost use Rattle.tm_core.specs.Playing.{Led};
 ghost use Rattle.tm_tests_alone.specs.Opened.{CanBePlayed};
 
-use crate::opened::{Opened, opened};
+use crate::opened::{Opened, open_machine};
 use std::alloc::Global;
 use std::process::Abort;
 use std::test::Fail;
@@ -69,7 +69,7 @@ fn expect<A: Abort>(
     turns: &[(Turn, bool)],
     wanted: &str,
 ) -> Result<(), Fail> {
-    let Opened { machine, trace, .. } = opened(alloc, texts)?;
+    let Opened { machine, trace, .. } = open_machine(alloc, texts)?;
     let text = play_by_hand(alloc, machine, trace, turns)?;
     assert_eq!(rt; text.as_slice(), wanted.as_bytes());
     Ok(())

@@ -3,7 +3,7 @@ ghost use Rattle.std.specs.Prelude.{[], ⊤, ◌≡◌};
 ghost use Rattle.tm_tests_alone.specs.Opened.{CanBePlayed};
 
 use crate::alone::is_stored;
-use crate::opened::{Opened, files, opened, read};
+use crate::opened::{Opened, files, open_machine, read};
 use std::alloc::{AllocError, Global};
 use std::process::Abort;
 use std::sync::Wait;
@@ -54,7 +54,7 @@ fn replayed<W: Threads + Wait + Sync>(
         machine,
         trace,
         book,
-    } = opened(alloc, texts)?;
+    } = open_machine(alloc, texts)?;
     let desk = Desk::new(&book, |query: &Query| book_code(&book, query));
     let (run, machine) = replay_all(rt, alloc, machine, &trace, 2, &desk, &NoGate)?;
     told(alloc, &run, &machine)
@@ -70,7 +70,7 @@ fn stolen<W: Threads + Wait + Sync>(
         machine,
         trace,
         book,
-    } = opened(alloc, texts)?;
+    } = open_machine(alloc, texts)?;
     let desk = Desk::new(&book, |query: &Query| book_code(&book, query));
     let (run, machine) = steal_all(rt, alloc, machine, &trace, 2, &desk, &NoGate)?;
     told(alloc, &run, &machine)
@@ -139,7 +139,7 @@ fn has_failed<W: Threads + Wait + Sync>(
     alloc: Global,
     texts: &[(FileName, &str)],
 ) -> Result<bool, NoMemory> {
-    let Opened { machine, book, .. } = opened(alloc, texts)?;
+    let Opened { machine, book, .. } = open_machine(alloc, texts)?;
     let desk = Desk::new(&book, |query: &Query| book_code(&book, query));
     let mut hands = Vec::new(alloc);
     hands.push(false)?;

@@ -8,7 +8,7 @@ ghost use Rattle.tm_grammar.specs.Tomoyo.{tomoyo_grammar};
 ghost use Rattle.tm_legal.specs.Play.{IsNamed};
 ghost use Rattle.tm_tests_alone.specs.Opened.{CanBePlayed};
 
-use crate::opened::{Opened, opened};
+use crate::opened::{Opened, open_machine};
 use std::alloc::Global;
 use std::process::Abort;
 use std::test::Fail;
@@ -108,7 +108,7 @@ const TEXTS: [(FileName, &str); 5] = [
 #[test]
 fn a_verdict_is_asked_of_a_machine(rt: HostRuntime) -> Result<(), Fail> {
     let alloc = rt.alloc();
-    let Opened { machine, trace, .. } = opened(alloc, &TEXTS)?;
+    let Opened { machine, trace, .. } = open_machine(alloc, &TEXTS)?;
     let request = first_request(trace.as_slice()).ok_or("a request")?;
     assert!(rt; is_denied(alloc, &machine, request)?);
     Ok(())
@@ -117,7 +117,7 @@ fn a_verdict_is_asked_of_a_machine(rt: HostRuntime) -> Result<(), Fail> {
 #[test]
 fn a_copied_representation_is_of_the_same_policy(rt: HostRuntime) -> Result<(), Fail> {
     let alloc = rt.alloc();
-    let Opened { machine, .. } = opened(alloc, &TEXTS)?;
+    let Opened { machine, .. } = open_machine(alloc, &TEXTS)?;
     assert!(rt; is_copied(alloc, &machine, 100)?);
     Ok(())
 }

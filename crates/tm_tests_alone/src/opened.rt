@@ -74,7 +74,7 @@ fn begin(alloc: Global, loaded: Loaded) -> Result<Opened, NoMemory>
 
 /// A machine at version 0 whose opening these files hold, with the trace and the book that they
 /// hold.
-pub(crate) fn opened(alloc: Global, texts: &[(FileName, &str)]) -> Result<Opened, NoMemory>
+pub(crate) fn open_machine(alloc: Global, texts: &[(FileName, &str)]) -> Result<Opened, NoMemory>
     ensures { IfOk result (λ begun. CanBePlayed begun.trace begun.book begun.machine) }
 {
     begin(alloc, read(alloc, files(alloc, texts)?)?)

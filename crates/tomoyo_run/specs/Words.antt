@@ -34,7 +34,7 @@ asked_by_two word next =
 
 -- what the words ask for
 abbrev pub what_is_asked : List (List ℕ) → Asked
-what_is_asked [] = Asked.Nothing
+what_is_asked [] = Asked.Command
 what_is_asked (word ∷ []) = asked_by word
 what_is_asked (word ∷ next ∷ []) = asked_by_two word next
 what_is_asked (word ∷ next ∷ third ∷ words) = Asked.Command

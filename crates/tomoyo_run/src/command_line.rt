@@ -244,9 +244,7 @@ pub enum Asked {
     Help(Topic),
     /// The version, by `-V` or `--version`.
     Version,
-    /// Nothing: there is no word.
-    Nothing,
-    /// A command, or words of no form.
+    /// A command, or words of no form, as no words are.
     Command,
 }
 
@@ -380,10 +378,9 @@ pub fn what_is_asked(words: &[String]) -> Asked
     ensures { result ≡ what_is_asked (map string_bytes words.now) }
 {
     match words {
-        [] => Asked::Nothing,
         [word] => asked_by(word),
         [word, next] => asked_by_two(word, next),
-        [_, _, _, ..] => Asked::Command,
+        [] | [_, _, _, ..] => Asked::Command,
     }
 }
 
@@ -468,7 +465,6 @@ fn letter_of(asked: Asked) -> char {
         Asked::Help(Topic::Verify) => 'y',
         Asked::Help(Topic::Sort) => 'o',
         Asked::Version => 'v',
-        Asked::Nothing => 'n',
         Asked::Command => 'c',
     }
 }

@@ -8,7 +8,7 @@
 
 mod command_line;
 
-use crate::command_line::{Asked, HELP, VERSION, help_text, read_line, what_is_asked};
+use crate::command_line::{Asked, VERSION, help_text, read_line, what_is_asked};
 use std::alloc::Global;
 use std::io;
 use std::process::ExitCode;
@@ -28,14 +28,6 @@ fn show<R: Runtime>(rt: &R, text: &str) -> Status {
     }
 }
 
-// Shows the help to who calls without words, which are no form of a command.
-fn show_usage<R: Runtime>(rt: &R) -> Status {
-    match show(rt, HELP) {
-        Status::Done => Status::BadWords(0),
-        status => status,
-    }
-}
-
 // Does what the words of the command line ask for, on their folder and standard output.
 fn answer<R: Runtime + Threads + Wait + Sync>(rt: &R, alloc: Global) -> Status {
     let Ok(line) = read_line(rt, alloc) else {
@@ -44,7 +36,6 @@ fn answer<R: Runtime + Threads + Wait + Sync>(rt: &R, alloc: Global) -> Status {
     match what_is_asked(&line.words) {
         Asked::Help(topic) => show(rt, help_text(topic)),
         Asked::Version => show(rt, VERSION),
-        Asked::Nothing => show_usage(rt),
         Asked::Command => {
             let mut shelf = FolderShelf::new(rt, alloc, line.folder);
             let mut out = OutSink::new(io::writer(rt));
