@@ -83,9 +83,8 @@ fn steal_trace<
 /// comes first, and every thread is told of it. Each tree starts in the domain that is live in the
 /// opening, and ends when all trees have been played. The gate is called before each request is
 /// first looked at, and before each line of an editor. Gives the run, its takes in the order of the
-/// trace, the opening, and the policy at the last version. Each request is copied where it is
-/// played. Where no process would ever wait for a worker, trees are played as `replay_run` plays
-/// them, and nothing is copied.
+/// trace, the opening, and the policy at the last version. Where no process would ever wait for a
+/// worker, trees are played as `replay_run` plays them. Nothing of the trace is copied.
 ///
 /// Errors: want of memory, or more than 32 threads.
 pub fn steal_run<

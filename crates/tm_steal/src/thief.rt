@@ -23,7 +23,8 @@ use tm_steal_rows::{
 use tm_types::kept::Kept;
 use tm_types::request::{Proc, Request};
 
-// The request of a line, copied, since any worker may need it.
+// The request of a line, which the trace and whoever plays it have together, since any worker may
+// need it.
 fn request_of(board: &Board<'_>, alloc: Global, line: u64) -> Result<Request, NoMemory>
     requires { (start : Start) × IsBoard start board.now }
     ensures line { IfOk result (λ request.

@@ -97,7 +97,7 @@ fn in_order(
 ) -> Result<VecDeque<Kept<PlayedTake>>, NoMemory>
     ensures { IfOk result (λ takes. map Some takes.items ≡ slots.items) }
 {
-    let mut takes = VecDeque::new(alloc);
+    let mut takes = VecDeque::with_capacity(alloc, slots.len())?;
     for slot in slots {
         let Some(played) = slot else {
             return Err(AllocError);

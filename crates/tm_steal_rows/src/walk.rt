@@ -105,7 +105,7 @@ pub(crate) fn walk_tree(
         TakesOfTree home records.now left.old.items takes.items left.new.items) }
 {
     let mut known = Stands::new(alloc, home);
-    let mut takes = Vec::new(alloc);
+    let mut takes = Vec::with_capacity(alloc, records.len())?;
     for item in records {
         walk_line(&mut known, left, item, &mut takes)?;
     }

@@ -213,6 +213,10 @@ fn a_request_and_its_copy_tell_what_is_recorded(rt: HostRuntime) -> Result<(), N
             assert_eq!(rt; text.as_slice(), words.as_bytes());
             assert!(rt; count == stats);
         }
+        drop(request);
+        let (text, count) = recorded_of(alloc, &copy)?;
+        assert_eq!(rt; text.as_slice(), words.as_bytes());
+        assert!(rt; count == stats);
     }
     Ok(())
 }

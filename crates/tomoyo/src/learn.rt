@@ -157,8 +157,8 @@ fn learn_loaded<P: Fn(Loaded) -> Ended>(
 {
     clean_runs_grow();
     learned_runs_repeat();
-    // A play takes its trace apart, tree by tree, so that the second play has a copy: its text
-    // isn't read again.
+    // A play takes its trace apart, tree by tree, so that the second play has a copy, which has the
+    // requests together with the first: its text isn't read again.
     let trace = loaded.trace.copy(alloc)?;
     let (run, opening, last) = playing.play(loaded)?;
     let played = texts_of(alloc, &run, &opening.policy, &last)?;
