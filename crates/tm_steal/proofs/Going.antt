@@ -1,6 +1,7 @@
 -- What a worker has stolen, event by event.
-use Rattle.std.proofs.Common.{◌≡◌, ℕ, true, List, [], ◌++◌, ap, ◌∙◌, subst, sym, append-nil}
+use Rattle.std.proofs.Common.{◌≡◌, ℕ, true, List, [], ◌∷◌, ◌++◌, ap, ◌∙◌, subst, sym, append-nil}
 use Rattle.std.specs.Prelude.{Result, Ok, Err, IfOk}
+use Rattle.std.specs.List.{AllByRecursion}
 use Rattle.tm_types.specs.declared.request.Request.{Request}
 use Rattle.tm_rules.specs.Requests.{is_request}
 use Rattle.tm_replay.specs.Tomoyo.{tomoyo_grammar}
@@ -12,6 +13,11 @@ use Rattle.tm_steal_rows.specs.declared.played.Played.{Played}
 use Rattle.tm_steal_rows.specs.Playing.{IsStealing, StealsOn}
 use Rattle.tm_steal_rows.proofs.Stealing.{stealing-later}
 use Rattle.tm_steal.specs.Boards.{GoesOn}
+
+-- what holds holds for each hand
+pub for-each : {H : Type 0} (P : Type 0) (hands : List H) → P → AllByRecursion (λ (hand : H). P) hands
+for-each P [] h = tt
+for-each P (hand ∷ hands) h = (h, for-each P hands h)
 
 module _ (start : Start) (trace : Trace) where
   -- nothing more

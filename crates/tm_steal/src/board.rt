@@ -1,25 +1,28 @@
 //! What the workers share: the processes, the requests, and who can be asked for a process.
-ghost use Rattle.std.specs.Prelude.{◌≡◌, length, IfOk};
+ghost use Rattle.std.specs.Prelude.{◌≡◌, ◌<◌, length, IfOk};
 ghost use Rattle.tm_steal_rows.specs.Lines.{places_from};
 
-use crate::processes::{Process, processes_of};
+use crate::processes::{TreeProcesses, processes_of};
 use crossbeam_deque::{Steal, Stealer, Worker};
 use std::alloc::{AllocError, Global};
 use std::sync::atomic::{AtomicU64, Ordering};
+use std::thread::Threads;
 use tm_list::NoMemory;
 use tm_replay::take::ProcessSituation;
 use tm_steal_rows::{LinePlace, places_of};
 use tm_types::request::{Ids, Proc, Request, Tree};
 
-/// A process that can be played: its place among all processes, and where it stands at its start.
+/// A process that can be played: the place of its tree, its own among the tree's processes, and
+/// where it stands at its start.
 #[derive(Clone, Copy, Drop)]
 pub(crate) struct Job {
+    pub(crate) tree: usize,
     pub(crate) process: usize,
     pub(crate) now: ProcessSituation,
 }
 
 /// What a worker has for itself: its number, from 0, the processes that it plays next, first in
-/// first out, from which others steal, and the list in which it frees a request.
+/// first out, from which others steal, and the list in which it drops a request.
 #[derive(Drop)]
 pub(crate) struct Hand {
     pub(crate) number: u32,
@@ -27,15 +30,16 @@ pub(crate) struct Hand {
     pub(crate) spent: Vec<Request>,
 }
 
-/// What all workers share: the trace with its processes and the places of its requests in their
-/// order, how many trees it has, a handle to steal from each worker, how many processes have ended,
-/// and whether somebody has given up.
+/// What all workers share: the trace with the processes of each tree and the places of its requests
+/// in their order, how many trees and how many processes it has, a handle to steal from each
+/// worker, how many processes have ended, and whether somebody has given up.
 #[derive(Drop)]
 pub(crate) struct Board<'a> {
     pub(crate) trace: &'a [Tree],
     pub(crate) places: Vec<LinePlace>,
-    pub(crate) processes: Vec<Process>,
+    pub(crate) of_trees: Vec<TreeProcesses<'a>>,
     pub(crate) trees: u32,
+    pub(crate) processes: u64,
     pub(crate) stealers: Vec<Stealer<Job>>,
     pub(crate) ended: AtomicU64,
     pub(crate) given_up: AtomicU64,
@@ -44,7 +48,7 @@ pub(crate) struct Board<'a> {
 impl Board<'_> {
     /// Whether all processes have ended.
     pub(crate) fn all_ended(&self) -> bool {
-        self.ended.load(Ordering::SeqCst) >= self.processes.len() as u64
+        self.ended.load(Ordering::SeqCst) >= self.processes
     }
 
     /// A process more has ended.
@@ -133,7 +137,7 @@ fn stealers_of(alloc: Global, hands: &[Hand]) -> Result<Vec<Stealer<Job>>, NoMem
 // goes to the worker, from 0, whose number is what t less 1 leaves, divided by the number of
 // workers.
 fn deal_firsts(
-    firsts: &[(u32, usize)],
+    trace: &[Tree],
     homes: &[Option<u32>],
     hands: &mut Vec<Hand>,
 ) -> Result<(), NoMemory> {
@@ -141,17 +145,18 @@ fn deal_firsts(
     if workers == 0 {
         return Err(AllocError);
     }
-    let mut tree: usize = 0;
-    for (pid, process) in firsts {
-        let Some(home) = homes.get(tree) else {
+    let mut place: usize = 0;
+    for tree in trace {
+        let Some(home) = homes.get(place) else {
             return Err(AllocError);
         };
         let job = Job {
-            process: *process,
-            now: first_now(*pid, *home),
+            tree: place,
+            process: 0,
+            now: first_now(tree.pid, *home),
         };
-        hands[tree % workers].add(job)?;
-        tree += 1;
+        hands[place % workers].add(job)?;
+        place += 1;
     }
     Ok(())
 }
@@ -160,12 +165,14 @@ fn deal_firsts(
 /// workers' hands, each with the first processes that are dealt to it.
 ///
 /// Errors: want of memory.
-pub(crate) fn board_of<'a>(
+pub(crate) fn board_of<'a, W: Threads + Sync>(
+    rt: &W,
     alloc: Global,
     trace: &'a [Tree],
     homes: &[Option<u32>],
     workers: u32,
 ) -> Result<(Board<'a>, Vec<Hand>), NoMemory>
+    requires workers { 0 < workers }
     ensures places { IfOk result (λ r. r.0.places.items ≡ places_from 0 trace.now) }
     ensures trace { IfOk result (λ r. r.0.trace.now ≡ trace.now) }
     ensures trees { IfOk result (λ r. r.0.trees ≡ length trace.now) }
@@ -174,15 +181,16 @@ pub(crate) fn board_of<'a>(
         return Err(AllocError);
     };
     let places = places_of(alloc, trace)?;
-    let processes = processes_of(alloc, trace)?;
+    let (of_trees, processes) = processes_of(rt, alloc, trace, workers)?;
     let mut hands = empty_hands(alloc, workers)?;
-    deal_firsts(processes.firsts.as_slice(), homes, &mut hands)?;
+    deal_firsts(trace, homes, &mut hands)?;
     let stealers = stealers_of(alloc, hands.as_slice())?;
     let board = Board {
         trace,
         places,
-        processes: processes.all,
+        of_trees,
         trees,
+        processes,
         stealers,
         ended: AtomicU64::new(0),
         given_up: AtomicU64::new(0),

@@ -1,12 +1,15 @@
-//! The processes of a trace, each with the lines of its own.
+//! The processes of each tree of a trace, with the lines of their own.
+ghost use Rattle.std.specs.Prelude.{◌<◌};
+
 use std::alloc::{AllocError, Global};
 use std::collections::BTreeMap;
+use std::thread::{Threads, for_each_mut};
 use tm_list::NoMemory;
 use tm_types::request::{Ids, Item, Tree};
 
-/// A line of a process: other ids; a child, with its place among all processes and its pid; or a
-/// request, with its place among all `do` lines, from 0, and its record's place in its tree, from
-/// 1.
+/// A line of a process: other ids; a child, with its place among the tree's processes and its pid;
+/// or a request, with its place among the tree's `do` lines, from 0, and its record's place in the
+/// tree, from 1.
 #[derive(Clone, Copy)]
 pub(crate) enum Line {
     Ids(Ids),
@@ -14,64 +17,66 @@ pub(crate) enum Line {
     Do(u64, u32),
 }
 
-/// A process of the tree of a number, from 1, and its lines in order.
+/// A process's lines, in order.
 #[derive(Drop)]
 pub(crate) struct Process {
-    pub(crate) tree: u32,
     pub(crate) lines: Vec<Line>,
 }
 
-/// The processes that were met so far: by pid the place of each, the one that was looked for last,
-/// and how many `do` lines there were. The first process of the tree of number t stands at the
-/// place `firsts[t - 1]`.
+/// The processes of a tree that were met so far, the tree's own first; how many `do` lines all
+/// trees before it have, and it itself; by pid the place of each process, and the one that was
+/// looked for last; and whether all lines were read.
 #[derive(Drop)]
-pub(crate) struct Processes {
+pub(crate) struct TreeProcesses<'a> {
+    tree: &'a Tree,
     pub(crate) all: Vec<Process>,
-    pub(crate) firsts: Vec<(u32, usize)>,
+    pub(crate) before: u64,
+    requests: u64,
     places: BTreeMap<u32, usize>,
     last: Option<(u32, usize)>,
-    requests: u64,
+    whole: bool,
 }
 
-impl Processes {
+impl<'a> TreeProcesses<'a> {
     /// None yet. Takes no memory.
-    fn new(alloc: Global) -> Processes {
-        Processes {
+    fn new(alloc: Global, tree: &'a Tree) -> TreeProcesses<'a> {
+        TreeProcesses {
+            tree,
             all: Vec::new(alloc),
-            firsts: Vec::new(alloc),
+            before: 0,
+            requests: 0,
             places: BTreeMap::new(alloc),
             last: None,
-            requests: 0,
+            whole: false,
         }
     }
 
-    // A process more of a tree, whose place this pid has from now on.
-    fn add(&mut self, alloc: Global, tree: u32, pid: u32) -> Result<usize, NoMemory> {
+    // A process more, whose place this pid has from now on.
+    fn add(&mut self, alloc: Global, pid: u32) -> Result<usize, NoMemory> {
         let place = self.all.len();
         self.all.push(Process {
-            tree,
             lines: Vec::new(alloc),
         })?;
         self.places.insert(pid, place)?;
         Ok(place)
     }
 
-    // The place of a process; one that nobody forked is its tree's too.
-    fn looked_for(&mut self, alloc: Global, tree: u32, pid: u32) -> Result<usize, NoMemory> {
+    // The place of a process; one that nobody forked is the tree's too.
+    fn looked_for(&mut self, alloc: Global, pid: u32) -> Result<usize, NoMemory> {
         match self.places.get(&pid) {
             Some(place) => Ok(*place),
-            None => self.add(alloc, tree, pid),
+            None => self.add(alloc, pid),
         }
     }
 
     // The same. Most lines are of the process that the line before is of.
-    fn place_of(&mut self, alloc: Global, tree: u32, pid: u32) -> Result<usize, NoMemory> {
+    fn place_of(&mut self, alloc: Global, pid: u32) -> Result<usize, NoMemory> {
         if let Some((last, place)) = self.last {
             if last == pid {
                 return Ok(place);
             }
         }
-        let place = self.looked_for(alloc, tree, pid)?;
+        let place = self.looked_for(alloc, pid)?;
         self.last = Some((pid, place));
         Ok(place)
     }
@@ -87,20 +92,20 @@ impl Processes {
         }
     }
 
-    // The record at this place of a tree, from 1.
-    fn read(&mut self, alloc: Global, tree: u32, place: u32, item: &Item) -> Result<(), NoMemory> {
+    // The record at this place of the tree, from 1.
+    fn read_item(&mut self, alloc: Global, place: u32, item: &Item) -> Result<(), NoMemory> {
         match item {
             Item::Ids(pid, ids) => {
-                let process = self.place_of(alloc, tree, *pid)?;
+                let process = self.place_of(alloc, *pid)?;
                 self.push(process, Line::Ids(*ids))
             }
             Item::Fork(pid, child) => {
-                let process = self.place_of(alloc, tree, *pid)?;
-                let born = self.add(alloc, tree, *child)?;
+                let process = self.place_of(alloc, *pid)?;
+                let born = self.add(alloc, *child)?;
                 self.push(process, Line::Fork(born, *child))
             }
             Item::Do(pid, _) => {
-                let process = self.place_of(alloc, tree, *pid)?;
+                let process = self.place_of(alloc, *pid)?;
                 let line = self.requests;
                 self.requests = self.requests.saturating_add(1);
                 self.push(process, Line::Do(line, place))
@@ -108,16 +113,21 @@ impl Processes {
         }
     }
 
-    // All records of the tree of a number.
-    fn read_tree(&mut self, alloc: Global, number: u32, tree: &Tree) -> Result<(), NoMemory> {
-        let first = self.add(alloc, number, tree.pid)?;
-        self.firsts.push((tree.pid, first))?;
+    // All records of the tree.
+    fn read_all(&mut self, alloc: Global) -> Result<(), NoMemory> {
+        let tree = self.tree;
+        self.add(alloc, tree.pid)?;
         let mut place: u32 = 0;
         for item in tree.records.as_slice() {
             place = place.saturating_add(1);
-            self.read(alloc, number, place, item)?;
+            self.read_item(alloc, place, item)?;
         }
         Ok(())
+    }
+
+    // The tree's processes. They aren't whole where no memory is left.
+    fn read(&mut self, alloc: Global) {
+        self.whole = self.read_all(alloc).is_ok();
     }
 }
 
@@ -145,15 +155,43 @@ fn has_fork(records: &[Item]) -> bool {
     false
 }
 
-/// The processes of a trace: the first process of each tree, and every child.
-///
-/// Errors: want of memory.
-pub(crate) fn processes_of(alloc: Global, trace: &[Tree]) -> Result<Processes, NoMemory> {
-    let mut processes = Processes::new(alloc);
-    let mut number: u32 = 0;
-    for tree in trace {
-        number = number.saturating_add(1);
-        processes.read_tree(alloc, number, tree)?;
+// Counts the `do` lines before each tree, and gives the number of all processes.
+fn count_before(trees: &mut Vec<TreeProcesses<'_>>) -> Result<u64, NoMemory> {
+    let mut before: u64 = 0;
+    let mut processes: u64 = 0;
+    for tree in trees.as_mut_slice() {
+        if !tree.whole {
+            return Err(AllocError);
+        }
+        tree.before = before;
+        before = before.saturating_add(tree.requests);
+        processes = processes.saturating_add(tree.all.len() as u64);
     }
     Ok(processes)
+}
+
+/// The processes of each tree of a trace, its first one and every child, and the number of all. The
+/// trees are read beside each other, by as many threads as there will be workers.
+///
+/// Errors: want of memory.
+pub(crate) fn processes_of<'a, W: Threads + Sync>(
+    rt: &W,
+    alloc: Global,
+    trace: &'a [Tree],
+    workers: u32,
+) -> Result<(Vec<TreeProcesses<'a>>, u64), NoMemory>
+    requires workers { 0 < workers }
+{
+    let mut trees = Vec::with_capacity(alloc, trace.len())?;
+    for tree in trace {
+        trees.push(TreeProcesses::new(alloc, tree))?;
+    }
+    for_each_mut(
+        rt,
+        trees.as_mut_slice(),
+        workers as usize,
+        &|_, tree| { tree.read(alloc) },
+    );
+    let processes = count_before(&mut trees)?;
+    Ok((trees, processes))
 }

@@ -16,7 +16,7 @@ use crate::board::{Hand, board_of};
 use crate::processes::is_shared;
 use std::alloc::Global;
 use std::sync::Wait;
-use std::thread::Threads;
+use std::thread::{Threads, spawn};
 use tm_desk::Desk;
 use tm_engine::gate::Gate;
 use tm_list::NoMemory;
@@ -71,10 +71,17 @@ fn steal_trace<
 {
     let supervised = machine.opening().desk;
     let homes = homes_of(alloc, &machine, trace.as_slice())?;
-    let (board, hands) = board_of(alloc, trace.as_slice(), homes.as_slice(), workers)?;
+    let (board, hands) = board_of(rt, alloc, trace.as_slice(), homes.as_slice(), workers)?;
     let (machine, given) = play_parts(rt, alloc, machine, hands, desk, gate, &board)?;
-    let rows = gather(alloc, trace.as_slice(), homes, supervised, given)?;
+    let rows = gather(rt, alloc, trace.as_slice(), homes, supervised, given)?;
     Ok((machine, rows))
+}
+
+// Frees a trace by a thread of its own, which goes on beside what its caller does then.
+fn free_beside<W: Threads>(rt: &W, trace: Trace) {
+    if let Err(refused) = spawn(rt, move || drop(trace)) {
+        drop(refused);
+    }
 }
 
 /// Plays a trace by so many workers beside each other, while the machine's editors make their lines
@@ -84,7 +91,8 @@ fn steal_trace<
 /// opening, and ends when all trees have been played. The gate is called before each request is
 /// first looked at, and before each line of an editor. Gives the run, its takes in the order of the
 /// trace, the opening, and the policy at the last version. Where no process would ever wait for a
-/// worker, trees are played as `replay_run` plays them. Nothing of the trace is copied.
+/// worker, trees are played as `replay_run` plays them. Nothing of the trace is copied; a thread of
+/// its own frees it, beside what the caller does then.
 ///
 /// Errors: want of memory, or more than 32 threads.
 pub fn steal_run<
@@ -122,6 +130,7 @@ pub fn steal_run<
     stolen_runs_are_legal::<Hand>();
     let (machine, rows) = steal_trace(rt, alloc, machine, &trace, workers, desk, gate)?;
     machine.versions();
+    free_beside(rt, trace);
     let takes = takes_of(alloc, rows)?;
     let (steps, opening, last) = machine.into_history(alloc)?;
     Ok((Run { steps, takes }, opening, last))

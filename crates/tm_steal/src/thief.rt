@@ -20,7 +20,6 @@ use tm_replay::take::ProcessSituation;
 use tm_steal_rows::{
     Played, end_trees, lines_can_be_asked, play_line, request_at, workers_steal_on,
 };
-use tm_types::kept::Kept;
 use tm_types::request::{Proc, Request};
 
 // The request of a line, which the trace and whoever plays it have together, since any worker may
@@ -68,8 +67,8 @@ fn play_request<S: Seat>(
     let taken = play_line(
         seat, alloc, tree, place, line, now, domain, request, since, spent,
     )?;
-    let after = taken.take.after;
-    played.push(Played::Take(Kept::new(alloc, taken)?))?;
+    let after = taken.take.get().after;
+    played.push(Played::Take(taken))?;
     Ok(after)
 }
 
@@ -86,13 +85,15 @@ fn child_of(now: ProcessSituation, child: u32) -> ProcessSituation {
     }
 }
 
-// A line of a process that stands here, and where it stands afterwards.
+// A line of a process that stands here, and where it stands afterwards. Its tree is the one at this
+// place, after so many `do` lines of others.
 fn pass_line<S: Seat>(
     board: &Board<'_>,
     seat: &mut S,
     alloc: Global,
     hand: &mut Hand,
-    tree: u32,
+    tree: usize,
+    before: u64,
     line: Line,
     now: ProcessSituation,
     played: &mut Vec<Played>,
@@ -112,14 +113,20 @@ fn pass_line<S: Seat>(
         }),
         Line::Fork(place, child) => {
             hand.add(Job {
+                tree,
                 process: place,
                 now: child_of(now, child),
             })?;
             Ok(now)
         }
-        Line::Do(number, place) => {
+        Line::Do(within, place) => {
+            let Ok(number) = u32::try_from(tree) else {
+                return Err(AllocError);
+            };
+            let number = number.saturating_add(1);
+            let line = before.saturating_add(within);
             let spent = &mut hand.spent;
-            let after = play_request(board, seat, alloc, tree, place, number, now, spent, played)?;
+            let after = play_request(board, seat, alloc, number, place, line, now, spent, played)?;
             Ok(ProcessSituation {
                 process,
                 domain: Some(after),
@@ -144,12 +151,25 @@ fn play_process<S: Seat>(
     ensures opening { S.opening seat.new ≡ S.opening seat.old }
     ensures grows { Begins (S.at seat.old) (S.at seat.new) }
 {
-    let Some(process) = board.processes.get(job.process) else {
+    let Some(tree) = board.of_trees.get(job.tree) else {
+        return Err(AllocError);
+    };
+    let Some(process) = tree.all.get(job.process) else {
         return Err(AllocError);
     };
     let mut now = job.now;
     for line in process.lines.as_slice() {
-        now = pass_line(board, seat, alloc, hand, process.tree, *line, now, played)?;
+        now = pass_line(
+            board,
+            seat,
+            alloc,
+            hand,
+            job.tree,
+            tree.before,
+            *line,
+            now,
+            played,
+        )?;
     }
     Ok(())
 }

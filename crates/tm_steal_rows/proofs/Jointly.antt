@@ -51,10 +51,10 @@ who owner workers editors Maker.Desk = Some (workers + editors)
 others-follow : (owner : ℕ → Option ℕ) (workers editors : ℕ) → OthersFollow (who owner workers editors) workers editors
 others-follow owner workers editors = record { editor = λ e. refl; desk = refl }
 
-owned-makers : (owner : ℕ → Option ℕ) (workers editors worker : ℕ) (all : List Played) → AllByRecursion (IsOwned owner worker) all → AllByRecursion (λ maker. who owner workers editors maker ≡ Some worker) (map maker_of all)
-owned-makers owner workers editors worker [] h = tt
-owned-makers owner workers editors worker (Played.Take played ∷ all) h = (h.0, owned-makers owner workers editors worker all h.1)
-owned-makers owner workers editors worker (Played.End tree number ∷ all) h = (ap Some (sym h.0), owned-makers owner workers editors worker all h.1)
+owned-makers : (start : Start) (trace : Trace) (list : List Made) (owner : ℕ → Option ℕ) (workers editors worker : ℕ) (all : List Played) → AllByRecursion (IsPlayed start trace list) all → AllByRecursion (IsOwned owner worker) all → AllByRecursion (λ maker. who owner workers editors maker ≡ Some worker) (map maker_of all)
+owned-makers start trace list owner workers editors worker [] played h = tt
+owned-makers start trace list owner workers editors worker (Played.Take one ∷ all) played h = (ap owner played.0.pid ∙ h.0, owned-makers start trace list owner workers editors worker all played.1 h.1)
+owned-makers start trace list owner workers editors worker (Played.End tree number ∷ all) played h = (ap Some (sym h.0), owned-makers start trace list owner workers editors worker all played.1 h.1)
 
 module _ {H : Type 0} (start : Start) (trace : Trace) (floor : ℕ) (list : List Made) where
   -- each worker's steps are claimed by its pass
@@ -63,7 +63,7 @@ module _ {H : Type 0} (start : Start) (trace : Trace) (floor : ℕ) (list : List
   claims-workers owner workers editors worker [] (done ∷ deeds) did owned = absurd did
   claims-workers owner workers editors worker (hand ∷ hands) [] did owned = absurd did
   claims-workers owner workers editors worker (hand ∷ hands) (done ∷ deeds) did owned = (
-    did.0.claims (who owner workers editors) worker (owned-makers owner workers editors worker done.rows owned.0),
+    did.0.claims (who owner workers editors) worker (owned-makers start trace list owner workers editors worker done.rows did.0.each owned.0),
     claims-workers owner workers editors (suc worker) hands deeds did.1 owned.1,
   )
 

@@ -1,6 +1,6 @@
 -- How what the workers give back is gathered: whose each process was, the takes by their lines, and
 -- a row for each tree.
-use Rattle.std.specs.Prelude.{◌≡◌, ⊤, ℕ, suc, ◌≤◌, ◌<◌, ◌+◌, ◌⊎◌, Bool, List, [], ◌∷◌, ◌++◌, map, flat_map, Option, Some, None, is_some, option_to_list, slice_get, slice_set}
+use Rattle.std.specs.Prelude.{◌≡◌, ⊤, ℕ, suc, ◌≤◌, ◌<◌, ◌+◌, ◌⊎◌, Bool, true, List, [], ◌∷◌, ◌++◌, map, flat_map, Option, Some, None, is_some, option_to_list, slice_get, slice_set}
 use Rattle.std.specs.Option.{IfSome}
 use Rattle.std.specs.List.{AllByRecursion}
 use Rattle.tm_types.specs.declared.policy.Policy.{Policy}
@@ -16,12 +16,13 @@ use Rattle.tm_parts.specs.PlayedTree.{PlayedTree}
 use Rattle.tm_verify_notes.specs.Cases.{first_stand}
 use Rattle.tm_steal_rows.specs.declared.played.Played.{Played}
 use Rattle.tm_steal_rows.specs.declared.played.PlayedTake.{PlayedTake}
+use Rattle.tm_steal_rows.specs.declared.parts.TreePart.{TreePart}
 
 -- Whose they were
 
--- a take is of a process that this worker owns; the first worker ends the trees
+-- a take's process is one that this worker owns; the first worker ends the trees
 abbrev pub IsOwned : (ℕ → Option ℕ) → ℕ → Played → Type 0
-IsOwned owner worker (Played.Take played) = owner played.take.pid ≡ Some worker
+IsOwned owner worker (Played.Take played) = owner played.stood.process.pid ≡ Some worker
 IsOwned owner worker (Played.End tree number) = worker ≡ 0
 
 -- the process of this pid, if one is told, is one that this worker owns
@@ -172,6 +173,57 @@ RowsAreOf supervised t (tree ∷ trees) (home ∷ homes) takes ends (row ∷ row
     (takes_left : List PlayedTake) × (ends_left : List (ℕ × ℕ))
     × TakesRow supervised t tree home takes ends row takes_left ends_left
     × RowsAreOf supervised (suc t) trees homes takes_left ends_left rows
+
+-- Parts of trees, which are walked beside each other
+
+-- a tree's part has the takes of the first of these places, and the others are left
+pub record IsPartOf (tree : Tree) (home : Option ℕ) (slots : List (Option PlayedTake)) (part : TreePart)
+    (slots_left : List (Option PlayedTake)) : Type 0 where
+  pub tree_is : part.tree.now ≡ tree
+  pub home_is : part.home ≡ home
+  pub slots_are : slots ≡ map Some part.left.items ++ slots_left
+
+-- a part for each tree, of all these places in their order, none of which is empty
+abbrev pub PartsAreOf : Trace → List (Option ℕ) → List (Option PlayedTake) → List TreePart → Type 0
+PartsAreOf [] homes slots [] = slots ≡ []
+PartsAreOf [] homes slots (part ∷ parts) = ⊥
+PartsAreOf (tree ∷ trees) homes slots [] = ⊥
+PartsAreOf (tree ∷ trees) [] slots (part ∷ parts) = ⊥
+PartsAreOf (tree ∷ trees) (home ∷ homes) slots (part ∷ parts) =
+    (slots_left : List (Option PlayedTake))
+    × IsPartOf tree home slots part slots_left × PartsAreOf trees homes slots_left parts
+
+-- a part after its tree's walk: its takes, if there are some, are the first of those that were left
+abbrev pub IsWalked : TreePart → TreePart → Type 0
+IsWalked old new = IfSome new.takes
+    (λ takes. TakesOfTree old.home old.tree.now.records old.left.items takes.items new.left.items)
+
+-- each part after its tree's walk
+abbrev pub AreWalked : List TreePart → List TreePart → Type 0
+AreWalked [] [] = ⊤
+AreWalked [] (new ∷ news) = ⊥
+AreWalked (old ∷ olds) [] = ⊥
+AreWalked (old ∷ olds) (new ∷ news) = IsWalked old new × AreWalked olds news
+
+-- the row of a part that was walked to its end, with the next of these Ends; the others are left
+pub record IsRowOf (supervised : Bool) (t : ℕ) (part : TreePart) (ends : List (ℕ × ℕ)) (row : PlayedTree)
+    (ends_left : List (ℕ × ℕ)) : Type 0 where
+  pub number : row.number ≡ t
+  pub all_walked : part.left.items ≡ []
+  pub has_takes : is_some part.takes ≡ true
+  pub takes_are : IfSome part.takes (λ takes. row.takes ≡ takes.items)
+  pub end : EndsNext supervised t ends row.end ends_left
+  pub above : StandsAbove row.end row.takes
+
+-- a row for each part, where the first one has number t, with the first of these Ends; the others
+-- are left
+abbrev pub RowsAreOfParts : Bool → ℕ → List TreePart → List (ℕ × ℕ) → List PlayedTree → List (ℕ × ℕ) → Type 0
+RowsAreOfParts supervised t [] ends [] ends_left = ends ≡ ends_left
+RowsAreOfParts supervised t [] ends (row ∷ rows) ends_left = ⊥
+RowsAreOfParts supervised t (part ∷ parts) ends [] ends_left = ⊥
+RowsAreOfParts supervised t (part ∷ parts) ends (row ∷ rows) ends_left =
+    (ends_next : List (ℕ × ℕ))
+    × IsRowOf supervised t part ends row ends_next × RowsAreOfParts supervised (suc t) parts ends_next rows ends_left
 
 -- the domains that the trees start in: those of their names
 abbrev pub homes_of : Policy → Trace → List (Option ℕ)

@@ -1,11 +1,12 @@
 //! What workers play of a trace whose processes they take from each other, and the rows that are
-//! gathered of it. Stands on tm_seat for takes, on tm_parts for runs; on no engine and no threads.
+//! gathered of it. Stands on tm_seat for takes, on tm_parts for runs, and on no engine.
 //! Promises that what is gathered, each worker's part compared by value, is a legal run.
 #![tactic(auto)]
 
 mod law;
 mod lines;
 mod owners;
+mod parts;
 mod played;
 mod rows;
 mod slots;

@@ -67,7 +67,7 @@ fn own_one(
 {
     match played {
         Played::Take(played) => {
-            let pid = played.get().take.pid;
+            let pid = played.stood.process.pid;
             own_next(owners, worker, last, pid)?;
             Ok(Some(pid))
         }

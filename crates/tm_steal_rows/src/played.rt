@@ -19,25 +19,26 @@ use tm_types::step::{Made, Maker, Settled, Step, Take};
 use tm_verify_notes::taking::ProcessSituation;
 
 /// A take that was played: the place of its line among the `do` lines of the trace, from 0, where
-/// its process stood, how many steps were known when it began, and the take.
+/// its process stood, how many steps were known when it began, and the take. It is kept apart, so
+/// that whoever puts played takes into another order doesn't read takes that others have written.
 #[derive(Drop)]
 pub struct PlayedTake {
     pub line: u64,
     pub stood: ProcessSituation,
     pub since: u64,
-    pub take: Take,
+    pub take: Kept<Take>,
 }
 
 /// What a worker has played: a take, or the End of the tree of a number, with the number of its
-/// step. Takes are kept apart, since they are put into other orders.
+/// step.
 #[derive(Drop)]
 pub enum Played {
-    Take(Kept<PlayedTake>),
+    Take(PlayedTake),
     End(u32, u64),
 }
 
 /// Plays the request of a line, whose process stands here, in the domain of this number, by a seat
-/// that knows at least so many steps. The request is freed; `spent` is what it is put into for
+/// that knows at least so many steps. The request is dropped; `spent` is what it is put into for
 /// that, so that no list is made for it.
 ///
 /// Errors: want of memory, or that no answer can come any more.
@@ -74,6 +75,7 @@ pub fn play_line<S: Seat>(
     seat.begin(tree, place);
     let take = play_take(seat, alloc, now, domain, request, spent)?;
     spent.clear();
+    let take = Kept::new(alloc, take)?;
     Ok(PlayedTake {
         line,
         stood: now,

@@ -2,19 +2,20 @@
 ghost use Rattle.std.specs.Prelude.{◌≡◌, [], IsTrue, IfOk};
 ghost use Rattle.tm_legal.specs.Run.{raised};
 ghost use Rattle.tm_joint.specs.Played.{seen_by};
-ghost use Rattle.tm_steal_rows.specs.Gathering.{EndsNext, StandsAbove, TakesRow, RowsAreOf, IsGathered};
+ghost use Rattle.tm_steal_rows.specs.Gathering.{EndsNext, StandsAbove, IsRowOf, RowsAreOfParts, IsGathered};
 
 use crate::owners::check_owners;
+use crate::parts::{TreePart, count_lines, none_left, parts_of, walk_parts};
 use crate::played::Played;
-use crate::slots::{InOrder, lay_out};
-use crate::walk::walk_tree;
+use crate::slots::{Laid, lay_out};
 use std::alloc::{AllocError, Global};
 use std::collections::VecDeque;
+use std::thread::Threads;
 use tm_list::{NoMemory, Seq};
 use tm_parts::seat::PlayedTree;
 use tm_types::request::Tree;
 use tm_types::step::Take;
-use tm_verify_notes::{all_do_pids, raised_by_looks};
+use tm_verify_notes::raised_by_looks;
 
 // The highest version that these takes have seen.
 #[tactic(auto, using(tm_verify_notes::proofs::CaseLaws::raised_more))]
@@ -58,20 +59,24 @@ fn next_end(
     Ok(Some(end))
 }
 
-// The row of the tree of this number.
+// The row of the tree of this number, of its part.
 fn next_row(
     alloc: Global,
     supervised: bool,
     number: u32,
-    tree: &Tree,
-    home: Option<u32>,
-    laid: &mut InOrder,
+    part: TreePart<'_>,
+    ends: &mut VecDeque<(u32, u64)>,
 ) -> Result<PlayedTree, NoMemory>
-    ensures { IfOk result (λ row. TakesRow supervised number tree.now home
-        laid.old.takes.items laid.old.ends.items row laid.new.takes.items laid.new.ends.items) }
+    ensures { IfOk result (λ row. IsRowOf supervised number part.entry ends.old.items row ends.new.items) }
 {
-    let takes = walk_tree(alloc, home, tree.records.as_slice(), &mut laid.takes)?;
-    let end = next_end(supervised, number, &mut laid.ends)?;
+    let TreePart { left, takes, .. } = part;
+    if !none_left(&left) {
+        return Err(AllocError);
+    }
+    let Some(takes) = takes else {
+        return Err(AllocError);
+    };
+    let end = next_end(supervised, number, ends)?;
     if !stands_above(end, takes.as_slice()) {
         return Err(AllocError);
     }
@@ -83,52 +88,41 @@ fn next_row(
     })
 }
 
-// Whether no take and no End is left.
-fn nothing_is_left(laid: &InOrder) -> bool
-    ensures takes { IsTrue result → laid.now.takes.items ≡ [] }
-    ensures ends { IsTrue result → laid.now.ends.items ≡ [] }
-{
-    laid.takes.is_empty() && laid.ends.is_empty()
-}
-
-// The rows of all trees, which start in these domains.
+// The rows of all trees, of their parts.
 fn all_rows(
     alloc: Global,
     supervised: bool,
-    trace: &[Tree],
-    homes: Vec<Option<u32>>,
-    laid: InOrder,
+    parts: Vec<TreePart<'_>>,
+    ends: VecDeque<(u32, u64)>,
 ) -> Result<Vec<PlayedTree>, NoMemory>
-    ensures { IfOk result (λ rows. RowsAreOf supervised 1 trace.now homes.items
-        laid.takes.items laid.ends.items rows.items) }
+    ensures { IfOk result (λ rows.
+        RowsAreOfParts supervised 1 parts.entry.items ends.items rows.items []) }
 {
-    let mut homes = VecDeque::from(homes);
-    let mut laid = laid;
-    let mut rows = Vec::new(alloc);
+    let mut ends = ends;
+    let mut rows = Vec::with_capacity(alloc, parts.len())?;
     let mut number: u32 = 0;
-    for tree in trace {
+    for part in parts {
         let Some(next) = number.checked_add(1) else {
             return Err(AllocError);
         };
-        let Some(home) = homes.pop_front() else {
-            return Err(AllocError);
-        };
-        rows.push(next_row(alloc, supervised, next, tree, home, &mut laid)?)?;
+        rows.push(next_row(alloc, supervised, next, part, &mut ends)?)?;
         number = next;
     }
-    if nothing_is_left(&laid) {
+    if none_left(&ends) {
         return Ok(rows);
     }
     Err(AllocError)
 }
 
 /// Gathers what the workers give back into a row for each tree of the trace, whose processes start
-/// in these domains. Whatever doesn't agree is refused: a process that two workers have played, a
-/// line with no take or two, a take that began where its process doesn't stand, or before all that
-/// the process has seen was known, an End that isn't above all that its tree has seen.
+/// in these domains. The trees are walked beside each other, by as many threads as there were
+/// workers. Whatever doesn't agree is refused: a process that two workers have played, a line with
+/// no take or two, a take that began where its process doesn't stand, or before all that the
+/// process has seen was known, an End that isn't above all that its tree has seen.
 ///
 /// Errors: want of memory, or that something doesn't agree.
-pub fn gather(
+pub fn gather<W: Threads + Sync>(
+    rt: &W,
     alloc: Global,
     trace: &[Tree],
     homes: Vec<Option<u32>>,
@@ -139,7 +133,9 @@ pub fn gather(
         IsGathered trace.now homes.items supervised given.items rows.items) }
 {
     check_owners(alloc, given.as_slice())?;
-    let count = all_do_pids(alloc, trace)?.len();
-    let laid = lay_out(alloc, given, count)?;
-    all_rows(alloc, supervised, trace, homes, laid)
+    let workers = given.len().max(1);
+    let Laid { slots, ends } = lay_out(alloc, given, count_lines(trace))?;
+    let mut parts = parts_of(alloc, trace, homes, slots)?;
+    walk_parts(rt, alloc, workers, parts.as_mut_slice());
+    all_rows(alloc, supervised, parts, ends)
 }

@@ -1,22 +1,22 @@
 //! The takes by their lines.
-ghost use Rattle.std.specs.Prelude.{◌≡◌, ◌++◌, ◌∷◌, [], replicate, map, Some, None, IfOk, OnOk};
-ghost use Rattle.tm_steal_rows.specs.Gathering.{all_given, takes_of, ends_of, take_of, end_of, Fills, AreLaid, AreByLine};
+ghost use Rattle.std.specs.Prelude.{◌≡◌, ◌++◌, ◌∷◌, [], replicate, None, IfOk, OnOk};
+ghost use Rattle.tm_steal_rows.specs.Gathering.{all_given, takes_of, ends_of, take_of, end_of, Fills, AreLaid};
 
 use crate::played::{Played, PlayedTake};
 use std::alloc::{AllocError, Global};
 use std::collections::VecDeque;
 use tm_list::{NoMemory, Seq};
-use tm_types::kept::Kept;
 
-/// All takes, by their lines, and all Ends, each with its tree's number.
+/// The places of all lines, with the takes that are there, and all Ends, each with its tree's
+/// number.
 #[derive(Drop)]
-pub(crate) struct InOrder {
-    pub(crate) takes: VecDeque<Kept<PlayedTake>>,
+pub(crate) struct Laid {
+    pub(crate) slots: Vec<Option<PlayedTake>>,
     pub(crate) ends: VecDeque<(u32, u64)>,
 }
 
 // So many empty places.
-fn empty_slots(alloc: Global, count: usize) -> Result<Vec<Option<Kept<PlayedTake>>>, NoMemory>
+fn empty_slots(alloc: Global, count: usize) -> Result<Vec<Option<PlayedTake>>, NoMemory>
     ensures { IfOk result (λ slots. slots.items ≡ replicate count None) }
 {
     let mut slots = Vec::with_capacity(alloc, count)?;
@@ -27,10 +27,10 @@ fn empty_slots(alloc: Global, count: usize) -> Result<Vec<Option<Kept<PlayedTake
 }
 
 // A take at the place of its line.
-fn fill(slots: &mut Vec<Option<Kept<PlayedTake>>>, played: Kept<PlayedTake>) -> Result<(), NoMemory>
+fn fill(slots: &mut Vec<Option<PlayedTake>>, played: PlayedTake) -> Result<(), NoMemory>
     ensures { OnOk result (Fills slots.old.items played slots.new.items) }
 {
-    let place = played.get().line as usize;
+    let place = played.line as usize;
     match slots.get(place) {
         Some(None) => {
             slots[place] = Some(played);
@@ -42,7 +42,7 @@ fn fill(slots: &mut Vec<Option<Kept<PlayedTake>>>, played: Kept<PlayedTake>) -> 
 
 // What was played: a take at the place of its line, or an End behind the others.
 fn lay(
-    slots: &mut Vec<Option<Kept<PlayedTake>>>,
+    slots: &mut Vec<Option<PlayedTake>>,
     ends: &mut VecDeque<(u32, u64)>,
     played: Played,
 ) -> Result<(), NoMemory>
@@ -60,7 +60,7 @@ fn lay(
 
 // All that a worker has played.
 fn lay_all(
-    slots: &mut Vec<Option<Kept<PlayedTake>>>,
+    slots: &mut Vec<Option<PlayedTake>>,
     ends: &mut VecDeque<(u32, u64)>,
     all: Seq<Played>,
 ) -> Result<(), NoMemory>
@@ -75,7 +75,7 @@ fn lay_all(
 
 // All that the workers give back.
 fn lay_given(
-    slots: &mut Vec<Option<Kept<PlayedTake>>>,
+    slots: &mut Vec<Option<PlayedTake>>,
     ends: &mut VecDeque<(u32, u64)>,
     given: Vec<Seq<Played>>,
 ) -> Result<(), NoMemory>
@@ -90,38 +90,20 @@ fn lay_given(
     Ok(())
 }
 
-// The takes of all places, none of which may be empty.
-fn in_order(
-    alloc: Global,
-    slots: Vec<Option<Kept<PlayedTake>>>,
-) -> Result<VecDeque<Kept<PlayedTake>>, NoMemory>
-    ensures { IfOk result (λ takes. map Some takes.items ≡ slots.items) }
-{
-    let mut takes = VecDeque::with_capacity(alloc, slots.len())?;
-    for slot in slots {
-        let Some(played) = slot else {
-            return Err(AllocError);
-        };
-        takes.push_back(played)?;
-    }
-    Ok(takes)
-}
-
 /// All that the workers give back, where there are so many lines.
 ///
-/// Errors: want of memory; that a line has no take, or more than one.
+/// Errors: want of memory; that a line has more than one take.
 pub(crate) fn lay_out(
     alloc: Global,
     given: Vec<Seq<Played>>,
     count: usize,
-) -> Result<InOrder, NoMemory>
-    ensures takes { IfOk result (λ laid.
-        AreByLine (takes_of (all_given given.items)) laid.takes.items) }
+) -> Result<Laid, NoMemory>
+    ensures takes { IfOk result (λ laid. AreLaid (replicate count None)
+        (takes_of (all_given given.items)) laid.slots.items) }
     ensures ends { IfOk result (λ laid. laid.ends.items ≡ ends_of (all_given given.items)) }
 {
     let mut slots = empty_slots(alloc, count)?;
     let mut ends = VecDeque::new(alloc);
     lay_given(&mut slots, &mut ends, given)?;
-    let takes = in_order(alloc, slots)?;
-    Ok(InOrder { takes, ends })
+    Ok(Laid { slots, ends })
 }

@@ -9,7 +9,6 @@ use crate::played::PlayedTake;
 use std::alloc::{AllocError, Global};
 use std::collections::VecDeque;
 use tm_list::{NoMemory, Same};
-use tm_types::kept::Kept;
 use tm_types::request::{Ids, Item, Proc};
 use tm_types::step::Take;
 use tm_verify_notes::{Stand, Stands};
@@ -47,7 +46,7 @@ fn stands_there(stand: Stand, played: &PlayedTake) -> bool
 // The take of the next request, which is of this process: the first that is left.
 fn next_take(
     known: &mut Stands,
-    left: &mut VecDeque<Kept<PlayedTake>>,
+    left: &mut VecDeque<PlayedTake>,
     pid: u32,
 ) -> Result<Take, NoMemory>
     ensures { IfOk result (λ take. (played : PlayedTake)
@@ -56,23 +55,26 @@ fn next_take(
         × (stands known.new ≡ with_situation (stands known.old) pid
         (after_take (stands known.old pid) take))) }
 {
-    let Some(kept) = left.pop_front() else {
+    let Some(played) = left.pop_front() else {
         return Err(AllocError);
     };
-    let played = kept.into_value();
     let stand = known.at(pid);
-    if played.take.pid != pid || !stands_there(stand, &played) {
+    if !stands_there(stand, &played) {
         return Err(AllocError);
     }
-    known.take(pid, stand, &played.take)?;
-    Ok(played.take)
+    let take = played.take.into_value();
+    if take.pid != pid {
+        return Err(AllocError);
+    }
+    known.take(pid, stand, &take)?;
+    Ok(take)
 }
 
 // One line: a process has other ids, a child stands where its parent does, or a request has its
 // take.
 fn walk_line(
     known: &mut Stands,
-    left: &mut VecDeque<Kept<PlayedTake>>,
+    left: &mut VecDeque<PlayedTake>,
     item: &Item,
     takes: &mut Vec<Take>,
 ) -> Result<(), NoMemory>
@@ -99,7 +101,7 @@ pub(crate) fn walk_tree(
     alloc: Global,
     home: Option<u32>,
     records: &[Item],
-    left: &mut VecDeque<Kept<PlayedTake>>,
+    left: &mut VecDeque<PlayedTake>,
 ) -> Result<Vec<Take>, NoMemory>
     ensures { IfOk result (λ takes.
         TakesOfTree home records.now left.old.items takes.items left.new.items) }

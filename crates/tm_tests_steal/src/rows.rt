@@ -1,5 +1,6 @@
 //! Rows that are gathered of what two workers give back, and what is refused.
 use std::alloc::Global;
+use std::thread::Threads;
 use tm_list::{NoMemory, Seq};
 use tm_steal_rows::{Played, PlayedTake, gather, places_of, request_at};
 use tm_take::ProcessSituation;
@@ -106,9 +107,9 @@ fn played(alloc: Global, row: &Row) -> Result<Played, NoMemory> {
             domain: Some(row[4]),
         },
         since: u64::from(row[5]),
-        take: take(alloc, row)?,
+        take: Kept::new(alloc, take(alloc, row)?)?,
     };
-    Ok(Played::Take(Kept::new(alloc, played)?))
+    Ok(Played::Take(played))
 }
 
 /// What a worker gives back.
@@ -133,7 +134,8 @@ fn given_by(
 }
 
 /// The pids of all rows' takes and the Ends, in order; None where the rows are refused.
-fn gathered(
+fn gathered<W: Threads + Sync>(
+    rt: &W,
     alloc: Global,
     takes: &[Row],
     ends: &[End],
@@ -146,7 +148,7 @@ fn gathered(
     let mut given = Vec::new(alloc);
     given.push(given_by(alloc, 0, takes, ends)?)?;
     given.push(given_by(alloc, 1, takes, ends)?)?;
-    let Ok(rows) = gather(alloc, trees.as_slice(), homes, supervised, given) else {
+    let Ok(rows) = gather(rt, alloc, trees.as_slice(), homes, supervised, given) else {
         return Ok(None);
     };
     let mut told = Vec::new(alloc);
@@ -163,10 +165,10 @@ fn gathered(
 #[test]
 fn a_row_for_each_tree_where_all_agrees(rt: HostRuntime) -> Result<(), NoMemory> {
     let alloc = rt.alloc();
-    let told = gathered(alloc, TAKES.as_slice(), ENDS.as_slice(), true)?;
+    let told = gathered(&rt, alloc, TAKES.as_slice(), ENDS.as_slice(), true)?;
     let told = told.unwrap_or(Vec::new(alloc));
     assert_eq!(rt; told.as_slice(), [1u64, 5, 6, 5, 9, 2, 7, 10].as_slice());
-    let alone = gathered(alloc, TAKES.as_slice(), &[], false)?;
+    let alone = gathered(&rt, alloc, TAKES.as_slice(), &[], false)?;
     let alone = alone.unwrap_or(Vec::new(alloc));
     assert_eq!(rt; alone.as_slice(), [1u64, 5, 6, 5, 0, 2, 7, 0].as_slice());
     Ok(())
@@ -190,14 +192,20 @@ fn takes_that_do_not_agree_are_refused(rt: HostRuntime) -> Result<(), NoMemory> 
     for (row, place, number) in WRONG_TAKES {
         let mut takes = TAKES;
         takes[row][place] = number;
-        let told = gathered(rt.alloc(), takes.as_slice(), ENDS.as_slice(), true)?;
+        let told = gathered(&rt, rt.alloc(), takes.as_slice(), ENDS.as_slice(), true)?;
         assert!(rt; told.is_none(), "{row} {place}");
     }
-    let few = gathered(rt.alloc(), &TAKES[1..], ENDS.as_slice(), true)?;
+    let few = gathered(&rt, rt.alloc(), &TAKES[1..], ENDS.as_slice(), true)?;
     assert!(rt; few.is_none());
     let mut other_user = TAKES;
     other_user[3][8] = 1;
-    let told = gathered(rt.alloc(), other_user.as_slice(), ENDS.as_slice(), true)?;
+    let told = gathered(
+        &rt,
+        rt.alloc(),
+        other_user.as_slice(),
+        ENDS.as_slice(),
+        true,
+    )?;
     assert!(rt; told.is_none());
     Ok(())
 }
@@ -210,11 +218,11 @@ fn ends_that_do_not_agree_are_refused(rt: HostRuntime) -> Result<(), NoMemory> {
     for (end, place, number) in WRONG_ENDS {
         let mut ends = ENDS;
         ends[end][place] = number;
-        let told = gathered(rt.alloc(), TAKES.as_slice(), ends.as_slice(), true)?;
+        let told = gathered(&rt, rt.alloc(), TAKES.as_slice(), ends.as_slice(), true)?;
         assert!(rt; told.is_none(), "{end} {place}");
     }
-    let few = gathered(rt.alloc(), TAKES.as_slice(), &ENDS[..1], true)?;
-    let many = gathered(rt.alloc(), TAKES.as_slice(), &ENDS[..1], false)?;
+    let few = gathered(&rt, rt.alloc(), TAKES.as_slice(), &ENDS[..1], true)?;
+    let many = gathered(&rt, rt.alloc(), TAKES.as_slice(), &ENDS[..1], false)?;
     assert!(rt; few.is_none() && many.is_none());
     Ok(())
 }

@@ -1,14 +1,35 @@
-use Rattle.std.proofs.Common.{◌≡◌, ◌∙◌, List, Bool, ap, subst}
+use Rattle.std.proofs.Common.{◌≡◌, ◌∙◌, true, List, length, Bool, sym, ap, subst, arith}
 use Rattle.std.specs.Prelude.{Option}
+use Rattle.std.specs.List.{AllByRecursion, list_all}
+use Rattle.tm_types.specs.declared.request.Tree.{Tree}
 use Rattle.tm_types.specs.declared.step.Start.{Start}
 use Rattle.tm_legal.specs.Steps.{State}
 use Rattle.tm_rules.specs.Words.{Trace}
+use Rattle.tm_rules.specs.Requests.{item_is_request}
+use Rattle.tm_replay.specs.Tomoyo.{tomoyo_grammar}
 use Rattle.tm_desk.specs.Desks.{desk_book}
 use Rattle.tm_replay.specs.Office.{list_of}
 use Rattle.tm_replay.specs.Parts.{PlayedTogether}
 use Rattle.tm_steal_rows.specs.Playing.{HandDid}
 use Rattle.tm_steal_rows.specs.Gathering.{homes_of, IsGathered}
+use Rattle.tm_steal_rows.specs.Lines.{places_from}
+use Rattle.tm_steal.specs.Boards.{IsBoard}
+use Rattle.tm_steal.proofs.Going.{for-each}
 use Rattle.tm_steal.proofs.run.steal_trace.Goals as goal
+
+pub play_parts-requires-clause-ready : goal.play_parts-requires-clause-ready
+play_parts-requires-clause-ready g c κs within =
+    let board = c.in_ok-board.board in
+    let same : c.in_ok-board.board.trace.now ≡ c.args.trace.now = c.in_ok-board.ensures.trace ∙ c.as_slice-2.ensures in
+    let count : length c.as_slice-2.result.now ≡ length c.args.trace.now = ap (λ (trees : Trace). length trees) c.as_slice-2.ensures in
+    let all = c.in_ok-board.ensures.trees in
+    let trees = c.requires.trees in
+    for-each (IsBoard c.args.machine.start board) c.in_ok-board.hands.items
+    (record {
+      places = c.in_ok-board.ensures.places ∙ ap (places_from 0) (sym c.in_ok-board.ensures.trace);
+      asked = subst (λ (its : Trace). AllByRecursion (λ (tree : Tree). list_all (item_is_request tomoyo_grammar.is_path) tree.records ≡ true) its) (sym same) c.requires.can.requests;
+      trees = omega (arith, all, count, trees);
+    })
 
 pub returns-clause-played : goal.returns-clause-played
 returns-clause-played g c =

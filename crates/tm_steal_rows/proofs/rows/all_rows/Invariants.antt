@@ -1,7 +1,7 @@
-use Rattle.std.proofs.Common.{drop}
-use Rattle.tm_steal_rows.proofs.RowSteps.{RowsSoFar}
+use Rattle.std.proofs.Common.{◌≡◌, length}
+use Rattle.tm_steal_rows.specs.Gathering.{RowsAreOfParts}
 use Rattle.tm_steal_rows.proofs.rows.all_rows.Given as goal
 
-abbrev pub invariant-loop-tree : goal.invariant-loop-tree
-invariant-loop-tree l =
-    RowsSoFar l.fn.supervised l.trace l.fn.homes.items l.fn.laid.takes.items l.fn.laid.ends.items l.rows.items l.number (drop l.tree-index l.trace) l.homes.items l.laid.takes.items l.laid.ends.items
+abbrev pub invariant-loop-part : goal.invariant-loop-part
+invariant-loop-part l =
+    RowsAreOfParts l.fn.supervised 1 l.yielded l.fn.ends.items l.rows.items l.ends.items × (l.number ≡ length l.rows.items)

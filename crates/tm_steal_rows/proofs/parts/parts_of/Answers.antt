@@ -1,0 +1,29 @@
+use Rattle.std.proofs.Common.{rules, ◌≡◌, ◌<◌, ◌+◌, ◌++◌, ◌∷◌, ◌∙◌, [], length, drop, sym, ap, subst}
+use Rattle.std.proofs.lemmas.List.{at_drop_more}
+use Rattle.std.proofs.Math.ListN.{drop_of_length-le}
+use Rattle.tm_types.specs.declared.request.Tree.{Tree}
+use Rattle.tm_rules.specs.Words.{Trace}
+use Rattle.tm_steal_rows.proofs.RowSteps.{PartsSoFar, parts-more, parts-end}
+use Rattle.tm_steal_rows.proofs.parts.parts_of.Goals as goal
+
+pub loop-tree-preserved : goal.loop-tree-preserved
+loop-tree-preserved c =
+    let a = c.args in
+    let l = c.loop-tree in
+    let rest = drop (c.loop-tree.tree-index + 1) c.args.trace.now in
+    let within : c.loop-tree.tree-index < length c.args.trace.now = search rules in
+    let at : drop c.loop-tree.tree-index c.args.trace.now ≡ c.tree-item.result ∷ rest =
+    at_drop_more (λ trees. trees) c.args.trace.now c.loop-tree.tree-index c.tree-item.result within ∙ ap (λ (tree : Tree). tree ∷ drop (c.loop-tree.tree-index + 1) c.args.trace.now) (sym c.tree-item.is) in
+    let first : c.loop-tree.homes.items ≡ c.in-Some.home ∷ c.pop_front.new.self.items = search rules in
+    let pushed : c.push.new.self.items ≡ c.loop-tree.parts.items ++ c.in_ok-part.part ∷ [] = search rules in
+    parts-more a.trace.now a.homes.items a.slots.items l.parts.items c.push.new.self.items c.tree-item.result rest c.in-Some.home l.homes.items c.pop_front.new.self.items l.slots.items c.part_of.new.slots.items c.in_ok-part.part
+    first pushed c.in_ok-part.ensures
+    (subst (λ (trees : Trace). PartsSoFar a.trace.now a.homes.items a.slots.items l.parts.items trees l.homes.items l.slots.items) at l.invariant)
+
+pub returns-then-none_left : goal.returns-then-none_left
+returns-then-none_left c =
+    let a = c.args in
+    let l = c.loop-tree in
+    let past : drop c.loop-tree.tree-index c.args.trace.now ≡ [] = drop_of_length-le c.args.trace.now (search rules) in
+    let none : c.loop-tree.slots.items ≡ [] = search rules in
+    parts-end a.trace.now a.homes.items a.slots.items l.parts.items (drop l.tree-index a.trace.now) l.homes.items l.slots.items past none l.invariant
