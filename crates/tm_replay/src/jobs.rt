@@ -14,8 +14,8 @@ use crate::job::{Job, run_job};
 use std::alloc::{AllocError, Global};
 use std::collections::VecDeque;
 use std::sync::Wait;
-use std::thread;
 use std::thread::Threads;
+use tm_beside::for_each_beside;
 use tm_desk::Desk;
 use tm_engine::engine::Engine;
 use tm_engine::gate::Gate;
@@ -217,7 +217,7 @@ pub(crate) fn run_jobs<
         (slice_index_or jobs.new.items k d).rows }
 {
     let count = jobs.len();
-    thread::for_each_mut(
+    for_each_beside(
         rt,
         jobs.as_mut_slice(),
         count,

@@ -253,13 +253,22 @@ fn play_trace<R: Rep + Send + Sync, F: Fn(&Query) -> u64 + Sync, W: Threads + Wa
     Ok((machine, rows))
 }
 
+// How many takes these rows have.
+fn count_takes(rows: &[PlayedTree]) -> usize {
+    let mut count: usize = 0;
+    for row in rows {
+        count = count.saturating_add(row.takes.len());
+    }
+    count
+}
+
 /// The takes of all rows, in their order.
 ///
 /// Errors: want of memory.
 pub fn takes_of(alloc: Global, rows: Vec<PlayedTree>) -> Result<Seq<Take>, NoMemory>
     ensures { IfOk result (λ takes. takes ≡ takes_in (map row_of rows.items)) }
 {
-    let mut takes = Vec::new(alloc);
+    let mut takes = Vec::with_capacity(alloc, count_takes(rows.as_slice()))?;
     for row in rows {
         push_all(&mut takes, row.takes)?;
     }

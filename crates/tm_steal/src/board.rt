@@ -37,7 +37,7 @@ pub(crate) struct Hand {
 pub(crate) struct Board<'a> {
     pub(crate) trace: &'a [Tree],
     pub(crate) places: Vec<LinePlace>,
-    pub(crate) of_trees: Vec<TreeProcesses<'a>>,
+    pub(crate) tree_processes: Vec<TreeProcesses<'a>>,
     pub(crate) trees: u32,
     pub(crate) processes: u64,
     pub(crate) stealers: Vec<Stealer<Job>>,
@@ -181,14 +181,14 @@ pub(crate) fn board_of<'a, W: Threads + Sync>(
         return Err(AllocError);
     };
     let places = places_of(alloc, trace)?;
-    let (of_trees, processes) = processes_of(rt, alloc, trace, workers)?;
+    let (tree_processes, processes) = processes_of(rt, alloc, trace, workers)?;
     let mut hands = empty_hands(alloc, workers)?;
     deal_firsts(trace, homes, &mut hands)?;
     let stealers = stealers_of(alloc, hands.as_slice())?;
     let board = Board {
         trace,
         places,
-        of_trees,
+        tree_processes,
         trees,
         processes,
         stealers,

@@ -3,7 +3,8 @@ ghost use Rattle.std.specs.Prelude.{◌<◌};
 
 use std::alloc::{AllocError, Global};
 use std::collections::BTreeMap;
-use std::thread::{Threads, for_each_mut};
+use std::thread::Threads;
+use tm_beside::for_each_beside;
 use tm_list::NoMemory;
 use tm_types::request::{Ids, Item, Tree};
 
@@ -30,7 +31,7 @@ pub(crate) struct Process {
 pub(crate) struct TreeProcesses<'a> {
     tree: &'a Tree,
     pub(crate) all: Vec<Process>,
-    pub(crate) before: u64,
+    pub(crate) lines_before: u64,
     requests: u64,
     places: BTreeMap<u32, usize>,
     last: Option<(u32, usize)>,
@@ -43,7 +44,7 @@ impl<'a> TreeProcesses<'a> {
         TreeProcesses {
             tree,
             all: Vec::new(alloc),
-            before: 0,
+            lines_before: 0,
             requests: 0,
             places: BTreeMap::new(alloc),
             last: None,
@@ -163,7 +164,7 @@ fn count_before(trees: &mut Vec<TreeProcesses<'_>>) -> Result<u64, NoMemory> {
         if !tree.whole {
             return Err(AllocError);
         }
-        tree.before = before;
+        tree.lines_before = before;
         before = before.saturating_add(tree.requests);
         processes = processes.saturating_add(tree.all.len() as u64);
     }
@@ -186,7 +187,7 @@ pub(crate) fn processes_of<'a, W: Threads + Sync>(
     for tree in trace {
         trees.push(TreeProcesses::new(alloc, tree))?;
     }
-    for_each_mut(
+    for_each_beside(
         rt,
         trees.as_mut_slice(),
         workers as usize,

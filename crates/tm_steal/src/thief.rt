@@ -93,7 +93,7 @@ fn pass_line<S: Seat>(
     alloc: Global,
     hand: &mut Hand,
     tree: usize,
-    before: u64,
+    lines_before: u64,
     line: Line,
     now: ProcessSituation,
     played: &mut Vec<Played>,
@@ -124,7 +124,7 @@ fn pass_line<S: Seat>(
                 return Err(AllocError);
             };
             let number = number.saturating_add(1);
-            let line = before.saturating_add(within);
+            let line = lines_before.saturating_add(within);
             let spent = &mut hand.spent;
             let after = play_request(board, seat, alloc, number, place, line, now, spent, played)?;
             Ok(ProcessSituation {
@@ -151,7 +151,7 @@ fn play_process<S: Seat>(
     ensures opening { S.opening seat.new ≡ S.opening seat.old }
     ensures grows { Begins (S.at seat.old) (S.at seat.new) }
 {
-    let Some(tree) = board.of_trees.get(job.tree) else {
+    let Some(tree) = board.tree_processes.get(job.tree) else {
         return Err(AllocError);
     };
     let Some(process) = tree.all.get(job.process) else {
@@ -165,7 +165,7 @@ fn play_process<S: Seat>(
             alloc,
             hand,
             job.tree,
-            tree.before,
+            tree.lines_before,
             *line,
             now,
             played,

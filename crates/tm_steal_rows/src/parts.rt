@@ -6,7 +6,8 @@ use crate::played::PlayedTake;
 use crate::walk::walk_tree;
 use std::alloc::{AllocError, Global};
 use std::collections::VecDeque;
-use std::thread::{Threads, for_each_mut};
+use std::thread::Threads;
+use tm_beside::for_each_beside;
 use tm_list::NoMemory;
 use tm_types::request::{Item, Tree};
 use tm_types::step::Take;
@@ -21,8 +22,8 @@ pub(crate) struct TreePart<'a> {
     pub(crate) takes: Option<Vec<Take>>,
 }
 
-// How many requests these records have.
-fn count_requests(records: &[Item]) -> usize {
+// How many `do` lines these records have.
+fn count_tree_lines(records: &[Item]) -> usize {
     let mut count: usize = 0;
     for item in records {
         if let Item::Do(_, _) = item {
@@ -39,11 +40,11 @@ pub(crate) fn none_left<T>(left: &VecDeque<T>) -> bool
     left.is_empty()
 }
 
-/// How many requests a trace has.
+/// How many `do` lines a trace has.
 pub(crate) fn count_lines(trace: &[Tree]) -> usize {
     let mut count: usize = 0;
     for tree in trace {
-        count = count.saturating_add(count_requests(tree.records.as_slice()));
+        count = count.saturating_add(count_tree_lines(tree.records.as_slice()));
     }
     count
 }
@@ -75,7 +76,7 @@ fn part_of<'a>(
 ) -> Result<TreePart<'a>, NoMemory>
     ensures { IfOk result (λ part. IsPartOf tree.now home slots.old.items part slots.new.items) }
 {
-    let count = count_requests(tree.records.as_slice());
+    let count = count_tree_lines(tree.records.as_slice());
     let left = next_takes(alloc, count, slots)?;
     Ok(TreePart {
         tree,
@@ -135,5 +136,5 @@ pub(crate) fn walk_parts<W: Threads + Sync>(
     let walk = move |_place: usize, part: &mut TreePart<'_>|
         ensures { IsWalked part.entry.now part.exit.now }
     { part.walk(alloc) };
-    for_each_mut(rt, parts, threads, &walk);
+    for_each_beside(rt, parts, threads, &walk);
 }

@@ -1,8 +1,10 @@
-//! The tests of what threads share: boards and engines, on one thread and on two.
-//! Stands on tm_publish and tm_engine; nothing stands on it.
+//! The tests of what threads share, boards and engines, on one thread and on two, and of calls that
+//! threads make beside each other. Stands on tm_publish, tm_engine and tm_beside; nothing on it.
 //! Promises nothing; the name of each test says what it shows.
 #![tactic(auto)]
 
+#[cfg(test)]
+mod beside;
 #[cfg(test)]
 mod boards;
 #[cfg(test)]

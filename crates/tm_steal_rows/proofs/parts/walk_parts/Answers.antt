@@ -5,7 +5,7 @@ use Rattle.tm_steal_rows.proofs.parts.walk_parts.Goals as goal
 
 pub returns : goal.returns
 returns g c =
-    walked-each c.args.parts.now c.for_each_mut.new.s c.for_each_mut.auto.s (λ i d lt.
-    let changed = (c.for_each_mut.ensures i d lt).1 in
-    subst (λ old. IsWalked old (get_or c.for_each_mut.new.s i d)) changed.argument_is
+    walked-each c.args.parts.now c.for_each_beside.new.list c.for_each_beside.auto.list (λ i d lt.
+    let changed = (c.for_each_beside.ensures i d lt).1 in
+    subst (λ old. IsWalked old (get_or c.for_each_beside.new.list i d)) changed.argument_is
     (subst (λ new. IsWalked changed.argument.now new) changed.left changed.call))

@@ -1,0 +1,8 @@
+//! Calls at each place of a list, beside each other, by threads that the caller alone starts.
+//! Stands on the standard library alone.
+//! Promises at each place what the call there promises, whatever the threads' order is.
+#![tactic(auto)]
+
+mod each;
+
+pub use each::for_each_beside;
