@@ -190,7 +190,7 @@ pub(crate) fn board_of<'a, W: Threads + Sync>(
         places,
         tree_processes,
         trees,
-        processes,
+        processes: processes as u64,
         stealers,
         ended: AtomicU64::new(0),
         given_up: AtomicU64::new(0),

@@ -6,6 +6,7 @@ use std::collections::BTreeMap;
 use std::thread::Threads;
 use tm_beside::for_each_beside;
 use tm_list::NoMemory;
+use tm_steal_rows::TreeLines;
 use tm_types::request::{Ids, Item, Tree};
 
 /// A line of a process: other ids; a child, with its place among the tree's processes and its pid;
@@ -24,15 +25,16 @@ pub(crate) struct Process {
     pub(crate) lines: Vec<Line>,
 }
 
-/// The processes of a tree that were met so far, the tree's own first; how many `do` lines all
-/// trees before it have, and it itself; by pid the place of each process, and the one that was
-/// looked for last; and whether all lines were read.
+/// The processes of a tree that were met so far, the tree's own first; how many `do` lines and how
+/// many processes all trees before it have; the place of each own `do` line's process; by pid the
+/// place of each process, and the one that was looked for last; and whether all lines were read.
 #[derive(Drop)]
 pub(crate) struct TreeProcesses<'a> {
     tree: &'a Tree,
     pub(crate) all: Vec<Process>,
     pub(crate) lines_before: u64,
-    requests: u64,
+    pub(crate) processes_before: usize,
+    processes_of_lines: Vec<usize>,
     places: BTreeMap<u32, usize>,
     last: Option<(u32, usize)>,
     whole: bool,
@@ -45,7 +47,8 @@ impl<'a> TreeProcesses<'a> {
             tree,
             all: Vec::new(alloc),
             lines_before: 0,
-            requests: 0,
+            processes_before: 0,
+            processes_of_lines: Vec::new(alloc),
             places: BTreeMap::new(alloc),
             last: None,
             whole: false,
@@ -107,8 +110,8 @@ impl<'a> TreeProcesses<'a> {
             }
             Item::Do(pid, _) => {
                 let process = self.place_of(alloc, *pid)?;
-                let line = self.requests;
-                self.requests = self.requests.saturating_add(1);
+                let line = self.processes_of_lines.len() as u64;
+                self.processes_of_lines.push(process)?;
                 self.push(process, Line::Do(line, place))
             }
         }
@@ -156,19 +159,38 @@ fn has_fork(records: &[Item]) -> bool {
     false
 }
 
-// Counts the `do` lines before each tree, and gives the number of all processes.
-fn count_before(trees: &mut Vec<TreeProcesses<'_>>) -> Result<u64, NoMemory> {
-    let mut before: u64 = 0;
-    let mut processes: u64 = 0;
+// Counts the `do` lines and the processes before each tree, and gives the number of all processes.
+fn count_before(trees: &mut Vec<TreeProcesses<'_>>) -> Result<usize, NoMemory> {
+    let mut lines: u64 = 0;
+    let mut processes: usize = 0;
     for tree in trees.as_mut_slice() {
         if !tree.whole {
             return Err(AllocError);
         }
-        tree.lines_before = before;
-        before = before.saturating_add(tree.requests);
-        processes = processes.saturating_add(tree.all.len() as u64);
+        tree.lines_before = lines;
+        tree.processes_before = processes;
+        lines = lines.saturating_add(tree.processes_of_lines.len() as u64);
+        processes = processes.saturating_add(tree.all.len());
     }
     Ok(processes)
+}
+
+/// What is left to be known of the trees once their processes were played.
+///
+/// Errors: want of memory.
+pub(crate) fn lines_of(
+    alloc: Global,
+    trees: Vec<TreeProcesses<'_>>,
+) -> Result<Vec<TreeLines>, NoMemory> {
+    let mut all = Vec::with_capacity(alloc, trees.len())?;
+    for tree in trees {
+        all.push(TreeLines {
+            processes: tree.all.len(),
+            lines_before: tree.lines_before,
+            processes_of_lines: tree.processes_of_lines,
+        })?;
+    }
+    Ok(all)
 }
 
 /// The processes of each tree of a trace, its first one and every child, and the number of all. The
@@ -180,7 +202,7 @@ pub(crate) fn processes_of<'a, W: Threads + Sync>(
     alloc: Global,
     trace: &'a [Tree],
     workers: u32,
-) -> Result<(Vec<TreeProcesses<'a>>, u64), NoMemory>
+) -> Result<(Vec<TreeProcesses<'a>>, usize), NoMemory>
     requires workers { 0 < workers }
 {
     let mut trees = Vec::with_capacity(alloc, trace.len())?;

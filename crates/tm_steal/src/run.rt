@@ -13,7 +13,7 @@ ghost use Rattle.tm_steal_rows.specs.Gathering.{homes_of};
 ghost use Rattle.tm_steal.specs.Boards.{AreStolen};
 
 use crate::board::{Hand, board_of};
-use crate::processes::is_shared;
+use crate::processes::{is_shared, lines_of};
 use std::alloc::Global;
 use std::sync::Wait;
 use std::thread::{Threads, spawn};
@@ -73,7 +73,8 @@ fn steal_trace<
     let homes = homes_of(alloc, &machine, trace.as_slice())?;
     let (board, hands) = board_of(rt, alloc, trace.as_slice(), homes.as_slice(), workers)?;
     let (machine, given) = play_parts(rt, alloc, machine, hands, desk, gate, &board)?;
-    let rows = gather(rt, alloc, trace.as_slice(), homes, supervised, given)?;
+    let lines = lines_of(alloc, board.tree_processes)?;
+    let rows = gather(rt, alloc, trace.as_slice(), homes, lines, supervised, given)?;
     Ok((machine, rows))
 }
 

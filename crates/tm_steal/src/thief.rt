@@ -6,7 +6,7 @@ ghost use Rattle.tm_replay.specs.Tomoyo.{tomoyo_grammar};
 ghost use Rattle.tm_steal_rows.specs.Playing.{all_requests};
 ghost use Rattle.tm_replay.specs.SeatSeats.{Begins};
 ghost use Rattle.tm_replay.specs.Parts.{CanBegin};
-ghost use Rattle.tm_steal.specs.Boards.{IsBoard, GoesOn};
+ghost use Rattle.tm_steal.specs.Boards.{IsBoard, GoesOn, GoesOnWith};
 
 use crate::board::{Board, Hand, Job};
 use crate::processes::Line;
@@ -18,7 +18,8 @@ use tm_replay::parts::Work;
 use tm_replay::seat::Seat;
 use tm_replay::take::ProcessSituation;
 use tm_steal_rows::{
-    Played, end_trees, lines_can_be_asked, play_line, request_at, workers_steal_on,
+    Played, PlayedProcess, PlayedTake, end_trees, lines_can_be_asked, play_line, request_at,
+    workers_steal_on,
 };
 use tm_types::request::{Proc, Request};
 
@@ -47,12 +48,12 @@ fn play_request<S: Seat>(
     line: u64,
     now: ProcessSituation,
     spent: &mut Vec<Request>,
-    played: &mut Vec<Played>,
+    takes: &mut Vec<PlayedTake>,
 ) -> Result<u32, NoMemory>
     requires can { CanBegin (S.opening seat.old) }
     requires board { IsBoard (S.opening seat.old) board.now }
-    ensures steals { OnOk result (GoesOn (S.opening seat.old) board.now.trace.now
-        (S.at seat.old) (S.own seat.old) played.old.items (S.at seat.new) (S.own seat.new) played.new.items) }
+    ensures steals { OnOk result (GoesOnWith (S.opening seat.old) board.now.trace.now now.process.pid
+        (S.at seat.old) (S.own seat.old) takes.old.items (S.at seat.new) (S.own seat.new) takes.new.items) }
     ensures opening { S.opening seat.new ≡ S.opening seat.old }
     ensures grows { Begins (S.at seat.old) (S.at seat.new) }
 {
@@ -68,7 +69,7 @@ fn play_request<S: Seat>(
         seat, alloc, tree, place, line, now, domain, request, since, spent,
     )?;
     let after = taken.take.get().after;
-    played.push(Played::Take(taken))?;
+    takes.push(taken)?;
     Ok(after)
 }
 
@@ -96,12 +97,13 @@ fn pass_line<S: Seat>(
     lines_before: u64,
     line: Line,
     now: ProcessSituation,
-    played: &mut Vec<Played>,
+    takes: &mut Vec<PlayedTake>,
 ) -> Result<ProcessSituation, NoMemory>
     requires can { CanBegin (S.opening seat.old) }
     requires board { IsBoard (S.opening seat.old) board.now }
-    ensures steals { OnOk result (GoesOn (S.opening seat.old) board.now.trace.now
-        (S.at seat.old) (S.own seat.old) played.old.items (S.at seat.new) (S.own seat.new) played.new.items) }
+    ensures steals { OnOk result (GoesOnWith (S.opening seat.old) board.now.trace.now now.process.pid
+        (S.at seat.old) (S.own seat.old) takes.old.items (S.at seat.new) (S.own seat.new) takes.new.items) }
+    ensures pid { IfOk result (λ after. after.process.pid ≡ now.process.pid) }
     ensures opening { S.opening seat.new ≡ S.opening seat.old }
     ensures grows { Begins (S.at seat.old) (S.at seat.new) }
 {
@@ -126,7 +128,7 @@ fn pass_line<S: Seat>(
             let number = number.saturating_add(1);
             let line = lines_before.saturating_add(within);
             let spent = &mut hand.spent;
-            let after = play_request(board, seat, alloc, number, place, line, now, spent, played)?;
+            let after = play_request(board, seat, alloc, number, place, line, now, spent, takes)?;
             Ok(ProcessSituation {
                 process,
                 domain: Some(after),
@@ -158,6 +160,7 @@ fn play_process<S: Seat>(
         return Err(AllocError);
     };
     let mut now = job.now;
+    let mut takes = Vec::with_capacity(alloc, process.lines.len())?;
     for line in process.lines.as_slice() {
         now = pass_line(
             board,
@@ -168,9 +171,14 @@ fn play_process<S: Seat>(
             tree.lines_before,
             *line,
             now,
-            played,
+            &mut takes,
         )?;
     }
+    played.push(Played::Process(PlayedProcess {
+        number: tree.processes_before.saturating_add(job.process),
+        pid: job.now.process.pid,
+        takes,
+    }))?;
     Ok(())
 }
 

@@ -12,9 +12,8 @@ use Rattle.tm_joint.specs.Joint.{takes_in}
 use Rattle.tm_joint.specs.Played.{row_own}
 use Rattle.tm_parts.specs.PlayedTree.{PlayedTree}
 use Rattle.tm_parts.specs.Rows.{row_of}
-use Rattle.tm_steal_rows.specs.declared.played.Played.{Played}
 use Rattle.tm_steal_rows.specs.declared.played.PlayedTake.{PlayedTake}
-use Rattle.tm_steal_rows.specs.Playing.{all_own}
+use Rattle.tm_steal_rows.specs.Playing.{Event, all_own}
 use Rattle.tm_steal_rows.specs.Gathering.{takes_of, ends_of, takes_own, taken, TakesRow, RowsAreOf}
 
 -- the numbers of Ends
@@ -22,16 +21,16 @@ abbrev pub ends_own : List (ℕ × ℕ) → List ℕ
 ends_own ends = map (λ (end : ℕ × ℕ). end.1) ends
 
 -- takes and Ends apart
-pub parts-own : (n : ℕ) (all : List Played) → times n (all_own all) ≡ times n (takes_own (takes_of all)) + times n (ends_own (ends_of all))
+pub parts-own : (n : ℕ) (all : List Event) → times n (all_own all) ≡ times n (takes_own (takes_of all)) + times n (ends_own (ends_of all))
 parts-own n [] = refl
-parts-own n (Played.Take played ∷ all) =
+parts-own n (Event.Take played ∷ all) =
     let whole = times-append n (own_numbers (played.take ∷ [])) (all_own all) in
     let takes = times-append n (own_numbers (played.take ∷ [])) (takes_own (takes_of all)) in
     sums _ _ _ _ _ _ whole takes (parts-own n all)
   where
     sums : (a b c d e f : ℕ) → a ≡ b + c → d ≡ b + e → c ≡ e + f → a ≡ d + f
     sums a b c d e f h k l = omega arith
-parts-own n (Played.End tree number ∷ all) =
+parts-own n (Event.End tree number ∷ all) =
     let whole = times-append n (number ∷ []) (all_own all) in
     let ends = times-append n (number ∷ []) (ends_own (ends_of all)) in
     sums _ _ _ _ _ _ whole ends (parts-own n all)

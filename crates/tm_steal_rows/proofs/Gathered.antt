@@ -23,7 +23,7 @@ use Rattle.tm_parts.specs.Rows.{row_of}
 use Rattle.tm_steal_rows.specs.declared.played.PlayedTake.{PlayedTake}
 use Rattle.tm_steal_rows.specs.Playing.{requests_in, all_requests, TakeIsPlayed}
 use Rattle.tm_steal_rows.specs.Gathering.{EachStands, TakesRow, RowsAreOf, homes_of}
-use Rattle.tm_steal_rows.proofs.Laying.{get-front, get-behind}
+use Rattle.tm_steal_rows.proofs.Same.{get-front, get-behind, length-mapped}
 
 -- Requests by their lines
 
@@ -46,10 +46,6 @@ requests-long [] = refl
 requests-long (Item.Ids pid ids ∷ items) = requests-long items
 requests-long (Item.Fork pid child ∷ items) = requests-long items
 requests-long (Item.Do pid request ∷ items) = ap suc (requests-long items)
-
-length-mapped : {A B : Type 0} (f : A → B) (xs : List A) → length (map f xs) ≡ length xs
-length-mapped f [] = refl
-length-mapped f (x ∷ xs) = ap suc (length-mapped f xs)
 
 module _ (start : Start) (trace : Trace) (book : Option Book) (stands : is_some book ≡ start.desk) (trees : length trace ≡ start.trees) (list : List Made) where
   history : History

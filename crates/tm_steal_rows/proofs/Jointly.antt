@@ -13,6 +13,7 @@ use Rattle.tm_types.specs.declared.step.Take.{Take}
 use Rattle.tm_rules.specs.Words.{Trace}
 use Rattle.tm_legal.specs.Legal.{Legal, NoLookBeforeAttach, times}
 use Rattle.tm_legal.specs.Play.{CanPlay}
+use Rattle.tm_legal.proofs.Asked.{All-append}
 use Rattle.tm_made.specs.Made.{made_step}
 use Rattle.tm_joint.specs.Joint.{takes_in}
 use Rattle.tm_joint.specs.Makers.{EachClaims}
@@ -28,7 +29,7 @@ use Rattle.tm_parts.proofs.Moving.{deed_at, DidStays}
 use Rattle.tm_parts.proofs.Shares.{owns, OthersFollow, Shares, shares-of, together-legal, together-attached}
 use Rattle.tm_steal_rows.specs.declared.played.Played.{Played}
 use Rattle.tm_steal_rows.specs.declared.played.PlayedTake.{PlayedTake}
-use Rattle.tm_steal_rows.specs.Playing.{all_requests, TakeIsPlayed, IsPlayed, all_own, own_of, maker_of, IsSince, ThiefDid, HandDid}
+use Rattle.tm_steal_rows.specs.Playing.{Event, all_requests, TakeIsPlayed, IsPlayed, all_own, own_of, maker_of, IsSince, events_of, IsTakeOf, IsOfProcess, ThiefDid, HandDid}
 use Rattle.tm_steal_rows.specs.Gathering.{IsOwned, EachOwned, all_given, takes_of, ends_of, homes_of, IsGathered}
 use Rattle.tm_steal_rows.specs.Stolen.{Stolen, StolenRunsAreLegal}
 use Rattle.tm_steal_rows.proofs.Stealing.{thief-later}
@@ -51,10 +52,25 @@ who owner workers editors Maker.Desk = Some (workers + editors)
 others-follow : (owner : ℕ → Option ℕ) (workers editors : ℕ) → OthersFollow (who owner workers editors) workers editors
 others-follow owner workers editors = record { editor = λ e. refl; desk = refl }
 
-owned-makers : (start : Start) (trace : Trace) (list : List Made) (owner : ℕ → Option ℕ) (workers editors worker : ℕ) (all : List Played) → AllByRecursion (IsPlayed start trace list) all → AllByRecursion (IsOwned owner worker) all → AllByRecursion (λ maker. who owner workers editors maker ≡ Some worker) (map maker_of all)
+-- an event is one of a process that this worker owns, or the End of a tree by the first worker
+abbrev IsIts : (ℕ → Option ℕ) → ℕ → Event → Type 0
+IsIts owner worker (Event.Take played) = owner played.stood.process.pid ≡ Some worker
+IsIts owner worker (Event.End tree number) = worker ≡ 0
+
+owned-takes : (owner : ℕ → Option ℕ) (worker pid : ℕ) (takes : List PlayedTake) → owner pid ≡ Some worker → AllByRecursion (IsTakeOf pid) takes → AllByRecursion (IsIts owner worker) (map Event.Take takes)
+owned-takes owner worker pid [] is h = tt
+owned-takes owner worker pid (played ∷ takes) is h = (ap owner h.0 ∙ is, owned-takes owner worker pid takes is h.1)
+
+owned-events : (owner : ℕ → Option ℕ) (worker : ℕ) (all : List Played) → AllByRecursion IsOfProcess all → AllByRecursion (IsOwned owner worker) all → AllByRecursion (IsIts owner worker) (events_of all)
+owned-events owner worker [] whose h = tt
+owned-events owner worker (Played.Process process ∷ all) whose h =
+    All-append (IsIts owner worker) (map Event.Take process.takes.items) (events_of all) (owned-takes owner worker process.pid process.takes.items h.0 whose.0) (owned-events owner worker all whose.1 h.1)
+owned-events owner worker (Played.End tree number ∷ all) whose h = (h.0, owned-events owner worker all whose.1 h.1)
+
+owned-makers : (start : Start) (trace : Trace) (list : List Made) (owner : ℕ → Option ℕ) (workers editors worker : ℕ) (all : List Event) → AllByRecursion (IsPlayed start trace list) all → AllByRecursion (IsIts owner worker) all → AllByRecursion (λ maker. who owner workers editors maker ≡ Some worker) (map maker_of all)
 owned-makers start trace list owner workers editors worker [] played h = tt
-owned-makers start trace list owner workers editors worker (Played.Take one ∷ all) played h = (ap owner played.0.pid ∙ h.0, owned-makers start trace list owner workers editors worker all played.1 h.1)
-owned-makers start trace list owner workers editors worker (Played.End tree number ∷ all) played h = (ap Some (sym h.0), owned-makers start trace list owner workers editors worker all played.1 h.1)
+owned-makers start trace list owner workers editors worker (Event.Take one ∷ all) played h = (ap owner played.0.pid ∙ h.0, owned-makers start trace list owner workers editors worker all played.1 h.1)
+owned-makers start trace list owner workers editors worker (Event.End tree number ∷ all) played h = (ap Some (sym h.0), owned-makers start trace list owner workers editors worker all played.1 h.1)
 
 module _ {H : Type 0} (start : Start) (trace : Trace) (floor : ℕ) (list : List Made) where
   -- each worker's steps are claimed by its pass
@@ -63,15 +79,15 @@ module _ {H : Type 0} (start : Start) (trace : Trace) (floor : ℕ) (list : List
   claims-workers owner workers editors worker [] (done ∷ deeds) did owned = absurd did
   claims-workers owner workers editors worker (hand ∷ hands) [] did owned = absurd did
   claims-workers owner workers editors worker (hand ∷ hands) (done ∷ deeds) did owned = (
-    did.0.claims (who owner workers editors) worker (owned-makers start trace list owner workers editors worker done.rows did.0.each owned.0),
+    did.0.claims (who owner workers editors) worker (owned-makers start trace list owner workers editors worker (events_of done.rows) did.0.each (owned-events owner worker done.rows did.0.whose owned.0)),
     claims-workers owner workers editors (suc worker) hands deeds did.1 owned.1,
   )
 
   -- what holds of each worker's holds of all
-  all-of-given : (P : Played → Type 0) (hands : List H) (deeds : List (Deed Played)) → ((done : Deed Played) → ThiefDid start trace floor (deed_at list done) → AllByRecursion P done.rows) → EachPart (λ (hand : H) done. HandDid trace start floor hand (deed_at list done)) hands deeds → AllByRecursion P (all_given (map (λ (done : Deed Played). done.rows) deeds))
-  all-of-given P hands deeds of did = All-flat P (λ (all : List Played). all) (map (λ (done : Deed Played). done.rows) deeds) (go hands deeds did)
+  all-of-given : (P : Event → Type 0) (hands : List H) (deeds : List (Deed Played)) → ((done : Deed Played) → ThiefDid start trace floor (deed_at list done) → AllByRecursion P (events_of done.rows)) → EachPart (λ (hand : H) done. HandDid trace start floor hand (deed_at list done)) hands deeds → AllByRecursion P (all_given (map (λ (done : Deed Played). done.rows) deeds))
+  all-of-given P hands deeds of did = All-flat P events_of (map (λ (done : Deed Played). done.rows) deeds) (go hands deeds did)
     where
-      go : (hs : List H) (ds : List (Deed Played)) → EachPart (λ (hand : H) done. HandDid trace start floor hand (deed_at list done)) hs ds → AllByRecursion (λ (all : List Played). AllByRecursion P all) (map (λ (done : Deed Played). done.rows) ds)
+      go : (hs : List H) (ds : List (Deed Played)) → EachPart (λ (hand : H) done. HandDid trace start floor hand (deed_at list done)) hs ds → AllByRecursion (λ (all : List Played). AllByRecursion P (events_of all)) (map (λ (done : Deed Played). done.rows) ds)
       go [] [] h = tt
       go [] (done ∷ ds) h = absurd h
       go (hand ∷ hs) [] h = absurd h
@@ -84,20 +100,20 @@ module _ {H : Type 0} (start : Start) (trace : Trace) (floor : ℕ) (list : List
   given-own (hand ∷ hands) [] h = absurd h
   given-own (hand ∷ hands) (done ∷ deeds) h =
       ap (λ (ns : List ℕ). ns ++ flat_map (λ (ms : List ℕ). ms) (owns deeds)) h.0.own_is
-      ∙ ap (λ (ns : List ℕ). all_own done.rows ++ ns) (given-own hands deeds h.1)
-      ∙ sym (flat_map-append own_of done.rows (all_given (map (λ (d : Deed Played). d.rows) deeds)))
+      ∙ ap (λ (ns : List ℕ). all_own (events_of done.rows) ++ ns) (given-own hands deeds h.1)
+      ∙ sym (flat_map-append own_of (events_of done.rows) (all_given (map (λ (d : Deed Played). d.rows) deeds)))
 
 -- the takes and the Ends of what was played
 
-takes-all : (P : Played → Type 0) (Q : PlayedTake → Type 0) → ((played : PlayedTake) → P (Played.Take played) → Q played) → (all : List Played) → AllByRecursion P all → AllByRecursion Q (takes_of all)
+takes-all : (P : Event → Type 0) (Q : PlayedTake → Type 0) → ((played : PlayedTake) → P (Event.Take played) → Q played) → (all : List Event) → AllByRecursion P all → AllByRecursion Q (takes_of all)
 takes-all P Q of [] h = tt
-takes-all P Q of (Played.Take played ∷ all) h = (of played h.0, takes-all P Q of all h.1)
-takes-all P Q of (Played.End tree number ∷ all) h = takes-all P Q of all h.1
+takes-all P Q of (Event.Take played ∷ all) h = (of played h.0, takes-all P Q of all h.1)
+takes-all P Q of (Event.End tree number ∷ all) h = takes-all P Q of all h.1
 
-ends-all : (start : Start) (trace : Trace) (list : List Made) (all : List Played) → AllByRecursion (IsPlayed start trace list) all → AllByRecursion (λ (e : ℕ × ℕ). made_step list e.1 ≡ Some (Step.End e.0)) (ends_of all)
+ends-all : (start : Start) (trace : Trace) (list : List Made) (all : List Event) → AllByRecursion (IsPlayed start trace list) all → AllByRecursion (λ (e : ℕ × ℕ). made_step list e.1 ≡ Some (Step.End e.0)) (ends_of all)
 ends-all start trace list [] h = tt
-ends-all start trace list (Played.Take played ∷ all) h = ends-all start trace list all h.1
-ends-all start trace list (Played.End tree number ∷ all) h = (h.0, ends-all start trace list all h.1)
+ends-all start trace list (Event.Take played ∷ all) h = ends-all start trace list all h.1
+ends-all start trace list (Event.End tree number ∷ all) h = (h.0, ends-all start trace list all h.1)
 
 module _ (H : Type 0) (start : Start) (trace : Trace) (book : Book) (hands : List H) (list : List Made) (rows : List PlayedTree) (trees : length trace ≡ start.trees) (can : CanPlay (scene_of start trace book)) (r : Stolen start trace book hands list rows) where
   abbrev floor : ℕ
@@ -118,7 +134,7 @@ module _ (H : Type 0) (start : Start) (trace : Trace) (book : Book) (hands : Lis
   gathered : IsGathered trace (homes_of start.policy trace) start.desk (map (λ (done : Deed Played). done.rows) s.workers) rows
   gathered = subst (λ (given : List (List Played)). IsGathered trace (homes_of start.policy trace) start.desk given rows) s.given_is r.gathered
 
-  abbrev all : List Played
+  abbrev all : List Event
   all = all_given (map (λ (done : Deed Played). done.rows) s.workers)
 
   abbrev its_who : Maker → Option ℕ
@@ -135,7 +151,7 @@ module _ (H : Type 0) (start : Start) (trace : Trace) (book : Book) (hands : Lis
 
   -- a take at its line
   at-line : (Q : PlayedTake → Type 0) (k : ℕ) (one : PlayedTake) → AllByRecursion Q (takes_of all) → slice_get gathered.lines k ≡ Some one → Q one
-  at-line Q k one h at = let (place, there) = gathered.by_line.among k one at in All-at Q (takes_of all) place one h there
+  at-line Q k one h at = let (place, there) = gathered.by_line.same.among k one at in All-at Q (takes_of all) place one h there
 
   each : EachRow (RowHolds (scene_of start trace book) list) 1 trace (map row_of rows)
   each =
@@ -151,7 +167,7 @@ module _ (H : Type 0) (start : Start) (trace : Trace) (book : Book) (hands : Lis
   counts n =
       ap (times n) (given-own start trace floor list hands s.workers s.did)
       ∙ parts-own n all
-      ∙ ap (λ m. m + times n (ends_own (ends_of all))) (gathered.by_line.counted n)
+      ∙ ap (λ m. m + times n (ends_own (ends_of all))) (gathered.by_line.same.counted n)
       ∙ rows-own n start.desk 1 trace (homes_of start.policy trace) gathered.lines (ends_of all) rows gathered.rows_are
 
   fresh : AllByRecursion (λ (t : Take). AllByRecursion (λ (look : Look). floor ≤ look.version) t.looks) (takes_in (map row_of rows))

@@ -1,4 +1,5 @@
 mod Owning
+mod Same
 mod Laying
 mod Walking
 mod Raising

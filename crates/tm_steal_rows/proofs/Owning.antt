@@ -10,7 +10,7 @@ use Rattle.tm_steal_rows.specs.Gathering.{IsOwned, EachOwned, AreKept}
 
 module _ (old new : ℕ → Option ℕ) (kept : AreKept old new) where
   kept-one : (worker : ℕ) (played : Played) → IsOwned old worker played → IsOwned new worker played
-  kept-one worker (Played.Take played) is = kept played.stood.process.pid worker is
+  kept-one worker (Played.Process process) is = kept process.pid worker is
   kept-one worker (Played.End tree number) is = is
 
   kept-all : (worker : ℕ) (all : List Played) → AllByRecursion (IsOwned old worker) all → AllByRecursion (IsOwned new worker) all

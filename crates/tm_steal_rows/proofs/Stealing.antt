@@ -37,7 +37,13 @@ use Rattle.tm_parts.specs.Parts.{Deed, deed}
 use Rattle.tm_parts.proofs.Moving.{claimed-later, deed_at}
 use Rattle.tm_steal_rows.specs.declared.played.Played.{Played}
 use Rattle.tm_steal_rows.specs.declared.played.PlayedTake.{PlayedTake}
-use Rattle.tm_steal_rows.specs.Playing.{all_requests, IsPlayed, own_of, all_own, maker_of, IsSince, IsStealing, StealsOn, ends_from, ThiefDid}
+use Rattle.tm_steal_rows.specs.Playing.{Event, all_requests, IsPlayed, own_of, all_own, maker_of, IsSince, IsStealing, StealsOn, ends_from, events_in, events_of, IsOfProcess, ThiefDid}
+
+-- What was played
+
+-- the events of one more
+pub events-more : (all : List Played) (played : Played) → events_of (all ++ played ∷ []) ≡ events_of all ++ events_in played
+events-more all played = flat_map-append events_in all (played ∷ []) ∙ ap (λ (l : List Event). events_of all ++ l) (append-nil (events_in played))
 
 -- What was played stays so
 
@@ -46,8 +52,8 @@ legal-later start known xs ys played request h trace book t walked trees process
     subst (λ (k : History). IsLegalTake (scene_of start trace book) k (record { tree = t; now = walked; request = request; taken = played.take })) (sym (made-append (scene_of start trace book) xs ys))
     (IsLegalTake-later (scene_of start trace book) (history_made (scene_of start trace book) xs) (more_made (scene_of start trace book) xs ys) (record { tree = t; now = walked; request = request; taken = played.take }) (h trace book t walked trees process domain low))
 
-played-later : (start : Start) (trace : Trace) (xs ys : List Made) (played : Played) → IsPlayed start trace xs played → IsPlayed start trace (xs ++ ys) played
-played-later start trace xs ys (Played.Take played) h =
+played-later : (start : Start) (trace : Trace) (xs ys : List Made) (played : Event) → IsPlayed start trace xs played → IsPlayed start trace (xs ++ ys) played
+played-later start trace xs ys (Event.Take played) h =
     record {
       request = h.request;
       asked = h.asked;
@@ -56,18 +62,18 @@ played-later start trace xs ys (Played.Take played) h =
       legal = legal-later start h.known xs ys played h.request h.legal;
       pid = h.pid;
     }
-played-later start trace xs ys (Played.End tree number) h = made_step-later xs ys number (Step.End tree) h
+played-later start trace xs ys (Event.End tree number) h = made_step-later xs ys number (Step.End tree) h
 
-pub all-later : (start : Start) (trace : Trace) (xs ys : List Made) (all : List Played) → Begins xs ys → AllByRecursion (IsPlayed start trace xs) all → AllByRecursion (IsPlayed start trace ys) all
+pub all-later : (start : Start) (trace : Trace) (xs ys : List Made) (all : List Event) → Begins xs ys → AllByRecursion (IsPlayed start trace xs) all → AllByRecursion (IsPlayed start trace ys) all
 all-later start trace xs ys all begins h =
     rw begins.1 (All-map (IsPlayed start trace xs) (IsPlayed start trace (xs ++ begins.0)) all (played-later start trace xs begins.0) h)
 
 -- what is no older than a longer list is no older than one that it goes on from
-since-later : (xs ys : List Made) (played : Played) → Begins xs ys → IsSince (length ys) played → IsSince (length xs) played
-since-later xs ys (Played.Take played) begins h =
+since-later : (xs ys : List Made) (played : Event) → Begins xs ys → IsSince (length ys) played → IsSince (length xs) played
+since-later xs ys (Event.Take played) begins h =
     let long : length xs ≤ length ys = rw begins.1 (let all = length-append xs begins.0 in omega arith) in
     All-map (λ (look : Look). length ys ≤ look.version) (λ (look : Look). length xs ≤ look.version) played.take.looks (λ look le. omega (arith, long, le)) h
-since-later xs ys (Played.End tree number) begins h = tt
+since-later xs ys (Event.End tree number) begins h = tt
 
 -- A worker
 
@@ -83,7 +89,7 @@ stealing-starts start trace list own =
     }
 
 -- when others' steps follow
-pub stealing-later : (start : Start) (trace : Trace) (shift : Shift) (xs ys : List Made) (own : List ℕ) (all : List Played) → Begins xs ys → IsStealing start trace shift xs own all → IsStealing start trace shift ys own all
+pub stealing-later : (start : Start) (trace : Trace) (shift : Shift) (xs ys : List Made) (own : List ℕ) (all : List Event) → Begins xs ys → IsStealing start trace shift xs own all → IsStealing start trace shift ys own all
 stealing-later start trace shift xs ys own all begins h =
     record {
       begins = begins-further shift.known xs ys h.begins begins;
@@ -95,7 +101,7 @@ stealing-later start trace shift xs ys own all begins h =
 
 module _ (start : Start) (trace : Trace) where
   -- something more
-  steals-one : (xs ys : List Made) (own own' : List ℕ) (played : Played) → Begins xs ys → IsPlayed start trace ys played → own' ≡ own ++ own_of played → MadeBy (maker_of played ∷ []) xs own ys own' → IsSince (length xs) played → StealsOn start trace xs own ys own' (played ∷ [])
+  steals-one : (xs ys : List Made) (own own' : List ℕ) (played : Event) → Begins xs ys → IsPlayed start trace ys played → own' ≡ own ++ own_of played → MadeBy (maker_of played ∷ []) xs own ys own' → IsSince (length xs) played → StealsOn start trace xs own ys own' (played ∷ [])
   steals-one xs ys own own' played begins is noted by since shift all h =
       record {
         begins = begins-further shift.known xs ys h.begins begins;
@@ -112,12 +118,12 @@ module _ (start : Start) (trace : Trace) where
       }
 
   -- a take
-  pub steals-take : (start' : Start) (xs xs' ys : List Made) (own before own' : List ℕ) (line since : ℕ) (now : ProcessSituation) (request : Request) (take' : Take) → start' ≡ start → xs' ≡ xs → before ≡ own → Begins xs' ys → since ≤ length xs → slice_get (all_requests trace) line ≡ Some request → TakeIsLegal start' xs' ys (situation_of now) request take' → own' ≡ before ++ own_numbers (take' ∷ []) → MadeBy (Maker.Process now.process.pid ∷ []) xs' before ys own' → LooksSince (length xs') take' → take'.pid ≡ now.process.pid → StealsOn start trace xs own ys own' (Played.Take (record { line = line; stood = now; since = since; take = take' }) ∷ [])
+  pub steals-take : (start' : Start) (xs xs' ys : List Made) (own before own' : List ℕ) (line since : ℕ) (now : ProcessSituation) (request : Request) (take' : Take) → start' ≡ start → xs' ≡ xs → before ≡ own → Begins xs' ys → since ≤ length xs → slice_get (all_requests trace) line ≡ Some request → TakeIsLegal start' xs' ys (situation_of now) request take' → own' ≡ before ++ own_numbers (take' ∷ []) → MadeBy (Maker.Process now.process.pid ∷ []) xs' before ys own' → LooksSince (length xs') take' → take'.pid ≡ now.process.pid → StealsOn start trace xs own ys own' (Event.Take (record { line = line; stood = now; since = since; take = take' }) ∷ [])
   steals-take start' xs xs' ys own before own' line since now request take' same known first begins low asked legal noted by fresh pid =
       let from : TakeIsLegal start xs ys (situation_of now) request take' = subst (λ (s : Start). TakeIsLegal s xs ys (situation_of now) request take') same (subst (λ (l : List Made). TakeIsLegal start' l ys (situation_of now) request take') known legal) in
       let long : length (take since xs) ≡ since = length-take-le since xs low in
       let mine : MadeBy (Maker.Process now.process.pid ∷ []) xs own ys own' = subst (λ (ns : List ℕ). MadeBy (Maker.Process now.process.pid ∷ []) xs ns ys own') first (subst (λ (l : List Made). MadeBy (Maker.Process now.process.pid ∷ []) l before ys own') known by) in
-      steals-one xs ys own own' (Played.Take (record { line = line; stood = now; since = since; take = take' }))
+      steals-one xs ys own own' (Event.Take (record { line = line; stood = now; since = since; take = take' }))
       (subst (λ (l : List Made). Begins l ys) known begins)
       (record {
         request = request;
@@ -132,10 +138,10 @@ module _ (start : Start) (trace : Trace) where
       (subst (λ (l : List Made). LooksSince (length l) take') known fresh)
 
   -- an End
-  pub steals-end : (xs ys : List Made) (own own' : List ℕ) (tree number : ℕ) (made : Made) (reply : Reply) → made.maker ≡ Maker.Tree tree → made.step ≡ Step.End tree → IsMade start xs made ys reply → number ≡ length ys → own' ≡ own ++ number ∷ [] → StealsOn start trace xs own ys own' (Played.End tree number ∷ [])
+  pub steals-end : (xs ys : List Made) (own own' : List ℕ) (tree number : ℕ) (made : Made) (reply : Reply) → made.maker ≡ Maker.Tree tree → made.step ≡ Step.End tree → IsMade start xs made ys reply → number ≡ length ys → own' ≡ own ++ number ∷ [] → StealsOn start trace xs own ys own' (Event.End tree number ∷ [])
   steals-end xs ys own own' tree number made reply maker step (others, is, replied) numbered noted =
       let last : number ≡ suc (length (xs ++ others)) = numbered ∙ ap (λ (l : List Made). length l) is ∙ length-last (xs ++ others) made in
-      steals-one xs ys own own' (Played.End tree number)
+      steals-one xs ys own own' (Event.End tree number)
       (others ++ made ∷ [], is ∙ append_assoc xs others (made ∷ []))
       (ap (λ (l : List Made). made_step l number) is ∙ ap (made_step ((xs ++ others) ++ made ∷ [])) last ∙ made_step-last (xs ++ others) made ∙ ap Some step)
       noted
@@ -150,7 +156,7 @@ module _ (start : Start) (trace : Trace) where
   steals-none xs own shift all h = subst (IsStealing start trace shift xs own) (sym (append-nil all)) h
 
   -- something, and then something more
-  pub steals-both : (xs ys zs : List Made) (own own' own'' : List ℕ) (first second : List Played) → StealsOn start trace xs own ys own' first → StealsOn start trace ys own' zs own'' second → StealsOn start trace xs own zs own'' (first ++ second)
+  pub steals-both : (xs ys zs : List Made) (own own' own'' : List ℕ) (first second : List Event) → StealsOn start trace xs own ys own' first → StealsOn start trace ys own' zs own'' second → StealsOn start trace xs own zs own'' (first ++ second)
   steals-both xs ys zs own own' own'' first second h k shift all is =
       subst (IsStealing start trace shift zs own'') (append_assoc all first second) (k shift (all ++ first) (h shift all is))
 
@@ -164,55 +170,61 @@ end-fits start list tree above inside =
 
 -- Ends, one after another
 
-ends-append : (t : ℕ) (numbers : List ℕ) (number : ℕ) → ends_from t (numbers ++ number ∷ []) ≡ ends_from t numbers ++ Played.End (t + length numbers) number ∷ []
-ends-append t [] number = ap (λ n. Played.End n number ∷ []) (omega arith)
-ends-append t (first ∷ numbers) number = ap (λ (l : List Played). Played.End t first ∷ l) (ends-append (suc t) numbers number ∙ ap (λ n. ends_from (suc t) numbers ++ Played.End n number ∷ []) (omega arith))
+ends-append : (t : ℕ) (numbers : List ℕ) (number : ℕ) → ends_from t (numbers ++ number ∷ []) ≡ ends_from t numbers ++ Event.End (t + length numbers) number ∷ []
+ends-append t [] number = ap (λ n. Event.End n number ∷ []) (omega arith)
+ends-append t (first ∷ numbers) number = ap (λ (l : List Event). Event.End t first ∷ l) (ends-append (suc t) numbers number ∙ ap (λ n. ends_from (suc t) numbers ++ Event.End n number ∷ []) (omega arith))
 
 -- so many trees have been ended
 pub record Ended (start : Start) (first : List Made) (before : List ℕ) (old : List Played) (trees : ℕ) (list : List Made) (own : List ℕ) (all : List Played) : Type 0 where
   pub numbers : List ℕ
   pub count : length numbers ≡ trees
-  pub are : all ≡ old ++ ends_from 1 numbers
+  pub are : events_of all ≡ events_of old ++ ends_from 1 numbers
+  pub whose : AllByRecursion IsOfProcess old → AllByRecursion IsOfProcess all
   pub steals : (trace : Trace) → StealsOn start trace first before list own (ends_from 1 numbers)
 
 pub ended-none : (start : Start) (list : List Made) (own : List ℕ) (all : List Played) → Ended start list own all 0 list own all
-ended-none start list own all = record { numbers = []; count = refl; are = sym (append-nil all); steals = λ trace. steals-none start trace list own }
+ended-none start list own all = record { numbers = []; count = refl; are = sym (append-nil (events_of all)); whose = λ h. h; steals = λ trace. steals-none start trace list own }
 
-pub ended-more : (start start' : Start) (first xs ys : List Made) (before own own' : List ℕ) (old all new : List Played) (trees tree number : ℕ) → start' ≡ start → tree ≡ trees + 1 → new ≡ all ++ Played.End tree number ∷ [] → ((trace : Trace) → StealsOn start' trace xs own ys own' (Played.End tree number ∷ [])) → Ended start first before old trees xs own all → Ended start first before old (trees + 1) ys own' new
+pub ended-more : (start start' : Start) (first xs ys : List Made) (before own own' : List ℕ) (old all new : List Played) (trees tree number : ℕ) → start' ≡ start → tree ≡ trees + 1 → new ≡ all ++ Played.End tree number ∷ [] → ((trace : Trace) → StealsOn start' trace xs own ys own' (Event.End tree number ∷ [])) → Ended start first before old trees xs own all → Ended start first before old (trees + 1) ys own' new
 ended-more start start' first xs ys before own own' old all new trees tree number same is pushed steals h =
     let place : 1 + length h.numbers ≡ tree = let count = h.count in omega (arith, count, is) in
-    let ends : ends_from 1 (h.numbers ++ number ∷ []) ≡ ends_from 1 h.numbers ++ Played.End tree number ∷ [] = ends-append 1 h.numbers number ∙ ap (λ n. ends_from 1 h.numbers ++ Played.End n number ∷ []) place in
+    let ends : ends_from 1 (h.numbers ++ number ∷ []) ≡ ends_from 1 h.numbers ++ Event.End tree number ∷ [] = ends-append 1 h.numbers number ∙ ap (λ n. ends_from 1 h.numbers ++ Event.End n number ∷ []) place in
     let long = length-append h.numbers (number ∷ []) in
     let count = h.count in
     record {
       numbers = h.numbers ++ number ∷ [];
       count = omega (arith, long, count);
-      are = pushed ∙ ap (λ (l : List Played). l ++ Played.End tree number ∷ []) h.are ∙ append_assoc old (ends_from 1 h.numbers) (Played.End tree number ∷ []) ∙ ap (λ (l : List Played). old ++ l) (sym ends);
+      are =
+          ap events_of pushed ∙ events-more all (Played.End tree number)
+          ∙ ap (λ (l : List Event). l ++ Event.End tree number ∷ []) h.are ∙ append_assoc (events_of old) (ends_from 1 h.numbers) (Event.End tree number ∷ []) ∙ ap (λ (l : List Event). events_of old ++ l) (sym ends);
+      whose = λ before_all. rw pushed (All-push IsOfProcess all (Played.End tree number) (h.whose before_all) tt);
       steals = λ trace.
           rw ends
-          (steals-both start trace first xs ys before own own' (ends_from 1 h.numbers) (Played.End tree number ∷ []) (h.steals trace) (subst (λ (s : Start). StealsOn s trace xs own ys own' (Played.End tree number ∷ [])) same (steals trace)));
+          (steals-both start trace first xs ys before own own' (ends_from 1 h.numbers) (Event.End tree number ∷ []) (h.steals trace) (subst (λ (s : Start). StealsOn s trace xs own ys own' (Event.End tree number ∷ [])) same (steals trace)));
     }
 
 -- a worker that had made nothing when it began, and knew the coming of the supervisor
-pub thief-did : (start : Start) (trace : Trace) (shift : Shift) (floor : ℕ) (list : List Made) (own : List ℕ) (all : List Played) → shift.before ≡ [] → floor ≤ length shift.known → IsStealing start trace shift list own all → ThiefDid start trace floor (deed list own all)
-thief-did start trace shift floor list own all none low h =
+pub thief-did : (start : Start) (trace : Trace) (shift : Shift) (floor : ℕ) (list : List Made) (own : List ℕ) (all : List Played) → shift.before ≡ [] → floor ≤ length shift.known → IsStealing start trace shift list own (events_of all) → AllByRecursion IsOfProcess all → ThiefDid start trace floor (deed list own all)
+thief-did start trace shift floor list own all none low h whose =
     record {
       each = h.each;
-      own_is = h.made ∙ ap (λ (ns : List ℕ). ns ++ all_own all) none;
+      own_is = h.made ∙ ap (λ (ns : List ℕ). ns ++ all_own (events_of all)) none;
       claims = λ who i belong. h.makers who i belong (rw none (tt, tt));
-      fresh = All-map (IsSince (length shift.known)) (IsSince floor) all older h.fresh;
+      fresh = All-map (IsSince (length shift.known)) (IsSince floor) (events_of all) older h.fresh;
+      whose = whose;
     }
   where
-    older : (played : Played) → IsSince (length shift.known) played → IsSince floor played
-    older (Played.Take played) since = All-map (λ (look : Look). length shift.known ≤ look.version) (λ (look : Look). floor ≤ look.version) played.take.looks (λ look le. omega (arith, low, le)) since
-    older (Played.End tree number) since = tt
+    older : (played : Event) → IsSince (length shift.known) played → IsSince floor played
+    older (Event.Take played) since = All-map (λ (look : Look). length shift.known ≤ look.version) (λ (look : Look). floor ≤ look.version) played.take.looks (λ look le. omega (arith, low, le)) since
+    older (Event.End tree number) since = tt
 
 -- what it has done stays so when others' steps follow
 pub thief-later : (start : Start) (trace : Trace) (floor : ℕ) (done : Deed Played) (list : List Made) → Begins done.known list → ThiefDid start trace floor done → ThiefDid start trace floor (deed_at list done)
 thief-later start trace floor done list begins h =
     record {
-      each = all-later start trace done.known list done.rows begins h.each;
+      each = all-later start trace done.known list (events_of done.rows) begins h.each;
       own_is = h.own_is;
-      claims = claimed-later (map maker_of done.rows) done.known list done.own begins h.claims;
+      claims = claimed-later (map maker_of (events_of done.rows)) done.known list done.own begins h.claims;
       fresh = h.fresh;
+      whose = h.whose;
     }

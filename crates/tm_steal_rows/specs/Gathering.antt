@@ -1,6 +1,6 @@
--- How what the workers give back is gathered: whose each process was, the takes by their lines, and
--- a row for each tree.
-use Rattle.std.specs.Prelude.{◌≡◌, ⊤, ℕ, suc, ◌≤◌, ◌<◌, ◌+◌, ◌⊎◌, Bool, true, List, [], ◌∷◌, ◌++◌, map, flat_map, Option, Some, None, is_some, option_to_list, slice_get, slice_set}
+-- How what the workers give back is gathered: whose each process was, the takes by their processes,
+-- and a row for each tree.
+use Rattle.std.specs.Prelude.{◌≡◌, ⊤, ℕ, suc, ◌≤◌, ◌<◌, ◌+◌, Bool, true, List, [], ◌∷◌, ◌++◌, map, flat_map, Option, Some, is_some, length, option_to_list, slice_get}
 use Rattle.std.specs.Option.{IfSome}
 use Rattle.std.specs.List.{AllByRecursion}
 use Rattle.tm_types.specs.declared.policy.Policy.{Policy}
@@ -17,17 +17,14 @@ use Rattle.tm_verify_notes.specs.Cases.{first_stand}
 use Rattle.tm_steal_rows.specs.declared.played.Played.{Played}
 use Rattle.tm_steal_rows.specs.declared.played.PlayedTake.{PlayedTake}
 use Rattle.tm_steal_rows.specs.declared.parts.TreePart.{TreePart}
+use Rattle.tm_steal_rows.specs.Playing.{Event, events_of}
 
 -- Whose they were
 
--- a take's process is one that this worker owns; the first worker ends the trees
+-- a process is one that this worker owns; the first worker ends the trees
 abbrev pub IsOwned : (ℕ → Option ℕ) → ℕ → Played → Type 0
-IsOwned owner worker (Played.Take played) = owner played.stood.process.pid ≡ Some worker
+IsOwned owner worker (Played.Process process) = owner process.pid ≡ Some worker
 IsOwned owner worker (Played.End tree number) = worker ≡ 0
-
--- the process of this pid, if one is told, is one that this worker owns
-abbrev pub IsOwnedIf : (ℕ → Option ℕ) → ℕ → Option ℕ → Type 0
-IsOwnedIf owner worker last = IfSome last (λ pid. owner pid ≡ Some worker)
 
 -- all that each worker gives back, where the first of these has that number
 abbrev pub EachOwned : (ℕ → Option ℕ) → ℕ → List (List Played) → Type 0
@@ -39,58 +36,59 @@ EachOwned owner worker (all ∷ given) =
 abbrev pub AreKept : (ℕ → Option ℕ) → (ℕ → Option ℕ) → Type 0
 AreKept old new = (pid worker : ℕ) → old pid ≡ Some worker → new pid ≡ Some worker
 
--- The takes by their lines
+-- The takes by their processes
 
 -- the take, if it is one
-abbrev pub take_of : Played → List PlayedTake
-take_of (Played.Take played) = played ∷ []
-take_of (Played.End tree number) = []
+abbrev pub take_of : Event → List PlayedTake
+take_of (Event.Take played) = played ∷ []
+take_of (Event.End tree number) = []
 
 -- the End with its tree's number, if it is one
-abbrev pub end_of : Played → List (ℕ × ℕ)
-end_of (Played.Take played) = []
-end_of (Played.End tree number) = (tree, number) ∷ []
+abbrev pub end_of : Event → List (ℕ × ℕ)
+end_of (Event.Take played) = []
+end_of (Event.End tree number) = (tree, number) ∷ []
 
--- all that the workers give back, one after another
-abbrev pub all_given : List (List Played) → List Played
-all_given given = flat_map (λ (all : List Played). all) given
+-- the events of all that the workers give back, one after another
+abbrev pub all_given : List (List Played) → List Event
+all_given given = flat_map events_of given
 
 -- the takes among them
-abbrev pub takes_of : List Played → List PlayedTake
+abbrev pub takes_of : List Event → List PlayedTake
 takes_of all = flat_map take_of all
 
 -- the Ends among them, each with its tree's number
-abbrev pub ends_of : List Played → List (ℕ × ℕ)
+abbrev pub ends_of : List Event → List (ℕ × ℕ)
 ends_of all = flat_map end_of all
 
 -- the numbers of the steps of these takes
 abbrev pub takes_own : List PlayedTake → List ℕ
 takes_own takes = flat_map (λ (played : PlayedTake). own_numbers (played.take ∷ [])) takes
 
--- a take at its line's place, which was empty
-abbrev pub Fills : List (Option PlayedTake) → PlayedTake → List (Option PlayedTake) → Type 0
-Fills old played new =
-    (slice_get old played.line ≡ Some None) × (new ≡ slice_set old played.line (Some played))
+-- a take is one of these
+abbrev pub IsAmong : PlayedTake → List PlayedTake → Type 0
+IsAmong played takes = (place : ℕ) × (slice_get takes place ≡ Some played)
 
--- the numbers of the steps of the takes at these places
-abbrev pub slots_own : List (Option PlayedTake) → List ℕ
-slots_own slots = flat_map (λ (slot : Option PlayedTake). takes_own (option_to_list slot)) slots
+-- each of these takes is one of those
+abbrev pub AreAmong : List PlayedTake → List PlayedTake → Type 0
+AreAmong some all = (k : ℕ) (played : PlayedTake) → slice_get some k ≡ Some played → IsAmong played all
 
--- these takes more are at the places of their lines, which were empty
-pub record AreLaid (old : List (Option PlayedTake)) (takes : List PlayedTake)
-    (new : List (Option PlayedTake)) : Type 0 where
-  pub at : (k : ℕ) (played : PlayedTake) → slice_get new k ≡ Some (Some played)
-      → (slice_get old k ≡ Some (Some played))
-      ⊎ ((played.line ≡ k) × (place : ℕ) × (slice_get takes place ≡ Some played))
-  pub counted : (number : ℕ)
-      → times number (slots_own new) ≡ times number (slots_own old) + times number (takes_own takes)
+-- these takes in another order: each is one of those, and no step is left out or counted twice
+pub record AreTheSame (takes other : List PlayedTake) : Type 0 where
+  pub among : AreAmong other takes
+  pub counted : (number : ℕ) → times number (takes_own takes) ≡ times number (takes_own other)
+
+-- these takes were taken out of those, and others are left
+abbrev pub AreTakenOut : List PlayedTake → List PlayedTake → List PlayedTake → Type 0
+AreTakenOut old own left = AreTheSame old (own ++ left)
+
+-- these takes more have been laid to those that were there
+abbrev pub AreLaid : List PlayedTake → List PlayedTake → List PlayedTake → Type 0
+AreLaid old takes new = AreTheSame (old ++ takes) new
 
 -- each take is at the place of its line, and of these; no step is left out or counted twice
 pub record AreByLine (takes : List PlayedTake) (lines : List PlayedTake) : Type 0 where
   pub line : (k : ℕ) (played : PlayedTake) → slice_get lines k ≡ Some played → played.line ≡ k
-  pub among : (k : ℕ) (played : PlayedTake) → slice_get lines k ≡ Some played
-      → (place : ℕ) × (slice_get takes place ≡ Some played)
-  pub counted : (number : ℕ) → times number (takes_own takes) ≡ times number (takes_own lines)
+  pub same : AreTheSame takes lines
 
 -- Rows
 
@@ -126,23 +124,38 @@ pub record TakesOfTree (home : Option ℕ) (records : List Item) (old : List Pla
   pub all : old ≡ own ++ left
   pub are : AreTakesOf home records own takes
 
--- a tree is walked up to these lines, where its processes stand so, with these takes of its own
-pub record IsWalking (home : Option ℕ) (records : List Item) (old : List PlayedTake) (at : Situations)
-    (items : List Item) (takes : List Take) (left : List PlayedTake) : Type 0 where
+-- each of these takes is of the line of its place, the first one of that number
+abbrev pub AreLines : ℕ → List PlayedTake → Type 0
+AreLines first own =
+    (k : ℕ) (played : PlayedTake) → slice_get own k ≡ Some played → played.line ≡ first + k
+
+-- the takes of a tree, whose first line has that number, were taken out of what was left of its
+-- processes
+pub record TakesOfProcesses (home : Option ℕ) (records : List Item) (first : ℕ) (old : List PlayedTake)
+    (takes : List Take) (left : List PlayedTake) : Type 0 where
   pub own : List PlayedTake
-  pub all : old ≡ own ++ left
+  pub are : AreTakesOf home records own takes
+  pub lines : AreLines first own
+  pub taken_out : AreTakenOut old own left
+
+-- a tree is walked up to these lines, where its processes stand so, with these takes of its own
+pub record IsWalking (home : Option ℕ) (records : List Item) (first : ℕ) (old : List PlayedTake)
+    (at : Situations) (items : List Item) (takes : List Take) (left : List PlayedTake) : Type 0 where
+  pub own : List PlayedTake
   pub are : takes ≡ taken own
   pub pids : map (λ (k : Take). k.pid) takes ++ do_pids items ≡ do_pids records
   pub stand : (t : ℕ) (more : List PlayedTake) → EachStands (tree_cases t at items (taken more)) more
       → EachStands (tree_cases t (first_stand home) records (taken (own ++ more))) (own ++ more)
+  pub lines : AreLines first own
+  pub taken_out : AreTakenOut old own left
 
 -- one line more
-abbrev pub WalksOn : Situations → Item → List Take → List PlayedTake → Situations → List Take
+abbrev pub WalksOn : ℕ → Situations → Item → List Take → List PlayedTake → Situations → List Take
     → List PlayedTake → Type 0
-WalksOn at item takes left later more rest =
+WalksOn first at item takes left later more rest =
     (home : Option ℕ) (records : List Item) (old : List PlayedTake) (items : List Item)
-    → IsWalking home records old at (item ∷ items) takes left
-    → IsWalking home records old later items more rest
+    → IsWalking home records first old at (item ∷ items) takes left
+    → IsWalking home records first old later items more rest
 
 -- the first of these Ends is the tree's, where a supervisor stands, and the others are left
 abbrev pub EndsNext : Bool → ℕ → List (ℕ × ℕ) → Option ℕ → List (ℕ × ℕ) → Type 0
@@ -176,27 +189,33 @@ RowsAreOf supervised t (tree ∷ trees) (home ∷ homes) takes ends (row ∷ row
 
 -- Parts of trees, which are walked beside each other
 
--- a tree's part has the takes of the first of these places, and the others are left
-pub record IsPartOf (tree : Tree) (home : Option ℕ) (slots : List (Option PlayedTake)) (part : TreePart)
-    (slots_left : List (Option PlayedTake)) : Type 0 where
+-- the takes that are left of a part's processes
+abbrev pub left_in : TreePart → List PlayedTake
+left_in part = flat_map (λ queue. queue.items) part.queues.items
+
+-- a tree's part has the first of these takes, and the others are left
+pub record IsPartOf (tree : Tree) (home : Option ℕ) (takes : List PlayedTake) (part : TreePart)
+    (takes_left : List PlayedTake) : Type 0 where
   pub tree_is : part.tree.now ≡ tree
   pub home_is : part.home ≡ home
-  pub slots_are : slots ≡ map Some part.left.items ++ slots_left
+  pub takes_are : takes ≡ left_in part ++ takes_left
 
--- a part for each tree, of all these places in their order, none of which is empty
-abbrev pub PartsAreOf : Trace → List (Option ℕ) → List (Option PlayedTake) → List TreePart → Type 0
-PartsAreOf [] homes slots [] = slots ≡ []
-PartsAreOf [] homes slots (part ∷ parts) = ⊥
-PartsAreOf (tree ∷ trees) homes slots [] = ⊥
-PartsAreOf (tree ∷ trees) [] slots (part ∷ parts) = ⊥
-PartsAreOf (tree ∷ trees) (home ∷ homes) slots (part ∷ parts) =
-    (slots_left : List (Option PlayedTake))
-    × IsPartOf tree home slots part slots_left × PartsAreOf trees homes slots_left parts
+-- a part for each tree, of all these takes in their order
+abbrev pub PartsAreOf : Trace → List (Option ℕ) → List PlayedTake → List TreePart → Type 0
+PartsAreOf [] homes takes [] = takes ≡ []
+PartsAreOf [] homes takes (part ∷ parts) = ⊥
+PartsAreOf (tree ∷ trees) homes takes [] = ⊥
+PartsAreOf (tree ∷ trees) [] takes (part ∷ parts) = ⊥
+PartsAreOf (tree ∷ trees) (home ∷ homes) takes (part ∷ parts) =
+    (takes_left : List PlayedTake)
+    × IsPartOf tree home takes part takes_left × PartsAreOf trees homes takes_left parts
 
--- a part after its tree's walk: its takes, if there are some, are the first of those that were left
-abbrev pub IsWalked : TreePart → TreePart → Type 0
-IsWalked old new = IfSome new.takes
-    (λ takes. TakesOfTree old.home old.tree.now.records old.left.items takes.items new.left.items)
+-- a part after its tree's walk: its takes, if there are some, were taken out of those that were left
+pub record IsWalked (old new : TreePart) : Type 0 where
+  pub first_is : new.first_line ≡ old.first_line
+  pub takes_are : IfSome new.takes
+      (λ takes. TakesOfProcesses old.home old.tree.now.records old.first_line (left_in old) takes.items
+      (left_in new))
 
 -- each part after its tree's walk
 abbrev pub AreWalked : List TreePart → List TreePart → Type 0
@@ -205,25 +224,29 @@ AreWalked [] (new ∷ news) = ⊥
 AreWalked (old ∷ olds) [] = ⊥
 AreWalked (old ∷ olds) (new ∷ news) = IsWalked old new × AreWalked olds news
 
--- the row of a part that was walked to its end, with the next of these Ends; the others are left
-pub record IsRowOf (supervised : Bool) (t : ℕ) (part : TreePart) (ends : List (ℕ × ℕ)) (row : PlayedTree)
+-- the row of a part that was walked to its end, whose first line has number n, with the next of
+-- these Ends; the others are left
+pub record IsRowOf (supervised : Bool) (t n : ℕ) (part : TreePart) (ends : List (ℕ × ℕ)) (row : PlayedTree)
     (ends_left : List (ℕ × ℕ)) : Type 0 where
   pub number : row.number ≡ t
-  pub all_walked : part.left.items ≡ []
+  pub first_is : part.first_line ≡ n
+  pub all_walked : left_in part ≡ []
   pub has_takes : is_some part.takes ≡ true
   pub takes_are : IfSome part.takes (λ takes. row.takes ≡ takes.items)
   pub end : EndsNext supervised t ends row.end ends_left
   pub above : StandsAbove row.end row.takes
 
--- a row for each part, where the first one has number t, with the first of these Ends; the others
--- are left
-abbrev pub RowsAreOfParts : Bool → ℕ → List TreePart → List (ℕ × ℕ) → List PlayedTree → List (ℕ × ℕ) → Type 0
-RowsAreOfParts supervised t [] ends [] ends_left = ends ≡ ends_left
-RowsAreOfParts supervised t [] ends (row ∷ rows) ends_left = ⊥
-RowsAreOfParts supervised t (part ∷ parts) ends [] ends_left = ⊥
-RowsAreOfParts supervised t (part ∷ parts) ends (row ∷ rows) ends_left =
+-- a row for each part, where the first one has number t and its first line number n, with the first
+-- of these Ends; the others are left
+abbrev pub RowsAreOfParts : Bool → ℕ → ℕ → List TreePart → List (ℕ × ℕ) → List PlayedTree → List (ℕ × ℕ)
+    → Type 0
+RowsAreOfParts supervised t n [] ends [] ends_left = ends ≡ ends_left
+RowsAreOfParts supervised t n [] ends (row ∷ rows) ends_left = ⊥
+RowsAreOfParts supervised t n (part ∷ parts) ends [] ends_left = ⊥
+RowsAreOfParts supervised t n (part ∷ parts) ends (row ∷ rows) ends_left =
     (ends_next : List (ℕ × ℕ))
-    × IsRowOf supervised t part ends row ends_next × RowsAreOfParts supervised (suc t) parts ends_next rows ends_left
+    × IsRowOf supervised t n part ends row ends_next
+    × RowsAreOfParts supervised (suc t) (n + length row.takes) parts ends_next rows ends_left
 
 -- the domains that the trees start in: those of their names
 abbrev pub homes_of : Policy → Trace → List (Option ℕ)

@@ -48,35 +48,58 @@ pub record TakeIsPlayed (start : Start) (trace : Trace) (list : List Made) (play
   pub legal : TakeIsLegal start known list (situation_of played.stood) request played.take
   pub pid : played.take.pid ≡ played.stood.process.pid
 
+-- a take that was played, or the End of a tree with its number among all steps
+pub data Event : Type 0 where
+  Take : PlayedTake → Event
+  End : ℕ → ℕ → Event
+
 -- a take was played, or a tree's End was made
-abbrev pub IsPlayed : Start → Trace → List Made → Played → Type 0
-IsPlayed start trace list (Played.Take played) = TakeIsPlayed start trace list played
-IsPlayed start trace list (Played.End tree number) = made_step list number ≡ Some (Step.End tree)
+abbrev pub IsPlayed : Start → Trace → List Made → Event → Type 0
+IsPlayed start trace list (Event.Take played) = TakeIsPlayed start trace list played
+IsPlayed start trace list (Event.End tree number) = made_step list number ≡ Some (Step.End tree)
 
 -- the numbers of its steps
-abbrev pub own_of : Played → List ℕ
-own_of (Played.Take played) = own_numbers (played.take ∷ [])
-own_of (Played.End tree number) = number ∷ []
+abbrev pub own_of : Event → List ℕ
+own_of (Event.Take played) = own_numbers (played.take ∷ [])
+own_of (Event.End tree number) = number ∷ []
 
 -- the numbers of the steps of all these
-abbrev pub all_own : List Played → List ℕ
+abbrev pub all_own : List Event → List ℕ
 all_own all = flat_map own_of all
 
 -- who makes its steps
-abbrev pub maker_of : Played → Maker
-maker_of (Played.Take played) = Maker.Process played.take.pid
-maker_of (Played.End tree number) = Maker.Tree tree
+abbrev pub maker_of : Event → Maker
+maker_of (Event.Take played) = Maker.Process played.take.pid
+maker_of (Event.End tree number) = Maker.Tree tree
 
 -- no look of it is older than that version
-abbrev pub IsSince : ℕ → Played → Type 0
-IsSince version (Played.Take played) = LooksSince version played.take
-IsSince version (Played.End tree number) = ⊤
+abbrev pub IsSince : ℕ → Event → Type 0
+IsSince version (Event.Take played) = LooksSince version played.take
+IsSince version (Event.End tree number) = ⊤
+
+-- the events of a process, or that of an End
+abbrev pub events_in : Played → List Event
+events_in (Played.Process process) = map Event.Take process.takes.items
+events_in (Played.End tree number) = Event.End tree number ∷ []
+
+-- the events of all these, one after another
+abbrev pub events_of : List Played → List Event
+events_of all = flat_map events_in all
+
+-- a take is of the process of this pid
+abbrev pub IsTakeOf : ℕ → PlayedTake → Type 0
+IsTakeOf pid played = played.stood.process.pid ≡ pid
+
+-- each take of a process is its own
+abbrev pub IsOfProcess : Played → Type 0
+IsOfProcess (Played.Process process) = AllByRecursion (IsTakeOf process.pid) process.takes.items
+IsOfProcess (Played.End tree number) = ⊤
 
 -- Workers
 
 -- a worker that has played these, by what its seat knows and has made
 pub record IsStealing (start : Start) (trace : Trace) (shift : Shift) (list : List Made) (own : List ℕ)
-    (all : List Played) : Type 0 where
+    (all : List Event) : Type 0 where
   pub begins : Begins shift.known list
   pub each : AllByRecursion (IsPlayed start trace list) all
   pub made : own ≡ shift.before ++ all_own all
@@ -84,22 +107,24 @@ pub record IsStealing (start : Start) (trace : Trace) (shift : Shift) (list : Li
   pub fresh : AllByRecursion (IsSince (length shift.known)) all
 
 -- these more
-abbrev pub StealsOn : Start → Trace → List Made → List ℕ → List Made → List ℕ → List Played → Type 0
+abbrev pub StealsOn : Start → Trace → List Made → List ℕ → List Made → List ℕ → List Event → Type 0
 StealsOn start trace old before new own more =
-    (shift : Shift) (all : List Played) → IsStealing start trace shift old before all
+    (shift : Shift) (all : List Event) → IsStealing start trace shift old before all
     → IsStealing start trace shift new own (all ++ more)
 
 -- the Ends of trees in order, where the first tree has number t
-abbrev pub ends_from : ℕ → List ℕ → List Played
+abbrev pub ends_from : ℕ → List ℕ → List Event
 ends_from t [] = []
-ends_from t (number ∷ numbers) = Played.End t number ∷ ends_from (suc t) numbers
+ends_from t (number ∷ numbers) = Event.End t number ∷ ends_from (suc t) numbers
 
--- a worker has played these, and none of its looks is older than that version
+-- a worker has played these, each take is its process's, and none of its looks is older than that
+-- version
 pub record ThiefDid (start : Start) (trace : Trace) (floor : ℕ) (done : Deed Played) : Type 0 where
-  pub each : AllByRecursion (IsPlayed start trace done.known) done.rows
-  pub own_is : done.own ≡ all_own done.rows
-  pub claims : ClaimedBy (map maker_of done.rows) done.known done.own
-  pub fresh : AllByRecursion (IsSince floor) done.rows
+  pub each : AllByRecursion (IsPlayed start trace done.known) (events_of done.rows)
+  pub own_is : done.own ≡ all_own (events_of done.rows)
+  pub claims : ClaimedBy (map maker_of (events_of done.rows)) done.known done.own
+  pub fresh : AllByRecursion (IsSince floor) (events_of done.rows)
+  pub whose : AllByRecursion IsOfProcess done.rows
 
 -- the same, whichever hand it has been given
 abbrev pub HandDid : {H : Type 0} → Trace → Start → ℕ → H → Deed Played → Type 0

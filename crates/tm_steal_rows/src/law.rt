@@ -7,7 +7,8 @@ ghost use Rattle.tm_parts.specs.Rows.{Shift};
 ghost use Rattle.tm_parts.specs.Seats.{Begins};
 ghost use Rattle.tm_parts.specs.Parts.{deed};
 ghost use Rattle.tm_steal_rows.specs.Lines.{LinesCanBeAsked};
-ghost use Rattle.tm_steal_rows.specs.Playing.{IsStealing, StealsOn, ThiefDid};
+ghost use Rattle.std.specs.List.{AllByRecursion};
+ghost use Rattle.tm_steal_rows.specs.Playing.{IsStealing, StealsOn, ThiefDid, events_of, IsOfProcess};
 ghost use Rattle.tm_steal_rows.specs.Stolen.{StolenRunsAreLegal};
 ghost use Rattle.tm_steal_rows.specs.declared.played.Played.{Played};
 
@@ -26,7 +27,8 @@ pub fn workers_steal_on()
         Begins old new → StealsOn start trace old own new own [] }
     ensures ends { (start : Start) (trace : Trace) (shift : Shift) (floor : ℕ) (list : List Made)
         (own : List ℕ) (all : List Played) → shift.before ≡ [] → floor ≤ length shift.known →
-        IsStealing start trace shift list own all → ThiefDid start trace floor (deed list own all) }
+        IsStealing start trace shift list own (events_of all) → AllByRecursion IsOfProcess all
+        → ThiefDid start trace floor (deed list own all) }
 {}
 
 /// A law, nothing to run: where each record of a trace can be asked, so can the request of each

@@ -8,11 +8,12 @@ mod lines;
 mod owners;
 mod parts;
 mod played;
+mod queues;
 mod rows;
-mod slots;
 mod walk;
 
 pub use law::{lines_can_be_asked, stolen_runs_are_legal, workers_steal_on};
 pub use lines::{LinePlace, places_of, request_at};
-pub use played::{Played, PlayedTake, end_trees, play_line};
+pub use parts::TreeLines;
+pub use played::{Played, PlayedProcess, PlayedTake, end_trees, play_line};
 pub use rows::gather;

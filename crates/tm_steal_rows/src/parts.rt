@@ -1,113 +1,126 @@
 //! The trees' parts of what was played, each walked beside the others.
-ghost use Rattle.std.specs.Prelude.{◌≡◌, ◌<◌, ◌++◌, [], map, Some, IfOk, IsTrue};
+ghost use Rattle.std.specs.Prelude.{◌≡◌, ◌<◌, ◌++◌, flat_map, IfOk};
 ghost use Rattle.tm_steal_rows.specs.Gathering.{IsPartOf, PartsAreOf, IsWalked, AreWalked};
 
 use crate::played::PlayedTake;
+use crate::queues::none_left;
 use crate::walk::walk_tree;
 use std::alloc::{AllocError, Global};
 use std::collections::VecDeque;
 use std::thread::Threads;
 use tm_beside::for_each_beside;
 use tm_list::NoMemory;
-use tm_types::request::{Item, Tree};
+use tm_types::request::Tree;
 use tm_types::step::Take;
 
-/// A tree's part: the tree, the domain that its processes start in, the takes of its lines that are
-/// left to be walked, and, once it has been walked, the takes of its row.
+/// What is known of a tree before it is walked: how many processes it has, how many `do` lines the
+/// trees before it have, and the place of each of its own `do` lines' process among its processes.
+/// Wrong numbers are refused where the takes are gathered.
+#[derive(Drop)]
+pub struct TreeLines {
+    pub processes: usize,
+    pub lines_before: u64,
+    pub processes_of_lines: Vec<usize>,
+}
+
+/// A tree's part: the tree, the domain that its processes start in, the number of its first `do`
+/// line among those of the trace, from 0, the place of each line's process, the takes of each
+/// process that are left to be walked, and, once it has been walked, the takes of its row.
 #[derive(Drop)]
 pub(crate) struct TreePart<'a> {
     pub(crate) tree: &'a Tree,
     pub(crate) home: Option<u32>,
-    pub(crate) left: VecDeque<PlayedTake>,
+    pub(crate) first_line: u64,
+    pub(crate) processes_of_lines: Vec<usize>,
+    pub(crate) queues: Vec<VecDeque<PlayedTake>>,
     pub(crate) takes: Option<Vec<Take>>,
 }
 
-// How many `do` lines these records have.
-fn count_tree_lines(records: &[Item]) -> usize {
+/// How many processes all trees have.
+pub(crate) fn count_processes(trees: &[TreeLines]) -> usize {
     let mut count: usize = 0;
-    for item in records {
-        if let Item::Do(_, _) = item {
-            count = count.saturating_add(1);
-        }
+    for tree in trees {
+        count = count.saturating_add(tree.processes);
     }
     count
 }
 
-/// Whether nothing is left.
-pub(crate) fn none_left<T>(left: &VecDeque<T>) -> bool
-    ensures { IsTrue result → left.now.items ≡ [] }
-{
-    left.is_empty()
-}
-
-/// How many `do` lines a trace has.
-pub(crate) fn count_lines(trace: &[Tree]) -> usize {
-    let mut count: usize = 0;
-    for tree in trace {
-        count = count.saturating_add(count_tree_lines(tree.records.as_slice()));
-    }
-    count
-}
-
-// The takes of so many first places, none of which may be empty.
-fn next_takes(
+// The takes of so many first processes.
+fn next_queues(
     alloc: Global,
     count: usize,
-    slots: &mut VecDeque<Option<PlayedTake>>,
-) -> Result<VecDeque<PlayedTake>, NoMemory>
-    ensures { IfOk result (λ takes. slots.old.items ≡ map Some takes.items ++ slots.new.items) }
+    queues: &mut VecDeque<VecDeque<PlayedTake>>,
+) -> Result<Vec<VecDeque<PlayedTake>>, NoMemory>
+    ensures { IfOk result (λ first. flat_map (λ queue. queue.items) queues.old.items
+        ≡ flat_map (λ queue. queue.items) first.items ++ flat_map (λ queue. queue.items) queues.new.items) }
 {
-    let mut takes = VecDeque::with_capacity(alloc, count)?;
-    for _place in 0..count {
-        let Some(Some(played)) = slots.pop_front() else {
+    let mut first = Vec::with_capacity(alloc, count)?;
+    for _process in 0..count {
+        let Some(queue) = queues.pop_front() else {
             return Err(AllocError);
         };
-        takes.push_back(played)?;
+        first.push(queue)?;
     }
-    Ok(takes)
+    Ok(first)
 }
 
-// The part of a tree, which starts in this domain, of its first places.
+// The part of a tree, which starts in this domain, of its first processes.
 fn part_of<'a>(
     alloc: Global,
     tree: &'a Tree,
     home: Option<u32>,
-    slots: &mut VecDeque<Option<PlayedTake>>,
+    lines: TreeLines,
+    queues: &mut VecDeque<VecDeque<PlayedTake>>,
 ) -> Result<TreePart<'a>, NoMemory>
-    ensures { IfOk result (λ part. IsPartOf tree.now home slots.old.items part slots.new.items) }
+    ensures { IfOk result (λ part. IsPartOf tree.now home
+        (flat_map (λ queue. queue.items) queues.old.items) part
+        (flat_map (λ queue. queue.items) queues.new.items)) }
 {
-    let count = count_tree_lines(tree.records.as_slice());
-    let left = next_takes(alloc, count, slots)?;
+    let TreeLines {
+        processes,
+        lines_before,
+        processes_of_lines,
+    } = lines;
+    let queues = next_queues(alloc, processes, queues)?;
     Ok(TreePart {
         tree,
         home,
-        left,
+        first_line: lines_before,
+        processes_of_lines,
+        queues,
         takes: None,
     })
 }
 
-/// The parts of all trees, which start in these domains, of the takes at these places.
+/// The parts of all trees, which start in these domains and have these lines, of the takes of these
+/// processes.
 ///
-/// Errors: want of memory; that a line has no take.
+/// Errors: want of memory; that there are more processes than the trees have, or fewer.
 pub(crate) fn parts_of<'a>(
     alloc: Global,
     trace: &'a [Tree],
     homes: Vec<Option<u32>>,
-    slots: Vec<Option<PlayedTake>>,
+    lines: Vec<TreeLines>,
+    queues: Vec<VecDeque<PlayedTake>>,
 ) -> Result<Vec<TreePart<'a>>, NoMemory>
-    ensures { IfOk result (λ parts. PartsAreOf trace.now homes.items slots.items parts.items) }
+    ensures { IfOk result (λ parts. PartsAreOf trace.now homes.items
+        (flat_map (λ queue. queue.items) queues.items) parts.items) }
 {
     let mut homes = VecDeque::from(homes);
-    let mut slots = VecDeque::from(slots);
+    let mut lines = VecDeque::from(lines);
+    let mut queues = VecDeque::from(queues);
     let mut parts = Vec::with_capacity(alloc, trace.len())?;
     for tree in trace {
         let Some(home) = homes.pop_front() else {
             return Err(AllocError);
         };
-        let part = part_of(alloc, tree, home, &mut slots)?;
+        let Some(its) = lines.pop_front() else {
+            return Err(AllocError);
+        };
+        let part = part_of(alloc, tree, home, its, &mut queues)?;
         parts.push(part)?;
     }
-    if none_left(&slots) {
+    if none_left(&queues) {
         return Ok(parts);
     }
     Err(AllocError)
@@ -119,7 +132,9 @@ impl TreePart<'_> {
         ensures { IsWalked self.old self.new }
     {
         let records = self.tree.records.as_slice();
-        self.takes = walk_tree(alloc, self.home, records, &mut self.left).ok();
+        let lines = self.processes_of_lines.as_slice();
+        let queues = &mut self.queues;
+        self.takes = walk_tree(alloc, self.home, records, self.first_line, lines, queues).ok();
     }
 }
 

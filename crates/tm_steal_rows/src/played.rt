@@ -7,8 +7,8 @@ ghost use Rattle.tm_verify_notes.specs.Tomoyo.{tomoyo_grammar};
 ghost use Rattle.tm_legal.specs.Play.{IsOpened, IsNamed};
 ghost use Rattle.tm_legal.specs.Stages.{DomainIn};
 ghost use Rattle.tm_parts.specs.Seats.{state_of, FitsFrom, Begins};
-ghost use Rattle.tm_steal_rows.specs.Playing.{all_requests, StealsOn, ends_from};
-ghost use Rattle.tm_steal_rows.specs.declared.played.Played.{Played};
+ghost use Rattle.std.specs.List.{AllByRecursion};
+ghost use Rattle.tm_steal_rows.specs.Playing.{Event, all_requests, StealsOn, ends_from, events_of, IsOfProcess};
 
 use std::alloc::Global;
 use tm_list::NoMemory;
@@ -29,11 +29,20 @@ pub struct PlayedTake {
     pub take: Kept<Take>,
 }
 
-/// What a worker has played: a take, or the End of the tree of a number, with the number of its
+/// A process that was played: its place among the processes of the trace, tree by tree, from 0, its
+/// pid, and its takes in order.
+#[derive(Drop)]
+pub struct PlayedProcess {
+    pub number: usize,
+    pub pid: u32,
+    pub takes: Vec<PlayedTake>,
+}
+
+/// What a worker has played: a process, or the End of the tree of a number, with the number of its
 /// step.
 #[derive(Drop)]
 pub enum Played {
-    Take(PlayedTake),
+    Process(PlayedProcess),
     End(u32, u64),
 }
 
@@ -63,7 +72,7 @@ pub fn play_line<S: Seat>(
     ensures steals { IfOk result (λ played. (trace : Trace)
         → slice_get (all_requests trace) line ≡ Some request
         → StealsOn (S.opening seat.old) trace (S.at seat.old) (S.own seat.old)
-        (S.at seat.new) (S.own seat.new) (Played.Take played ∷ [])) }
+        (S.at seat.new) (S.own seat.new) (Event.Take played ∷ [])) }
     ensures of_line { IfOk result (λ played.
         (played.line ≡ line) × (played.stood ≡ now) × (played.since ≡ since)) }
     ensures there { IfOk result (λ played.
@@ -90,7 +99,7 @@ fn end_tree<S: Seat>(seat: &mut S, alloc: Global, tree: u32) -> Result<u64, NoMe
     requires inside { tree ≤ (S.opening seat.old).trees }
     ensures steals { IfOk result (λ number. (trace : Trace) →
         StealsOn (S.opening seat.old) trace (S.at seat.old) (S.own seat.old)
-        (S.at seat.new) (S.own seat.new) (Played.End tree number ∷ [])) }
+        (S.at seat.new) (S.own seat.new) (Event.End tree number ∷ [])) }
     ensures opening { S.opening seat.new ≡ S.opening seat.old }
     ensures grows { Begins (S.at seat.old) (S.at seat.new) }
 {
@@ -116,9 +125,10 @@ pub fn end_trees<S: Seat>(
     requires inside { trees ≤ (S.opening seat.old).trees }
     ensures ends { OnOk result ((numbers : List ℕ)
         × (length numbers ≡ (if supervised then trees else 0))
-        × (all.new.items ≡ all.old.items ++ ends_from 1 numbers)
+        × (events_of all.new.items ≡ events_of all.old.items ++ ends_from 1 numbers)
         × ((trace : Trace) → StealsOn (S.opening seat.old) trace (S.at seat.old) (S.own seat.old)
         (S.at seat.new) (S.own seat.new) (ends_from 1 numbers))) }
+    ensures whose { OnOk result (AllByRecursion IsOfProcess all.old.items → AllByRecursion IsOfProcess all.new.items) }
     ensures opening { S.opening seat.new ≡ S.opening seat.old }
     ensures grows { Begins (S.at seat.old) (S.at seat.new) }
 {

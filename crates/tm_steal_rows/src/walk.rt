@@ -1,11 +1,12 @@
 //! The walk through a tree's lines, beside the takes that were played of them.
-ghost use Rattle.std.specs.Prelude.{◌≡◌, ◌++◌, ◌∷◌, [], ℕ, List, map, IsTrue, Some, IfOk, OnOk};
+ghost use Rattle.std.specs.Prelude.{◌≡◌, ◌∷◌, flat_map, IsTrue, IfOk, OnOk};
 ghost use Rattle.tm_legal.specs.Run.{with_situation, after_take};
 ghost use Rattle.tm_verify_notes.specs.Cases.{stand_of, stands};
-ghost use Rattle.tm_steal_rows.specs.Gathering.{StandsThere, TakesOfTree, WalksOn};
+ghost use Rattle.tm_steal_rows.specs.Gathering.{StandsThere, AreTheSame, TakesOfProcesses, WalksOn};
 ghost use Rattle.tm_steal_rows.specs.declared.played.PlayedTake.{PlayedTake};
 
 use crate::played::PlayedTake;
+use crate::queues::next_of;
 use std::alloc::{AllocError, Global};
 use std::collections::VecDeque;
 use tm_list::{NoMemory, Same};
@@ -43,23 +44,28 @@ fn stands_there(stand: Stand, played: &PlayedTake) -> bool
         && stand.floor <= played.since
 }
 
-// The take of the next request, which is of this process: the first that is left.
+// The take of the line of this number, which is of this process, the one at this place: the first
+// that is left of it.
 fn next_take(
     known: &mut Stands,
-    left: &mut VecDeque<PlayedTake>,
+    queues: &mut Vec<VecDeque<PlayedTake>>,
+    process: usize,
     pid: u32,
+    line: u64,
 ) -> Result<Take, NoMemory>
     ensures { IfOk result (λ take. (played : PlayedTake)
-        × (left.old.items ≡ played ∷ left.new.items) × (take ≡ played.take) × (take.pid ≡ pid)
+        × AreTheSame (flat_map (λ queue. queue.items) queues.old.items)
+        (played ∷ flat_map (λ queue. queue.items) queues.new.items)
+        × (take ≡ played.take) × (take.pid ≡ pid) × (played.line ≡ line)
         × StandsThere (stands known.old pid) played
         × (stands known.new ≡ with_situation (stands known.old) pid
         (after_take (stands known.old pid) take))) }
 {
-    let Some(played) = left.pop_front() else {
+    let Some(played) = next_of(queues, process) else {
         return Err(AllocError);
     };
     let stand = known.at(pid);
-    if !stands_there(stand, &played) {
+    if played.line != line || !stands_there(stand, &played) {
         return Err(AllocError);
     }
     let take = played.take.into_value();
@@ -71,45 +77,64 @@ fn next_take(
 }
 
 // One line: a process has other ids, a child stands where its parent does, or a request has its
-// take.
+// take. The tree's first request has the number `first`.
 fn walk_line(
     known: &mut Stands,
-    left: &mut VecDeque<PlayedTake>,
+    queues: &mut Vec<VecDeque<PlayedTake>>,
+    first: u64,
+    processes_of_lines: &[usize],
     item: &Item,
     takes: &mut Vec<Take>,
 ) -> Result<(), NoMemory>
-    ensures { OnOk result (WalksOn (stands known.old) item.now takes.old.items left.old.items
-        (stands known.new) takes.new.items left.new.items) }
+    ensures { OnOk result (WalksOn first (stands known.old) item.now takes.old.items
+        (flat_map (λ queue. queue.items) queues.old.items) (stands known.new) takes.new.items
+        (flat_map (λ queue. queue.items) queues.new.items)) }
 {
     match item {
         Item::Ids(pid, ids) => known.set_ids(*pid, *ids),
         Item::Fork(pid, child) => known.fork(*pid, *child),
         Item::Do(pid, _) => {
-            let take = next_take(known, left, *pid)?;
+            let Some(process) = processes_of_lines.get(takes.len()) else {
+                return Err(AllocError);
+            };
+            let Some(line) = first.checked_add(takes.len() as u64) else {
+                return Err(AllocError);
+            };
+            let take = next_take(known, queues, *process, *pid, line)?;
             takes.push(take)?;
             Ok(())
         }
     }
 }
 
-/// The takes of a tree's requests, the first of those that are left; its processes start in this
-/// domain.
+/// The takes of a tree's requests, of those that are left of its processes; its processes start in
+/// this domain, its first request has the number `first`, and each has its process's place.
 ///
-/// Errors: want of memory; that a take began where its process doesn't stand, or didn't know what
-/// the process has seen.
+/// Errors: want of memory; that a request has no take, that its take began where its process
+/// doesn't stand, or didn't know what the process has seen.
 pub(crate) fn walk_tree(
     alloc: Global,
     home: Option<u32>,
     records: &[Item],
-    left: &mut VecDeque<PlayedTake>,
+    first: u64,
+    processes_of_lines: &[usize],
+    queues: &mut Vec<VecDeque<PlayedTake>>,
 ) -> Result<Vec<Take>, NoMemory>
-    ensures { IfOk result (λ takes.
-        TakesOfTree home records.now left.old.items takes.items left.new.items) }
+    ensures { IfOk result (λ takes. TakesOfProcesses home records.now first
+        (flat_map (λ queue. queue.items) queues.old.items) takes.items
+        (flat_map (λ queue. queue.items) queues.new.items)) }
 {
     let mut known = Stands::new(alloc, home);
-    let mut takes = Vec::with_capacity(alloc, records.len())?;
+    let mut takes = Vec::with_capacity(alloc, processes_of_lines.len())?;
     for item in records {
-        walk_line(&mut known, left, item, &mut takes)?;
+        walk_line(
+            &mut known,
+            queues,
+            first,
+            processes_of_lines,
+            item,
+            &mut takes,
+        )?;
     }
     Ok(takes)
 }

@@ -2,7 +2,7 @@
 use std::alloc::Global;
 use std::thread::Threads;
 use tm_list::{NoMemory, Seq};
-use tm_steal_rows::{Played, PlayedTake, gather, places_of, request_at};
+use tm_steal_rows::{Played, PlayedProcess, PlayedTake, TreeLines, gather, places_of, request_at};
 use tm_take::ProcessSituation;
 use tm_types::brief::Brief;
 use tm_types::entry::Args;
@@ -94,13 +94,13 @@ fn take(alloc: Global, row: &Row) -> Result<Take, NoMemory> {
     })
 }
 
-fn played(alloc: Global, row: &Row) -> Result<Played, NoMemory> {
+fn played(alloc: Global, row: &Row) -> Result<PlayedTake, NoMemory> {
     let process = Proc {
         pid: row[2],
         ppid: row[3],
         ids: ids_of(row[8]),
     };
-    let played = PlayedTake {
+    Ok(PlayedTake {
         line: u64::from(row[1]),
         stood: ProcessSituation {
             process,
@@ -108,8 +108,40 @@ fn played(alloc: Global, row: &Row) -> Result<Played, NoMemory> {
         },
         since: u64::from(row[5]),
         take: Kept::new(alloc, take(alloc, row)?)?,
-    };
-    Ok(Played::Take(played))
+    })
+}
+
+/// The place of a process among those of the trace.
+fn place_of(pid: u32) -> usize {
+    match pid {
+        5 => 0,
+        6 => 1,
+        _ => 2,
+    }
+}
+
+/// What a worker gives back of a process; nothing where it has no take of it.
+fn given_of(
+    alloc: Global,
+    worker: u32,
+    pid: u32,
+    takes: &[Row],
+) -> Result<Option<Played>, NoMemory> {
+    let mut its = Vec::new(alloc);
+    for row in takes {
+        if row[0] == worker && row[2] == pid {
+            its.push(played(alloc, row)?)?;
+        }
+    }
+    if its.is_empty() {
+        return Ok(None);
+    }
+    let number = place_of(pid);
+    Ok(Some(Played::Process(PlayedProcess {
+        number,
+        pid,
+        takes: its,
+    })))
 }
 
 /// What a worker gives back.
@@ -120,9 +152,9 @@ fn given_by(
     ends: &[End],
 ) -> Result<Seq<Played>, NoMemory> {
     let mut all = Seq::new(alloc);
-    for row in takes {
-        if row[0] == worker {
-            all.push(played(alloc, row)?)?;
+    for pid in 5u32..8 {
+        if let Some(process) = given_of(alloc, worker, pid, takes)? {
+            all.push(process)?;
         }
     }
     for end in ends {
@@ -133,22 +165,55 @@ fn given_by(
     Ok(all)
 }
 
+/// What is known of the lines of the two trees: how many processes the first one has, the place of
+/// the process of its second line, and how many lines the second tree has before it.
+type Lines = [usize; 3];
+
+const LINES: Lines = [2, 1, 3];
+
+fn lines(alloc: Global, known: Lines) -> Result<Vec<TreeLines>, NoMemory> {
+    let mut first = Vec::new(alloc);
+    for process in [0, known[1], 0] {
+        first.push(process)?;
+    }
+    let mut second = Vec::new(alloc);
+    second.push(0)?;
+    let mut all = Vec::new(alloc);
+    all.push(TreeLines {
+        processes: known[0],
+        lines_before: 0,
+        processes_of_lines: first,
+    })?;
+    all.push(TreeLines {
+        processes: 1,
+        lines_before: known[2] as u64,
+        processes_of_lines: second,
+    })?;
+    Ok(all)
+}
+
+/// What both workers give back.
+fn given_by_both(alloc: Global, takes: &[Row], ends: &[End]) -> Result<Vec<Seq<Played>>, NoMemory> {
+    let mut given = Vec::new(alloc);
+    given.push(given_by(alloc, 0, takes, ends)?)?;
+    given.push(given_by(alloc, 1, takes, ends)?)?;
+    Ok(given)
+}
+
 /// The pids of all rows' takes and the Ends, in order; None where the rows are refused.
-fn gathered<W: Threads + Sync>(
+fn rows_of<W: Threads + Sync>(
     rt: &W,
     alloc: Global,
-    takes: &[Row],
-    ends: &[End],
+    given: Vec<Seq<Played>>,
+    known: Lines,
     supervised: bool,
 ) -> Result<Option<Vec<u64>>, NoMemory> {
     let trees = trace(alloc)?;
     let mut homes = Vec::new(alloc);
     homes.push(Some(0))?;
     homes.push(Some(2))?;
-    let mut given = Vec::new(alloc);
-    given.push(given_by(alloc, 0, takes, ends)?)?;
-    given.push(given_by(alloc, 1, takes, ends)?)?;
-    let Ok(rows) = gather(rt, alloc, trees.as_slice(), homes, supervised, given) else {
+    let lines = lines(alloc, known)?;
+    let Ok(rows) = gather(rt, alloc, trees.as_slice(), homes, lines, supervised, given) else {
         return Ok(None);
     };
     let mut told = Vec::new(alloc);
@@ -160,6 +225,18 @@ fn gathered<W: Threads + Sync>(
         told.push(row.end.unwrap_or(0))?;
     }
     Ok(Some(told))
+}
+
+/// The same of these takes and Ends.
+fn gathered<W: Threads + Sync>(
+    rt: &W,
+    alloc: Global,
+    takes: &[Row],
+    ends: &[End],
+    supervised: bool,
+) -> Result<Option<Vec<u64>>, NoMemory> {
+    let given = given_by_both(alloc, takes, ends)?;
+    rows_of(rt, alloc, given, LINES, supervised)
 }
 
 #[test]
@@ -207,6 +284,33 @@ fn takes_that_do_not_agree_are_refused(rt: HostRuntime) -> Result<(), NoMemory> 
         true,
     )?;
     assert!(rt; told.is_none());
+    Ok(())
+}
+
+#[test]
+fn a_process_that_was_played_twice_is_refused(rt: HostRuntime) -> Result<(), NoMemory> {
+    let alloc = rt.alloc();
+    let mut given = Vec::new(alloc);
+    let mut first = given_by(alloc, 0, &TAKES[..1], ENDS.as_slice())?;
+    if let Some(again) = given_of(alloc, 0, 5, &TAKES[2..3])? {
+        first.push(again)?;
+    }
+    given.push(first)?;
+    given.push(given_by(alloc, 1, TAKES.as_slice(), &[])?)?;
+    let told = rows_of(&rt, alloc, given, LINES, true)?;
+    assert!(rt; told.is_none());
+    Ok(())
+}
+
+#[test]
+fn lines_that_do_not_agree_are_refused(rt: HostRuntime) -> Result<(), NoMemory> {
+    for (place, number) in [(0, 1), (1, 0), (1, 2), (2, 2), (2, 4)] {
+        let mut known = LINES;
+        known[place] = number;
+        let given = given_by_both(rt.alloc(), TAKES.as_slice(), ENDS.as_slice())?;
+        let told = rows_of(&rt, rt.alloc(), given, known, true)?;
+        assert!(rt; told.is_none(), "{place} {number}");
+    }
     Ok(())
 }
 

@@ -1,11 +1,12 @@
-use Rattle.std.proofs.Common.{◌≡◌}
+use Rattle.std.proofs.Common.{◌≡◌, []}
 use Rattle.tm_replay.specs.SeatSeats.{Begins}
-use Rattle.tm_steal.specs.Boards.{GoesOn}
+use Rattle.tm_steal.specs.Boards.{GoesOnWith}
 use Rattle.tm_steal.proofs.thief.play_process.Given as goal
 
 abbrev pub invariant-loop-line : goal.invariant-loop-line
 invariant-loop-line g l =
     (g.S.Seat.opening l.seat ≡ g.S.Seat.opening l.fn.seat)
     × Begins (g.S.Seat.at l.fn.seat) (g.S.Seat.at l.seat)
-    × GoesOn (g.S.Seat.opening l.fn.seat) l.fn.board.trace.now (g.S.Seat.at l.fn.seat) (g.S.Seat.own l.fn.seat) l.fn.played.items
-    (g.S.Seat.at l.seat) (g.S.Seat.own l.seat) l.played.items
+    × GoesOnWith (g.S.Seat.opening l.fn.seat) l.fn.board.trace.now l.job.now.process.pid (g.S.Seat.at l.fn.seat) (g.S.Seat.own l.fn.seat) []
+    (g.S.Seat.at l.seat) (g.S.Seat.own l.seat) l.takes.items
+    × (l.now.process.pid ≡ l.job.now.process.pid)

@@ -8,4 +8,4 @@ returns-clause-follows c start trace old new own begins shift all h =
     subst (IsStealing start trace shift new own) (sym (append-nil all)) (stealing-later start trace shift old new own all begins h)
 
 pub returns-clause-ends : goal.returns-clause-ends
-returns-clause-ends c start trace shift floor list own all none low h = thief-did start trace shift floor list own all none low h
+returns-clause-ends c start trace shift floor list own all none low h whose = thief-did start trace shift floor list own all none low h whose

@@ -1,0 +1,8 @@
+use Rattle.std.proofs.Common.{◌≡◌, ◌++◌}
+use Rattle.std.specs.Prelude.{flat_map}
+use Rattle.tm_steal_rows.proofs.parts.next_queues.Given as goal
+
+abbrev pub invariant-loop-process : goal.invariant-loop-process
+invariant-loop-process l =
+    flat_map (λ queue. queue.items) l.initial.queues.items
+    ≡ flat_map (λ queue. queue.items) l.first.items ++ flat_map (λ queue. queue.items) l.queues.items
