@@ -68,7 +68,7 @@ fn play_request<S: Seat>(
     let taken = play_line(
         seat, alloc, tree, place, line, now, domain, request, since, spent,
     )?;
-    let after = taken.take.get().after;
+    let after = taken.take.after;
     takes.push(taken)?;
     Ok(after)
 }

@@ -13,20 +13,18 @@ ghost use Rattle.tm_steal_rows.specs.Playing.{Event, all_requests, StealsOn, end
 use std::alloc::Global;
 use tm_list::NoMemory;
 use tm_parts::seat::{Seat, play_take};
-use tm_types::kept::Kept;
 use tm_types::request::Request;
 use tm_types::step::{Made, Maker, Settled, Step, Take};
 use tm_verify_notes::taking::ProcessSituation;
 
 /// A take that was played: the place of its line among the `do` lines of the trace, from 0, where
-/// its process stood, how many steps were known when it began, and the take. It is kept apart, so
-/// that whoever puts played takes into another order doesn't read takes that others have written.
+/// its process stood, how many steps were known when it began, and the take.
 #[derive(Drop)]
 pub struct PlayedTake {
     pub line: u64,
     pub stood: ProcessSituation,
     pub since: u64,
-    pub take: Kept<Take>,
+    pub take: Take,
 }
 
 /// A process that was played: its place among the processes of the trace, tree by tree, from 0, its
@@ -84,7 +82,6 @@ pub fn play_line<S: Seat>(
     seat.begin(tree, place);
     let take = play_take(seat, alloc, now, domain, request, spent)?;
     spent.clear();
-    let take = Kept::new(alloc, take)?;
     Ok(PlayedTake {
         line,
         stood: now,

@@ -68,7 +68,7 @@ fn next_take(
     if played.line != line || !stands_there(stand, &played) {
         return Err(AllocError);
     }
-    let take = played.take.into_value();
+    let take = played.take;
     if take.pid != pid {
         return Err(AllocError);
     }

@@ -6,7 +6,6 @@ use tm_steal_rows::{Played, PlayedProcess, PlayedTake, TreeLines, gather, places
 use tm_take::ProcessSituation;
 use tm_types::brief::Brief;
 use tm_types::entry::Args;
-use tm_types::kept::Kept;
 use tm_types::request::{Attributes, Ids, Item, Proc, Request, Tree};
 use tm_types::step::{Look, Take};
 use tm_types::verdict::{Move, Reason};
@@ -107,7 +106,7 @@ fn played(alloc: Global, row: &Row) -> Result<PlayedTake, NoMemory> {
             domain: Some(row[4]),
         },
         since: u64::from(row[5]),
-        take: Kept::new(alloc, take(alloc, row)?)?,
+        take: take(alloc, row)?,
     })
 }
 
