@@ -12,16 +12,13 @@ use Rattle.tm_replay.specs.PlayedTree.{PlayedTree}
 use Rattle.tm_replay.specs.Rows.{Shift}
 use Rattle.tm_steal_rows.specs.declared.played.Played.{Played}
 use Rattle.tm_steal_rows.specs.declared.played.PlayedTake.{PlayedTake}
-use Rattle.tm_steal_rows.specs.Lines.{places_from}
 use Rattle.tm_steal_rows.specs.Playing.{Event, IsStealing, events_of, IsTakeOf, IsOfProcess}
 use Rattle.tm_steal_rows.specs.Stolen.{Stolen}
 use Rattle.tm_steal.specs.declared.board.Board.{Board}
 use Rattle.tm_steal.specs.declared.board.Hand.{Hand}
 
--- the board knows the places of its trace's requests, each of which can be asked, and has no more
--- trees than the opening
+-- each request of the board's trace can be asked, and it has no more trees than the opening
 pub record IsBoard (start : Start) (board : Board) : Type 0 where
-  pub places : board.places.items ≡ places_from 0 board.trace.now
   pub asked : AllByRecursion (λ (tree : Tree). list_all (item_is_request tomoyo_grammar.is_path) tree.records ≡ true) board.trace.now
   pub trees : board.trees ≤ start.trees
 

@@ -1,6 +1,5 @@
 //! What the workers share: the processes, the requests, and who can be asked for a process.
 ghost use Rattle.std.specs.Prelude.{◌≡◌, ◌<◌, length, IfOk};
-ghost use Rattle.tm_steal_rows.specs.Lines.{places_from};
 
 use crate::processes::{TreeProcesses, processes_of};
 use crossbeam_deque::{Steal, Stealer, Worker};
@@ -9,7 +8,6 @@ use std::sync::atomic::{AtomicU64, Ordering};
 use std::thread::Threads;
 use tm_list::NoMemory;
 use tm_replay::take::ProcessSituation;
-use tm_steal_rows::{LinePlace, places_of};
 use tm_types::request::{Ids, Proc, Request, Tree};
 
 /// A process that can be played: the place of its tree, its own among the tree's processes, and
@@ -17,7 +15,7 @@ use tm_types::request::{Ids, Proc, Request, Tree};
 #[derive(Clone, Copy, Drop)]
 pub(crate) struct Job {
     pub(crate) tree: usize,
-    pub(crate) process: usize,
+    pub(crate) process: u32,
     pub(crate) now: ProcessSituation,
 }
 
@@ -30,14 +28,13 @@ pub(crate) struct Hand {
     pub(crate) spent: Vec<Request>,
 }
 
-/// What all workers share: the trace with the processes of each tree and the places of its requests
-/// in their order, how many trees and how many processes it has, a handle to steal from each
-/// worker, how many processes have ended, and whether somebody has given up.
+/// What all workers share: the trace with the processes of each tree, how many trees and how many
+/// processes it has, a handle to steal from each worker, how many processes have ended, and whether
+/// somebody has given up.
 #[derive(Drop)]
 pub(crate) struct Board<'a> {
     pub(crate) trace: &'a [Tree],
-    pub(crate) places: Vec<LinePlace>,
-    pub(crate) tree_processes: Vec<TreeProcesses<'a>>,
+    pub(crate) tree_processes: Vec<TreeProcesses>,
     pub(crate) trees: u32,
     pub(crate) processes: u64,
     pub(crate) stealers: Vec<Stealer<Job>>,
@@ -173,21 +170,18 @@ pub(crate) fn board_of<'a, W: Threads + Sync>(
     workers: u32,
 ) -> Result<(Board<'a>, Vec<Hand>), NoMemory>
     requires workers { 0 < workers }
-    ensures places { IfOk result (λ r. r.0.places.items ≡ places_from 0 trace.now) }
     ensures trace { IfOk result (λ r. r.0.trace.now ≡ trace.now) }
     ensures trees { IfOk result (λ r. r.0.trees ≡ length trace.now) }
 {
     let Ok(trees) = u32::try_from(trace.len()) else {
         return Err(AllocError);
     };
-    let places = places_of(alloc, trace)?;
     let (tree_processes, processes) = processes_of(rt, alloc, trace, workers)?;
     let mut hands = empty_hands(alloc, workers)?;
     deal_firsts(trace, homes, &mut hands)?;
     let stealers = stealers_of(alloc, hands.as_slice())?;
     let board = Board {
         trace,
-        places,
         tree_processes,
         trees,
         processes: processes as u64,

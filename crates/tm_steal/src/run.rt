@@ -13,7 +13,7 @@ ghost use Rattle.tm_steal_rows.specs.Gathering.{homes_of};
 ghost use Rattle.tm_steal.specs.Boards.{AreStolen};
 
 use crate::board::{Hand, board_of};
-use crate::processes::{is_shared, lines_of};
+use crate::processes::{is_shared, records_of};
 use std::alloc::Global;
 use std::sync::Wait;
 use std::thread::{Threads, spawn};
@@ -73,8 +73,16 @@ fn steal_trace<
     let homes = homes_of(alloc, &machine, trace.as_slice())?;
     let (board, hands) = board_of(rt, alloc, trace.as_slice(), homes.as_slice(), workers)?;
     let (machine, given) = play_parts(rt, alloc, machine, hands, desk, gate, &board)?;
-    let lines = lines_of(alloc, board.tree_processes)?;
-    let rows = gather(rt, alloc, trace.as_slice(), homes, lines, supervised, given)?;
+    let records = records_of(alloc, board.tree_processes)?;
+    let rows = gather(
+        rt,
+        alloc,
+        trace.as_slice(),
+        homes,
+        records,
+        supervised,
+        given,
+    )?;
     Ok((machine, rows))
 }
 

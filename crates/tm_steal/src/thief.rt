@@ -1,15 +1,15 @@
 //! A worker: its own processes, and those that it steals, until all have ended.
-ghost use Rattle.std.specs.Prelude.{◌≡◌, true, Some, IfOk, OnOk, slice_get};
+ghost use Rattle.std.specs.Prelude.{◌≡◌, [], true, Some, IfOk, OnOk};
 ghost use Rattle.tm_types.specs.declared.step.Start.{Start};
 ghost use Rattle.tm_rules.specs.Requests.{is_request};
 ghost use Rattle.tm_replay.specs.Tomoyo.{tomoyo_grammar};
-ghost use Rattle.tm_steal_rows.specs.Playing.{all_requests};
+ghost use Rattle.tm_steal_rows.specs.Records.{request_at};
 ghost use Rattle.tm_replay.specs.SeatSeats.{Begins};
 ghost use Rattle.tm_replay.specs.Parts.{CanBegin};
 ghost use Rattle.tm_steal.specs.Boards.{IsBoard, GoesOn, GoesOnWith};
 
 use crate::board::{Board, Hand, Job};
-use crate::processes::Line;
+use crate::processes::{Process, TreeProcesses};
 use std::alloc::{AllocError, Global};
 use std::sync::Wait;
 use std::thread;
@@ -18,40 +18,42 @@ use tm_replay::parts::Work;
 use tm_replay::seat::Seat;
 use tm_replay::take::ProcessSituation;
 use tm_steal_rows::{
-    Played, PlayedProcess, PlayedTake, end_trees, lines_can_be_asked, play_line, request_at,
-    workers_steal_on,
+    Played, PlayedProcess, PlayedTake, RecordPlace, end_trees, play_at, record_at,
+    records_can_be_asked, workers_steal_on,
 };
-use tm_types::request::{Proc, Request};
+use tm_types::request::{Item, Proc, Request};
 
-// The request of a line, which the trace and whoever plays it have together, since any worker may
+// The request at a place, which the trace and whoever plays it have together, since any worker may
 // need it.
-fn request_of(board: &Board<'_>, alloc: Global, line: u64) -> Result<Request, NoMemory>
-    requires { (start : Start) × IsBoard start board.now }
-    ensures line { IfOk result (λ request.
-        slice_get (all_requests board.now.trace.now) line ≡ Some request) }
-    ensures asked { IfOk result (λ request. is_request tomoyo_grammar.is_path request ≡ true) }
+fn request_of(
+    board: &Board<'_>,
+    alloc: Global,
+    place: RecordPlace,
+    request: &Request,
+) -> Result<Request, NoMemory>
+    requires board { (start : Start) × IsBoard start board.now }
+    requires there { request_at board.now.trace.now place ≡ Some request.now }
+    ensures same { IfOk result (λ copied. copied ≡ request.now) }
+    ensures asked { IfOk result (λ copied. is_request tomoyo_grammar.is_path copied ≡ true) }
 {
-    lines_can_be_asked();
-    match request_at(board.trace, board.places.as_slice(), line) {
-        Some(request) => request.copy(alloc),
-        None => Err(AllocError),
-    }
+    records_can_be_asked();
+    request.copy(alloc)
 }
 
-// The request of a line of a process that stands here: its take, and the domain after it.
+// The request at a place, whose process stands here: its take, and the domain after it.
 fn play_request<S: Seat>(
     board: &Board<'_>,
     seat: &mut S,
     alloc: Global,
-    tree: u32,
-    place: u32,
-    line: u64,
+    place: RecordPlace,
+    request: &Request,
     now: ProcessSituation,
     spent: &mut Vec<Request>,
     takes: &mut Vec<PlayedTake>,
 ) -> Result<u32, NoMemory>
     requires can { CanBegin (S.opening seat.old) }
     requires board { IsBoard (S.opening seat.old) board.now }
+    requires there { request_at board.now.trace.now place ≡ Some request.now }
     ensures steals { OnOk result (GoesOnWith (S.opening seat.old) board.now.trace.now now.process.pid
         (S.at seat.old) (S.own seat.old) takes.old.items (S.at seat.new) (S.own seat.new) takes.new.items) }
     ensures opening { S.opening seat.new ≡ S.opening seat.old }
@@ -64,10 +66,8 @@ fn play_request<S: Seat>(
     if !there {
         return Err(AllocError);
     }
-    let request = request_of(board, alloc, line)?;
-    let taken = play_line(
-        seat, alloc, tree, place, line, now, domain, request, since, spent,
-    )?;
+    let request = request_of(board, alloc, place, request)?;
+    let taken = play_at(seat, alloc, place, now, domain, request, since, spent)?;
     let after = taken.take.after;
     takes.push(taken)?;
     Ok(after)
@@ -86,16 +86,16 @@ fn child_of(now: ProcessSituation, child: u32) -> ProcessSituation {
     }
 }
 
-// A line of a process that stands here, and where it stands afterwards. Its tree is the one at this
-// place, after so many `do` lines of others.
-fn pass_line<S: Seat>(
+// The record at a place, whose process stands here, and where it stands afterwards. Where the record
+// is a fork, the child's process is the one at this place among those of the tree.
+fn pass_record<S: Seat>(
     board: &Board<'_>,
     seat: &mut S,
     alloc: Global,
     hand: &mut Hand,
     tree: usize,
-    lines_before: u64,
-    line: Line,
+    place: RecordPlace,
+    child: u32,
     now: ProcessSituation,
     takes: &mut Vec<PlayedTake>,
 ) -> Result<ProcessSituation, NoMemory>
@@ -108,27 +108,28 @@ fn pass_line<S: Seat>(
     ensures grows { Begins (S.at seat.old) (S.at seat.new) }
 {
     let ProcessSituation { process, domain } = now;
-    match line {
-        Line::Ids(ids) => Ok(ProcessSituation {
-            process: Proc { ids, ..process },
+    let Some(item) = record_at(board.trace, place) else {
+        return Err(AllocError);
+    };
+    match item {
+        Item::Ids(_, ids) => Ok(ProcessSituation {
+            process: Proc {
+                ids: *ids,
+                ..process
+            },
             domain,
         }),
-        Line::Fork(place, child) => {
+        Item::Fork(_, pid) => {
             hand.add(Job {
                 tree,
-                process: place,
-                now: child_of(now, child),
+                process: child,
+                now: child_of(now, *pid),
             })?;
             Ok(now)
         }
-        Line::Do(within, place) => {
-            let Ok(number) = u32::try_from(tree) else {
-                return Err(AllocError);
-            };
-            let number = number.saturating_add(1);
-            let line = lines_before.saturating_add(within);
+        Item::Do(_, request) => {
             let spent = &mut hand.spent;
-            let after = play_request(board, seat, alloc, number, place, line, now, spent, takes)?;
+            let after = play_request(board, seat, alloc, place, request, now, spent, takes)?;
             Ok(ProcessSituation {
                 process,
                 domain: Some(after),
@@ -137,7 +138,46 @@ fn pass_line<S: Seat>(
     }
 }
 
-// A process: its lines, one after another. Each child can be played as soon as it is forked.
+// The takes of a process, which is one of the tree at this place: its records, one after another.
+// Each child can be played as soon as it is forked.
+fn play_records<S: Seat>(
+    board: &Board<'_>,
+    seat: &mut S,
+    alloc: Global,
+    hand: &mut Hand,
+    job: Job,
+    tree: &TreeProcesses,
+    process: Process,
+) -> Result<Vec<PlayedTake>, NoMemory>
+    requires can { CanBegin (S.opening seat.old) }
+    requires board { IsBoard (S.opening seat.old) board.now }
+    ensures steals { IfOk result (λ takes. GoesOnWith (S.opening seat.old) board.now.trace.now
+        job.now.process.pid (S.at seat.old) (S.own seat.old) [] (S.at seat.new) (S.own seat.new) takes.items) }
+    ensures opening { S.opening seat.new ≡ S.opening seat.old }
+    ensures grows { Begins (S.at seat.old) (S.at seat.new) }
+{
+    let Ok(before) = u32::try_from(job.tree) else {
+        return Err(AllocError);
+    };
+    let number = before.saturating_add(1);
+    let mut now = job.now;
+    let mut takes = Vec::with_capacity(alloc, process.records as usize)?;
+    let mut item = process.first;
+    for _line in 0..process.records {
+        let Some(link) = tree.link_of(item) else {
+            return Err(AllocError);
+        };
+        let place = RecordPlace { tree: number, item };
+        let child = link.child;
+        now = pass_record(
+            board, seat, alloc, hand, job.tree, place, child, now, &mut takes,
+        )?;
+        item = link.next;
+    }
+    Ok(takes)
+}
+
+// A process, from its first record to its last.
 fn play_process<S: Seat>(
     board: &Board<'_>,
     seat: &mut S,
@@ -156,26 +196,12 @@ fn play_process<S: Seat>(
     let Some(tree) = board.tree_processes.get(job.tree) else {
         return Err(AllocError);
     };
-    let Some(process) = tree.all.get(job.process) else {
+    let Some(process) = tree.all.get(job.process as usize) else {
         return Err(AllocError);
     };
-    let mut now = job.now;
-    let mut takes = Vec::with_capacity(alloc, process.lines.len())?;
-    for line in process.lines.as_slice() {
-        now = pass_line(
-            board,
-            seat,
-            alloc,
-            hand,
-            job.tree,
-            tree.lines_before,
-            *line,
-            now,
-            &mut takes,
-        )?;
-    }
+    let takes = play_records(board, seat, alloc, hand, job, tree, *process)?;
     played.push(Played::Process(PlayedProcess {
-        number: tree.processes_before.saturating_add(job.process),
+        place: tree.before.saturating_add(job.process as usize),
         pid: job.now.process.pid,
         takes,
     }))?;

@@ -29,8 +29,9 @@ use Rattle.tm_parts.proofs.Moving.{deed_at, DidStays}
 use Rattle.tm_parts.proofs.Shares.{owns, OthersFollow, Shares, shares-of, together-legal, together-attached}
 use Rattle.tm_steal_rows.specs.declared.played.Played.{Played}
 use Rattle.tm_steal_rows.specs.declared.played.PlayedTake.{PlayedTake}
-use Rattle.tm_steal_rows.specs.Playing.{Event, all_requests, TakeIsPlayed, IsPlayed, all_own, own_of, maker_of, IsSince, events_of, IsTakeOf, IsOfProcess, ThiefDid, HandDid}
+use Rattle.tm_steal_rows.specs.Playing.{Event, TakeIsPlayed, IsPlayed, all_own, own_of, maker_of, IsSince, events_of, IsTakeOf, IsOfProcess, ThiefDid, HandDid}
 use Rattle.tm_steal_rows.specs.Gathering.{IsOwned, EachOwned, all_given, takes_of, ends_of, homes_of, IsGathered}
+use Rattle.tm_steal_rows.specs.Records.{numbered}
 use Rattle.tm_steal_rows.specs.Stolen.{Stolen, StolenRunsAreLegal}
 use Rattle.tm_steal_rows.proofs.Stealing.{thief-later}
 use Rattle.tm_steal_rows.proofs.Counting.{ends_own, parts-own, rows-own, rows-taken}
@@ -149,17 +150,15 @@ module _ (H : Type 0) (start : Start) (trace : Trace) (book : Book) (hands : Lis
   since : AllByRecursion (IsSince floor) all
   since = all-of-given start trace floor list (IsSince floor) hands s.workers (λ done did. did.fresh) s.did
 
-  -- a take at its line
-  at-line : (Q : PlayedTake → Type 0) (k : ℕ) (one : PlayedTake) → AllByRecursion Q (takes_of all) → slice_get gathered.lines k ≡ Some one → Q one
-  at-line Q k one h at = let (place, there) = gathered.by_line.same.among k one at in All-at Q (takes_of all) place one h there
+  -- a take at its place among them
+  at-place : (Q : PlayedTake → Type 0) (k : ℕ) (one : PlayedTake) → AllByRecursion Q (takes_of all) → slice_get gathered.takes k ≡ Some one → Q one
+  at-place Q k one h at = let (place, there) = gathered.same.among k one at in All-at Q (takes_of all) place one h there
 
   each : EachRow (RowHolds (scene_of start trace book) list) 1 trace (map row_of rows)
   each =
-      rows-hold start trace its_book (stands-is start.desk book) trees list 1 0 trace gathered.lines (ends_of all) rows
-      (λ k request at. let same : k ≡ 0 + k = omega arith in subst (λ i. slice_get (all_requests trace) i ≡ Some request) same at)
-      (λ k one at.
-      let line = gathered.by_line.line k one at in
-      (omega (arith, line), at-line (TakeIsPlayed start trace list) k one (takes-all (IsPlayed start trace list) (TakeIsPlayed start trace list) (λ p h. h) all played) at))
+      rows-hold start trace its_book (stands-is start.desk book) trees list 1 trace gathered.takes (ends_of all) rows
+      (λ j tree is. let same : suc j ≡ 1 + j = omega arith in subst (λ (i : ℕ). numbered trace i ≡ Some tree) same is)
+      (All-of (TakeIsPlayed start trace list) gathered.takes (λ k one at. at-place (TakeIsPlayed start trace list) k one (takes-all (IsPlayed start trace list) (TakeIsPlayed start trace list) (λ p h. h) all played) at))
       (ends-all start trace list all played)
       gathered.rows_are
 
@@ -167,14 +166,14 @@ module _ (H : Type 0) (start : Start) (trace : Trace) (book : Book) (hands : Lis
   counts n =
       ap (times n) (given-own start trace floor list hands s.workers s.did)
       ∙ parts-own n all
-      ∙ ap (λ m. m + times n (ends_own (ends_of all))) (gathered.by_line.same.counted n)
-      ∙ rows-own n start.desk 1 trace (homes_of start.policy trace) gathered.lines (ends_of all) rows gathered.rows_are
+      ∙ ap (λ m. m + times n (ends_own (ends_of all))) (gathered.same.counted n)
+      ∙ rows-own n start.desk 1 trace (homes_of start.policy trace) gathered.takes (ends_of all) rows gathered.rows_are
 
   fresh : AllByRecursion (λ (t : Take). AllByRecursion (λ (look : Look). floor ≤ look.version) t.looks) (takes_in (map row_of rows))
   fresh =
-      subst (λ (takes : List Take). AllByRecursion (λ (t : Take). AllByRecursion (λ (look : Look). floor ≤ look.version) t.looks) takes) (sym (rows-taken start.desk 1 trace (homes_of start.policy trace) gathered.lines (ends_of all) rows gathered.rows_are))
-      (All-mapped (λ (t : Take). AllByRecursion (λ (look : Look). floor ≤ look.version) t.looks) (λ (p : PlayedTake). p.take) gathered.lines
-      (All-of (λ (p : PlayedTake). LooksSince floor p.take) gathered.lines (λ k one at. at-line (λ (p : PlayedTake). LooksSince floor p.take) k one (takes-all (IsSince floor) (λ (p : PlayedTake). LooksSince floor p.take) (λ p h. h) all since) at)))
+      subst (λ (takes : List Take). AllByRecursion (λ (t : Take). AllByRecursion (λ (look : Look). floor ≤ look.version) t.looks) takes) (sym (rows-taken start.desk 1 trace (homes_of start.policy trace) gathered.takes (ends_of all) rows gathered.rows_are))
+      (All-mapped (λ (t : Take). AllByRecursion (λ (look : Look). floor ≤ look.version) t.looks) (λ (p : PlayedTake). p.take) gathered.takes
+      (All-of (λ (p : PlayedTake). LooksSince floor p.take) gathered.takes (λ k one at. at-place (λ (p : PlayedTake). LooksSince floor p.take) k one (takes-all (IsSince floor) (λ (p : PlayedTake). LooksSince floor p.take) (λ p h. h) all since) at)))
 
   legal : Legal (scene_of start trace book) (run_of start trace book list rows)
   legal =

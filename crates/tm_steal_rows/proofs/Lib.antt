@@ -8,4 +8,4 @@ pub mod Stealing
 mod Counting
 mod Gathered
 mod Jointly
-mod LineLaws
+mod RecordLaws

@@ -1,5 +1,5 @@
 -- Takes in another order, and places of lists.
-use Rattle.std.proofs.Common.{◌≡◌, ◌<◌, ◌+◌, ℕ, zero, suc, List, [], ◌∷◌, ◌++◌, length, get_or, map, refl, sym, ap, ◌∙◌, arith, append_assoc, ◌⊎◌, inl, inr}
+use Rattle.std.proofs.Common.{◌≡◌, ◌<◌, ◌+◌, ℕ, zero, suc, List, [], ◌∷◌, ◌++◌, length, get_or, map, refl, sym, ap, ◌∙◌, arith, append_assoc, length-append, ◌⊎◌, inl, inr}
 use Rattle.std.specs.Prelude.{Some, slice_get}
 use Rattle.std.proofs.lemmas.Grind.{flat_map-append}
 use Rattle.tm_legal.specs.Legal.{times, own_numbers}
@@ -59,13 +59,14 @@ pub own-both : (n : ℕ) (xs ys : List PlayedTake) → times n (takes_own (xs ++
 own-both n xs ys = ap (times n) (flat_map-append (λ (played : PlayedTake). own_numbers (played.take ∷ [])) xs ys) ∙ times-append n (takes_own xs) (takes_own ys)
 
 pub same-refl : (xs : List PlayedTake) → AreTheSame xs xs
-same-refl xs = record { among = λ k played at. (k, at); counted = λ n. refl }
+same-refl xs = record { among = λ k played at. (k, at); counted = λ n. refl; long = refl }
 
 pub same-then : (xs ys zs : List PlayedTake) → AreTheSame xs ys → AreTheSame ys zs → AreTheSame xs zs
 same-then xs ys zs h k =
     record {
       among = λ i played at. let (j, there) = k.among i played at in h.among j played there;
       counted = λ n. h.counted n ∙ k.counted n;
+      long = h.long ∙ k.long;
     }
 
 -- behind others, or before others
@@ -77,6 +78,7 @@ same-behind xs ys zs h =
           (λ j there. among-behind played xs ys (h.among j played there))
           at;
       counted = λ n. let a = own-both n xs ys in let b = own-both n xs zs in let c = h.counted n in omega (arith, a, b, c);
+      long = let a = length-append xs ys in let b = length-append xs zs in let c = h.long in omega (arith, a, b, c);
     }
 
 pub same-before : (xs ys zs : List PlayedTake) → AreTheSame xs ys → AreTheSame (xs ++ zs) (ys ++ zs)
@@ -87,6 +89,7 @@ same-before xs ys zs h =
           (λ j there. among-behind played xs zs (j, there))
           at;
       counted = λ n. let a = own-both n xs zs in let b = own-both n ys zs in let c = h.counted n in omega (arith, a, b, c);
+      long = let a = length-append xs zs in let b = length-append ys zs in let c = h.long in omega (arith, a, b, c);
     }
 
 -- the first and the second change places
@@ -98,6 +101,7 @@ same-swap xs ys =
           (λ j there. among-front played xs ys (j, there))
           at;
       counted = λ n. let a = own-both n xs ys in let b = own-both n ys xs in omega (arith, a, b);
+      long = let a = length-append xs ys in let b = length-append ys xs in omega (arith, a, b);
     }
 
 -- one of them comes first

@@ -1,7 +1,7 @@
 -- What a worker has played that takes processes from others: at its beginning, when others' steps
 -- follow, and when it plays something more.
 use Rattle.std.proofs.Common.{◌≡◌, ◌≤◌, ◌<◌, ◌+◌, ℕ, suc, List, [], ◌∷◌, ◌++◌, length, map, take, refl, sym, ap, ◌∙◌, subst, arith, append_assoc, append-nil}
-use Rattle.std.specs.Prelude.{Some, IsSome, slice_get}
+use Rattle.std.specs.Prelude.{Some, IsSome}
 use Rattle.std.specs.List.{AllByRecursion}
 use Rattle.std.proofs.lemmas.Bool.{lt-ltb, le-leb}
 use Rattle.std.proofs.lemmas.Grind.{flat_map-append}
@@ -37,7 +37,9 @@ use Rattle.tm_parts.specs.Parts.{Deed, deed}
 use Rattle.tm_parts.proofs.Moving.{claimed-later, deed_at}
 use Rattle.tm_steal_rows.specs.declared.played.Played.{Played}
 use Rattle.tm_steal_rows.specs.declared.played.PlayedTake.{PlayedTake}
-use Rattle.tm_steal_rows.specs.Playing.{Event, all_requests, IsPlayed, own_of, all_own, maker_of, IsSince, IsStealing, StealsOn, ends_from, events_in, events_of, IsOfProcess, ThiefDid}
+use Rattle.tm_steal_rows.specs.declared.records.RecordPlace.{RecordPlace}
+use Rattle.tm_steal_rows.specs.Records.{request_at}
+use Rattle.tm_steal_rows.specs.Playing.{Event, IsPlayed, own_of, all_own, maker_of, IsSince, IsStealing, StealsOn, ends_from, events_in, events_of, IsOfProcess, ThiefDid}
 
 -- What was played
 
@@ -118,12 +120,12 @@ module _ (start : Start) (trace : Trace) where
       }
 
   -- a take
-  pub steals-take : (start' : Start) (xs xs' ys : List Made) (own before own' : List ℕ) (line since : ℕ) (now : ProcessSituation) (request : Request) (take' : Take) → start' ≡ start → xs' ≡ xs → before ≡ own → Begins xs' ys → since ≤ length xs → slice_get (all_requests trace) line ≡ Some request → TakeIsLegal start' xs' ys (situation_of now) request take' → own' ≡ before ++ own_numbers (take' ∷ []) → MadeBy (Maker.Process now.process.pid ∷ []) xs' before ys own' → LooksSince (length xs') take' → take'.pid ≡ now.process.pid → StealsOn start trace xs own ys own' (Event.Take (record { line = line; stood = now; since = since; take = take' }) ∷ [])
-  steals-take start' xs xs' ys own before own' line since now request take' same known first begins low asked legal noted by fresh pid =
+  pub steals-take : (start' : Start) (xs xs' ys : List Made) (own before own' : List ℕ) (place : RecordPlace) (since : ℕ) (now : ProcessSituation) (request : Request) (take' : Take) → start' ≡ start → xs' ≡ xs → before ≡ own → Begins xs' ys → since ≤ length xs → request_at trace place ≡ Some request → TakeIsLegal start' xs' ys (situation_of now) request take' → own' ≡ before ++ own_numbers (take' ∷ []) → MadeBy (Maker.Process now.process.pid ∷ []) xs' before ys own' → LooksSince (length xs') take' → take'.pid ≡ now.process.pid → StealsOn start trace xs own ys own' (Event.Take (record { place = place; stood = now; since = since; take = take' }) ∷ [])
+  steals-take start' xs xs' ys own before own' place since now request take' same known first begins low asked legal noted by fresh pid =
       let from : TakeIsLegal start xs ys (situation_of now) request take' = subst (λ (s : Start). TakeIsLegal s xs ys (situation_of now) request take') same (subst (λ (l : List Made). TakeIsLegal start' l ys (situation_of now) request take') known legal) in
       let long : length (take since xs) ≡ since = length-take-le since xs low in
       let mine : MadeBy (Maker.Process now.process.pid ∷ []) xs own ys own' = subst (λ (ns : List ℕ). MadeBy (Maker.Process now.process.pid ∷ []) xs ns ys own') first (subst (λ (l : List Made). MadeBy (Maker.Process now.process.pid ∷ []) l before ys own') known by) in
-      steals-one xs ys own own' (Event.Take (record { line = line; stood = now; since = since; take = take' }))
+      steals-one xs ys own own' (Event.Take (record { place = place; stood = now; since = since; take = take' }))
       (subst (λ (l : List Made). Begins l ys) known begins)
       (record {
         request = request;

@@ -1,6 +1,6 @@
 -- How what the workers give back is gathered: whose each process was, the takes by their processes,
 -- and a row for each tree.
-use Rattle.std.specs.Prelude.{◌≡◌, ⊤, ℕ, suc, ◌≤◌, ◌<◌, ◌+◌, Bool, true, List, [], ◌∷◌, ◌++◌, map, flat_map, Option, Some, is_some, length, option_to_list, slice_get}
+use Rattle.std.specs.Prelude.{◌≡◌, ⊤, ℕ, suc, ◌≤◌, ◌<◌, Bool, true, List, [], ◌∷◌, ◌++◌, map, flat_map, Option, Some, is_some, length, option_to_list, slice_get}
 use Rattle.std.specs.Option.{IfSome}
 use Rattle.std.specs.List.{AllByRecursion}
 use Rattle.tm_types.specs.declared.policy.Policy.{Policy}
@@ -17,7 +17,9 @@ use Rattle.tm_verify_notes.specs.Cases.{first_stand}
 use Rattle.tm_steal_rows.specs.declared.played.Played.{Played}
 use Rattle.tm_steal_rows.specs.declared.played.PlayedTake.{PlayedTake}
 use Rattle.tm_steal_rows.specs.declared.parts.TreePart.{TreePart}
+use Rattle.tm_steal_rows.specs.declared.records.RecordPlace.{RecordPlace}
 use Rattle.tm_steal_rows.specs.Playing.{Event, events_of}
+use Rattle.tm_steal_rows.specs.Records.{places_in}
 
 -- Whose they were
 
@@ -72,10 +74,11 @@ IsAmong played takes = (place : ℕ) × (slice_get takes place ≡ Some played)
 abbrev pub AreAmong : List PlayedTake → List PlayedTake → Type 0
 AreAmong some all = (k : ℕ) (played : PlayedTake) → slice_get some k ≡ Some played → IsAmong played all
 
--- these takes in another order: each is one of those, and no step is left out or counted twice
+-- these takes in another order: as many, each one of those, and no step is left out or counted twice
 pub record AreTheSame (takes other : List PlayedTake) : Type 0 where
   pub among : AreAmong other takes
   pub counted : (number : ℕ) → times number (takes_own takes) ≡ times number (takes_own other)
+  pub long : length takes ≡ length other
 
 -- these takes were taken out of those, and others are left
 abbrev pub AreTakenOut : List PlayedTake → List PlayedTake → List PlayedTake → Type 0
@@ -84,11 +87,6 @@ AreTakenOut old own left = AreTheSame old (own ++ left)
 -- these takes more have been laid to those that were there
 abbrev pub AreLaid : List PlayedTake → List PlayedTake → List PlayedTake → Type 0
 AreLaid old takes new = AreTheSame (old ++ takes) new
-
--- each take is at the place of its line, and of these; no step is left out or counted twice
-pub record AreByLine (takes : List PlayedTake) (lines : List PlayedTake) : Type 0 where
-  pub line : (k : ℕ) (played : PlayedTake) → slice_get lines k ≡ Some played → played.line ≡ k
-  pub same : AreTheSame takes lines
 
 -- Rows
 
@@ -110,52 +108,52 @@ EachStands (c ∷ cases) (played ∷ takes) =
 abbrev pub taken : List PlayedTake → List Take
 taken takes = map (λ (played : PlayedTake). played.take) takes
 
--- a tree's takes are these: one for each `do` line, in their order, which began where the line
+-- the places of these takes' records
+abbrev pub placed : List PlayedTake → List RecordPlace
+placed takes = map (λ (played : PlayedTake). played.place) takes
+
+-- the takes of tree t are these: one for each `do` line, in their order, which began where the line
 -- finds its process
-pub record AreTakesOf (home : Option ℕ) (records : List Item) (own : List PlayedTake) (takes : List Take) : Type 0 where
+pub record AreTakesOf (t : ℕ) (home : Option ℕ) (records : List Item) (own : List PlayedTake)
+    (takes : List Take) : Type 0 where
   pub are : takes ≡ taken own
   pub pids : map (λ (k : Take). k.pid) takes ≡ do_pids records
-  pub stand : (t : ℕ) → EachStands (tree_cases t (first_stand home) records takes) own
+  pub stand : EachStands (tree_cases t (first_stand home) records takes) own
+  pub places : placed own ≡ places_in t 1 records
 
 -- the first of these takes are the tree's, and the others are left
-pub record TakesOfTree (home : Option ℕ) (records : List Item) (old : List PlayedTake) (takes : List Take)
-    (left : List PlayedTake) : Type 0 where
-  pub own : List PlayedTake
-  pub all : old ≡ own ++ left
-  pub are : AreTakesOf home records own takes
-
--- each of these takes is of the line of its place, the first one of that number
-abbrev pub AreLines : ℕ → List PlayedTake → Type 0
-AreLines first own =
-    (k : ℕ) (played : PlayedTake) → slice_get own k ≡ Some played → played.line ≡ first + k
-
--- the takes of a tree, whose first line has that number, were taken out of what was left of its
--- processes
-pub record TakesOfProcesses (home : Option ℕ) (records : List Item) (first : ℕ) (old : List PlayedTake)
+pub record TakesOfTree (t : ℕ) (home : Option ℕ) (records : List Item) (old : List PlayedTake)
     (takes : List Take) (left : List PlayedTake) : Type 0 where
   pub own : List PlayedTake
-  pub are : AreTakesOf home records own takes
-  pub lines : AreLines first own
+  pub all : old ≡ own ++ left
+  pub are : AreTakesOf t home records own takes
+
+-- the takes of a tree were taken out of what was left of its processes
+pub record TakesOfProcesses (t : ℕ) (home : Option ℕ) (records : List Item) (old : List PlayedTake)
+    (takes : List Take) (left : List PlayedTake) : Type 0 where
+  pub own : List PlayedTake
+  pub are : AreTakesOf t home records own takes
   pub taken_out : AreTakenOut old own left
 
--- a tree is walked up to these lines, where its processes stand so, with these takes of its own
-pub record IsWalking (home : Option ℕ) (records : List Item) (first : ℕ) (old : List PlayedTake)
+-- tree t is walked up to these records, the first of which has number n, where its processes stand
+-- so, with these takes of its own
+pub record IsWalking (t : ℕ) (home : Option ℕ) (records : List Item) (old : List PlayedTake) (n : ℕ)
     (at : Situations) (items : List Item) (takes : List Take) (left : List PlayedTake) : Type 0 where
   pub own : List PlayedTake
   pub are : takes ≡ taken own
   pub pids : map (λ (k : Take). k.pid) takes ++ do_pids items ≡ do_pids records
-  pub stand : (t : ℕ) (more : List PlayedTake) → EachStands (tree_cases t at items (taken more)) more
+  pub stand : (more : List PlayedTake) → EachStands (tree_cases t at items (taken more)) more
       → EachStands (tree_cases t (first_stand home) records (taken (own ++ more))) (own ++ more)
-  pub lines : AreLines first own
+  pub places : placed own ++ places_in t n items ≡ places_in t 1 records
   pub taken_out : AreTakenOut old own left
 
--- one line more
-abbrev pub WalksOn : ℕ → Situations → Item → List Take → List PlayedTake → Situations → List Take
+-- one record more, whose number is n
+abbrev pub WalksOn : ℕ → ℕ → Situations → Item → List Take → List PlayedTake → Situations → List Take
     → List PlayedTake → Type 0
-WalksOn first at item takes left later more rest =
+WalksOn t n at item takes left later more rest =
     (home : Option ℕ) (records : List Item) (old : List PlayedTake) (items : List Item)
-    → IsWalking home records first old at (item ∷ items) takes left
-    → IsWalking home records first old later items more rest
+    → IsWalking t home records old n at (item ∷ items) takes left
+    → IsWalking t home records old (suc n) later items more rest
 
 -- the first of these Ends is the tree's, where a supervisor stands, and the others are left
 abbrev pub EndsNext : Bool → ℕ → List (ℕ × ℕ) → Option ℕ → List (ℕ × ℕ) → Type 0
@@ -171,7 +169,7 @@ StandsAbove end takes =
 pub record TakesRow (supervised : Bool) (t : ℕ) (tree : Tree) (home : Option ℕ) (takes : List PlayedTake)
     (ends : List (ℕ × ℕ)) (row : PlayedTree) (takes_left : List PlayedTake) (ends_left : List (ℕ × ℕ)) : Type 0 where
   pub number : row.number ≡ t
-  pub of_tree : TakesOfTree home tree.records takes row.takes takes_left
+  pub of_tree : TakesOfTree t home tree.records takes row.takes takes_left
   pub end : EndsNext supervised t ends row.end ends_left
   pub above : StandsAbove row.end row.takes
 
@@ -193,28 +191,29 @@ RowsAreOf supervised t (tree ∷ trees) (home ∷ homes) takes ends (row ∷ row
 abbrev pub left_in : TreePart → List PlayedTake
 left_in part = flat_map (λ queue. queue.items) part.queues.items
 
--- a tree's part has the first of these takes, and the others are left
-pub record IsPartOf (tree : Tree) (home : Option ℕ) (takes : List PlayedTake) (part : TreePart)
+-- the part of tree t has the first of these takes, and the others are left
+pub record IsPartOf (t : ℕ) (tree : Tree) (home : Option ℕ) (takes : List PlayedTake) (part : TreePart)
     (takes_left : List PlayedTake) : Type 0 where
+  pub number_is : part.number ≡ t
   pub tree_is : part.tree.now ≡ tree
   pub home_is : part.home ≡ home
   pub takes_are : takes ≡ left_in part ++ takes_left
 
--- a part for each tree, of all these takes in their order
-abbrev pub PartsAreOf : Trace → List (Option ℕ) → List PlayedTake → List TreePart → Type 0
-PartsAreOf [] homes takes [] = takes ≡ []
-PartsAreOf [] homes takes (part ∷ parts) = ⊥
-PartsAreOf (tree ∷ trees) homes takes [] = ⊥
-PartsAreOf (tree ∷ trees) [] takes (part ∷ parts) = ⊥
-PartsAreOf (tree ∷ trees) (home ∷ homes) takes (part ∷ parts) =
+-- a part for each tree, where the first one has number t, of all these takes in their order
+abbrev pub PartsAreOf : ℕ → Trace → List (Option ℕ) → List PlayedTake → List TreePart → Type 0
+PartsAreOf t [] homes takes [] = takes ≡ []
+PartsAreOf t [] homes takes (part ∷ parts) = ⊥
+PartsAreOf t (tree ∷ trees) homes takes [] = ⊥
+PartsAreOf t (tree ∷ trees) [] takes (part ∷ parts) = ⊥
+PartsAreOf t (tree ∷ trees) (home ∷ homes) takes (part ∷ parts) =
     (takes_left : List PlayedTake)
-    × IsPartOf tree home takes part takes_left × PartsAreOf trees homes takes_left parts
+    × IsPartOf t tree home takes part takes_left × PartsAreOf (suc t) trees homes takes_left parts
 
 -- a part after its tree's walk: its takes, if there are some, were taken out of those that were left
 pub record IsWalked (old new : TreePart) : Type 0 where
-  pub first_is : new.first_line ≡ old.first_line
+  pub number_is : new.number ≡ old.number
   pub takes_are : IfSome new.takes
-      (λ takes. TakesOfProcesses old.home old.tree.now.records old.first_line (left_in old) takes.items
+      (λ takes. TakesOfProcesses old.number old.home old.tree.now.records (left_in old) takes.items
       (left_in new))
 
 -- each part after its tree's walk
@@ -224,40 +223,37 @@ AreWalked [] (new ∷ news) = ⊥
 AreWalked (old ∷ olds) [] = ⊥
 AreWalked (old ∷ olds) (new ∷ news) = IsWalked old new × AreWalked olds news
 
--- the row of a part that was walked to its end, whose first line has number n, with the next of
--- these Ends; the others are left
-pub record IsRowOf (supervised : Bool) (t n : ℕ) (part : TreePart) (ends : List (ℕ × ℕ)) (row : PlayedTree)
+-- the row of a part that was walked to its end, with the next of these Ends; the others are left
+pub record IsRowOf (supervised : Bool) (part : TreePart) (ends : List (ℕ × ℕ)) (row : PlayedTree)
     (ends_left : List (ℕ × ℕ)) : Type 0 where
-  pub number : row.number ≡ t
-  pub first_is : part.first_line ≡ n
+  pub number : row.number ≡ part.number
   pub all_walked : left_in part ≡ []
   pub has_takes : is_some part.takes ≡ true
   pub takes_are : IfSome part.takes (λ takes. row.takes ≡ takes.items)
-  pub end : EndsNext supervised t ends row.end ends_left
+  pub end : EndsNext supervised part.number ends row.end ends_left
   pub above : StandsAbove row.end row.takes
 
--- a row for each part, where the first one has number t and its first line number n, with the first
--- of these Ends; the others are left
-abbrev pub RowsAreOfParts : Bool → ℕ → ℕ → List TreePart → List (ℕ × ℕ) → List PlayedTree → List (ℕ × ℕ)
+-- a row for each part, with the first of these Ends; the others are left
+abbrev pub RowsAreOfParts : Bool → List TreePart → List (ℕ × ℕ) → List PlayedTree → List (ℕ × ℕ)
     → Type 0
-RowsAreOfParts supervised t n [] ends [] ends_left = ends ≡ ends_left
-RowsAreOfParts supervised t n [] ends (row ∷ rows) ends_left = ⊥
-RowsAreOfParts supervised t n (part ∷ parts) ends [] ends_left = ⊥
-RowsAreOfParts supervised t n (part ∷ parts) ends (row ∷ rows) ends_left =
+RowsAreOfParts supervised [] ends [] ends_left = ends ≡ ends_left
+RowsAreOfParts supervised [] ends (row ∷ rows) ends_left = ⊥
+RowsAreOfParts supervised (part ∷ parts) ends [] ends_left = ⊥
+RowsAreOfParts supervised (part ∷ parts) ends (row ∷ rows) ends_left =
     (ends_next : List (ℕ × ℕ))
-    × IsRowOf supervised t n part ends row ends_next
-    × RowsAreOfParts supervised (suc t) (n + length row.takes) parts ends_next rows ends_left
+    × IsRowOf supervised part ends row ends_next
+    × RowsAreOfParts supervised parts ends_next rows ends_left
 
 -- the domains that the trees start in: those of their names
 abbrev pub homes_of : Policy → Trace → List (Option ℕ)
 homes_of policy trace = map (λ (tree : Tree). live_domain policy tree.start) trace
 
--- a row for each tree of the trace, of all that the workers give back; each process was one
--- worker's
+-- a row for each tree of the trace, of all that the workers give back and of nothing else; each
+-- process was one worker's
 pub record IsGathered (trace : Trace) (homes : List (Option ℕ)) (supervised : Bool)
     (given : List (List Played)) (rows : List PlayedTree) : Type 0 where
   pub owner : ℕ → Option ℕ
   pub owned : EachOwned owner 0 given
-  pub lines : List PlayedTake
-  pub by_line : AreByLine (takes_of (all_given given)) lines
-  pub rows_are : RowsAreOf supervised 1 trace homes lines (ends_of (all_given given)) rows
+  pub takes : List PlayedTake
+  pub same : AreTheSame (takes_of (all_given given)) takes
+  pub rows_are : RowsAreOf supervised 1 trace homes takes (ends_of (all_given given)) rows

@@ -1,4 +1,4 @@
 pub mod Playing
 pub mod Gathering
 pub mod Stolen
-pub mod Lines
+pub mod Records

@@ -1,10 +1,8 @@
 -- What a worker plays of a trace: takes of `do` lines, whichever processes it has taken from
 -- others, and the trees' Ends.
-use Rattle.std.specs.Prelude.{◌≡◌, ⊤, ℕ, suc, List, [], ◌∷◌, ◌++◌, length, map, flat_map, Some, slice_get}
+use Rattle.std.specs.Prelude.{◌≡◌, ⊤, ℕ, suc, List, [], ◌∷◌, ◌++◌, length, map, flat_map, Some}
 use Rattle.std.specs.List.{AllByRecursion}
-use Rattle.tm_types.specs.declared.request.Item.{Item}
 use Rattle.tm_types.specs.declared.request.Request.{Request}
-use Rattle.tm_types.specs.declared.request.Tree.{Tree}
 use Rattle.tm_types.specs.declared.step.Made.{Made}
 use Rattle.tm_types.specs.declared.step.Maker.{Maker}
 use Rattle.tm_types.specs.declared.step.Start.{Start}
@@ -19,30 +17,15 @@ use Rattle.tm_parts.specs.Rows.{Shift}
 use Rattle.tm_parts.specs.Parts.{Deed, ClaimedBy}
 use Rattle.tm_steal_rows.specs.declared.played.Played.{Played}
 use Rattle.tm_steal_rows.specs.declared.played.PlayedTake.{PlayedTake}
-
--- Requests by their lines
-
--- the request of a `do` line
-abbrev pub request_of_do : Item → List Request
-request_of_do (Item.Do pid request) = request ∷ []
-request_of_do (Item.Ids pid ids) = []
-request_of_do (Item.Fork pid child) = []
-
--- the requests of a tree's records, in order
-abbrev pub requests_in : List Item → List Request
-requests_in items = flat_map request_of_do items
-
--- the requests of a trace, tree by tree
-abbrev pub all_requests : Trace → List Request
-all_requests trace = flat_map (λ (tree : Tree). requests_in tree.records) trace
+use Rattle.tm_steal_rows.specs.Records.{request_at}
 
 -- What was played
 
--- a take is legal by a list for the request of its line, wherever the walk has its process, if only
+-- a take is legal by a list for the request at its place, wherever the walk has its process, if only
 -- it stands as it did when the take began, with a floor that was known then
 pub record TakeIsPlayed (start : Start) (trace : Trace) (list : List Made) (played : PlayedTake) : Type 0 where
   pub request : Request
-  pub asked : slice_get (all_requests trace) played.line ≡ Some request
+  pub asked : request_at trace played.place ≡ Some request
   pub known : List Made
   pub since : length known ≡ played.since
   pub legal : TakeIsLegal start known list (situation_of played.stood) request played.take

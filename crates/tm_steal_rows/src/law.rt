@@ -6,7 +6,7 @@ ghost use Rattle.tm_rules.specs.Words.{Trace};
 ghost use Rattle.tm_parts.specs.Rows.{Shift};
 ghost use Rattle.tm_parts.specs.Seats.{Begins};
 ghost use Rattle.tm_parts.specs.Parts.{deed};
-ghost use Rattle.tm_steal_rows.specs.Lines.{LinesCanBeAsked};
+ghost use Rattle.tm_steal_rows.specs.Records.{RecordsCanBeAsked};
 ghost use Rattle.std.specs.List.{AllByRecursion};
 ghost use Rattle.tm_steal_rows.specs.Playing.{IsStealing, StealsOn, ThiefDid, events_of, IsOfProcess};
 ghost use Rattle.tm_steal_rows.specs.Stolen.{StolenRunsAreLegal};
@@ -31,8 +31,8 @@ pub fn workers_steal_on()
         → ThiefDid start trace floor (deed list own all) }
 {}
 
-/// A law, nothing to run: where each record of a trace can be asked, so can the request of each
-/// line.
-pub fn lines_can_be_asked()
-    ensures { LinesCanBeAsked }
+/// A law, nothing to run: where each record of a trace can be asked, so can the request at each
+/// place.
+pub fn records_can_be_asked()
+    ensures { RecordsCanBeAsked }
 {}

@@ -4,16 +4,16 @@
 #![tactic(auto)]
 
 mod law;
-mod lines;
 mod owners;
 mod parts;
 mod played;
 mod queues;
+mod records;
 mod rows;
 mod walk;
 
-pub use law::{lines_can_be_asked, stolen_runs_are_legal, workers_steal_on};
-pub use lines::{LinePlace, places_of, request_at};
-pub use parts::TreeLines;
-pub use played::{Played, PlayedProcess, PlayedTake, end_trees, play_line};
+pub use law::{records_can_be_asked, stolen_runs_are_legal, workers_steal_on};
+pub use parts::TreeRecords;
+pub use played::{Played, PlayedProcess, PlayedTake, end_trees, play_at};
+pub use records::{RecordPlace, record_at};
 pub use rows::gather;

@@ -3,7 +3,7 @@ ghost use Rattle.std.specs.Prelude.{◌≡◌, ◌<◌, ◌++◌, flat_map, IfOk
 ghost use Rattle.tm_steal_rows.specs.Gathering.{IsPartOf, PartsAreOf, IsWalked, AreWalked};
 
 use crate::played::PlayedTake;
-use crate::queues::none_left;
+use crate::queues::{no_take_left, none_left};
 use crate::walk::walk_tree;
 use std::alloc::{AllocError, Global};
 use std::collections::VecDeque;
@@ -13,31 +13,30 @@ use tm_list::NoMemory;
 use tm_types::request::Tree;
 use tm_types::step::Take;
 
-/// What is known of a tree before it is walked: how many processes it has, how many `do` lines the
-/// trees before it have, and the place of each of its own `do` lines' process among its processes.
-/// Wrong numbers are refused where the takes are gathered.
+/// What is known of a tree's records before they are walked: of how many processes they are, and
+/// the place of each one's process among these, from 0. Wrong places are refused where the takes
+/// are gathered.
 #[derive(Drop)]
-pub struct TreeLines {
+pub struct TreeRecords {
     pub processes: usize,
-    pub lines_before: u64,
-    pub processes_of_lines: Vec<usize>,
+    pub process_places: Vec<u32>,
 }
 
-/// A tree's part: the tree, the domain that its processes start in, the number of its first `do`
-/// line among those of the trace, from 0, the place of each line's process, the takes of each
-/// process that are left to be walked, and, once it has been walked, the takes of its row.
+/// A tree's part: the tree with its number, from 1, the domain that its processes start in, the
+/// place of each record's process, the takes of each process that are left to be walked, and, once
+/// it has been walked, the takes of its row.
 #[derive(Drop)]
 pub(crate) struct TreePart<'a> {
+    pub(crate) number: u32,
     pub(crate) tree: &'a Tree,
     pub(crate) home: Option<u32>,
-    pub(crate) first_line: u64,
-    pub(crate) processes_of_lines: Vec<usize>,
+    pub(crate) process_places: Vec<u32>,
     pub(crate) queues: Vec<VecDeque<PlayedTake>>,
     pub(crate) takes: Option<Vec<Take>>,
 }
 
 /// How many processes all trees have.
-pub(crate) fn count_processes(trees: &[TreeLines]) -> usize {
+pub(crate) fn count_processes(trees: &[TreeRecords]) -> usize {
     let mut count: usize = 0;
     for tree in trees {
         count = count.saturating_add(tree.processes);
@@ -64,61 +63,66 @@ fn next_queues(
     Ok(first)
 }
 
-// The part of a tree, which starts in this domain, of its first processes.
+// The part of the tree of this number, which starts in this domain, of the first processes.
 fn part_of<'a>(
     alloc: Global,
+    number: u32,
     tree: &'a Tree,
     home: Option<u32>,
-    lines: TreeLines,
+    records: TreeRecords,
     queues: &mut VecDeque<VecDeque<PlayedTake>>,
 ) -> Result<TreePart<'a>, NoMemory>
-    ensures { IfOk result (λ part. IsPartOf tree.now home
+    ensures { IfOk result (λ part. IsPartOf number tree.now home
         (flat_map (λ queue. queue.items) queues.old.items) part
         (flat_map (λ queue. queue.items) queues.new.items)) }
 {
-    let TreeLines {
+    let TreeRecords {
         processes,
-        lines_before,
-        processes_of_lines,
-    } = lines;
+        process_places,
+    } = records;
     let queues = next_queues(alloc, processes, queues)?;
     Ok(TreePart {
+        number,
         tree,
         home,
-        first_line: lines_before,
-        processes_of_lines,
+        process_places,
         queues,
         takes: None,
     })
 }
 
-/// The parts of all trees, which start in these domains and have these lines, of the takes of these
-/// processes.
+/// The parts of all trees, which start in these domains and of whose records that is known, of the
+/// takes of these processes.
 ///
 /// Errors: want of memory; that there are more processes than the trees have, or fewer.
 pub(crate) fn parts_of<'a>(
     alloc: Global,
     trace: &'a [Tree],
     homes: Vec<Option<u32>>,
-    lines: Vec<TreeLines>,
+    records: Vec<TreeRecords>,
     queues: Vec<VecDeque<PlayedTake>>,
 ) -> Result<Vec<TreePart<'a>>, NoMemory>
-    ensures { IfOk result (λ parts. PartsAreOf trace.now homes.items
+    ensures { IfOk result (λ parts. PartsAreOf 1 trace.now homes.items
         (flat_map (λ queue. queue.items) queues.items) parts.items) }
 {
     let mut homes = VecDeque::from(homes);
-    let mut lines = VecDeque::from(lines);
+    let mut records = VecDeque::from(records);
     let mut queues = VecDeque::from(queues);
     let mut parts = Vec::with_capacity(alloc, trace.len())?;
+    let mut before: u32 = 0;
     for tree in trace {
+        let Some(number) = before.checked_add(1) else {
+            return Err(AllocError);
+        };
         let Some(home) = homes.pop_front() else {
             return Err(AllocError);
         };
-        let Some(its) = lines.pop_front() else {
+        let Some(its) = records.pop_front() else {
             return Err(AllocError);
         };
-        let part = part_of(alloc, tree, home, its, &mut queues)?;
+        let part = part_of(alloc, number, tree, home, its, &mut queues)?;
         parts.push(part)?;
+        before = number;
     }
     if none_left(&queues) {
         return Ok(parts);
@@ -127,14 +131,18 @@ pub(crate) fn parts_of<'a>(
 }
 
 impl TreePart<'_> {
-    // Walks the tree. There are no takes where something doesn't agree, or no memory is left.
+    // Walks the tree. There are no takes where something doesn't agree, or no memory is left. The
+    // queues are freed where nothing is left in them.
     fn walk(&mut self, alloc: Global)
         ensures { IsWalked self.old self.new }
     {
         let records = self.tree.records.as_slice();
-        let lines = self.processes_of_lines.as_slice();
+        let places = self.process_places.as_slice();
         let queues = &mut self.queues;
-        self.takes = walk_tree(alloc, self.home, records, self.first_line, lines, queues).ok();
+        self.takes = walk_tree(alloc, self.number, self.home, records, places, queues).ok();
+        if no_take_left(self.queues.as_slice()) {
+            self.queues = Vec::new(alloc);
+        }
     }
 }
 

@@ -1,15 +1,17 @@
 //! What a worker plays that takes processes from others.
-ghost use Rattle.std.specs.Prelude.{◌≡◌, ◌<◌, ◌≤◌, ◌++◌, ◌∷◌, [], ℕ, true, List, length, if◌then◌else◌, Some, IfOk, OnOk, slice_get};
+ghost use Rattle.std.specs.Prelude.{◌≡◌, ◌<◌, ◌≤◌, ◌++◌, ◌∷◌, [], ℕ, true, List, length, if◌then◌else◌, Some, IfOk, OnOk};
 ghost use Rattle.tm_types.specs.declared.step.Made.{Made};
 ghost use Rattle.tm_rules.specs.Requests.{is_request};
 ghost use Rattle.tm_rules.specs.Words.{Trace};
+ghost use Rattle.tm_steal_rows.specs.Records.{request_at};
 ghost use Rattle.tm_verify_notes.specs.Tomoyo.{tomoyo_grammar};
 ghost use Rattle.tm_legal.specs.Play.{IsOpened, IsNamed};
 ghost use Rattle.tm_legal.specs.Stages.{DomainIn};
 ghost use Rattle.tm_parts.specs.Seats.{state_of, FitsFrom, Begins};
 ghost use Rattle.std.specs.List.{AllByRecursion};
-ghost use Rattle.tm_steal_rows.specs.Playing.{Event, all_requests, StealsOn, ends_from, events_of, IsOfProcess};
+ghost use Rattle.tm_steal_rows.specs.Playing.{Event, StealsOn, ends_from, events_of, IsOfProcess};
 
+use crate::records::RecordPlace;
 use std::alloc::Global;
 use tm_list::NoMemory;
 use tm_parts::seat::{Seat, play_take};
@@ -17,11 +19,11 @@ use tm_types::request::Request;
 use tm_types::step::{Made, Maker, Settled, Step, Take};
 use tm_verify_notes::taking::ProcessSituation;
 
-/// A take that was played: the place of its line among the `do` lines of the trace, from 0, where
-/// its process stood, how many steps were known when it began, and the take.
+/// A take that was played: the place of its record, where its process stood, how many steps were
+/// known when it began, and the take.
 #[derive(Drop)]
 pub struct PlayedTake {
-    pub line: u64,
+    pub place: RecordPlace,
     pub stood: ProcessSituation,
     pub since: u64,
     pub take: Take,
@@ -31,7 +33,7 @@ pub struct PlayedTake {
 /// pid, and its takes in order.
 #[derive(Drop)]
 pub struct PlayedProcess {
-    pub number: usize,
+    pub place: usize,
     pub pid: u32,
     pub takes: Vec<PlayedTake>,
 }
@@ -44,17 +46,15 @@ pub enum Played {
     End(u32, u64),
 }
 
-/// Plays the request of a line, whose process stands here, in the domain of this number, by a seat
+/// Plays the request at a place, whose process stands here, in the domain of this number, by a seat
 /// that knows at least so many steps. The request is dropped; `spent` is what it is put into for
 /// that, so that no list is made for it.
 ///
 /// Errors: want of memory, or that no answer can come any more.
-pub fn play_line<S: Seat>(
+pub fn play_at<S: Seat>(
     seat: &mut S,
     alloc: Global,
-    tree: u32,
-    place: u32,
-    line: u64,
+    place: RecordPlace,
     now: ProcessSituation,
     domain: u32,
     request: Request,
@@ -68,22 +68,22 @@ pub fn play_line<S: Seat>(
     requires there { DomainIn (state_of (S.opening seat.old) (S.at seat.old)).policy domain }
     requires since { since ≤ length (S.at seat.old) }
     ensures steals { IfOk result (λ played. (trace : Trace)
-        → slice_get (all_requests trace) line ≡ Some request
+        → request_at trace place ≡ Some request
         → StealsOn (S.opening seat.old) trace (S.at seat.old) (S.own seat.old)
         (S.at seat.new) (S.own seat.new) (Event.Take played ∷ [])) }
-    ensures of_line { IfOk result (λ played.
-        (played.line ≡ line) × (played.stood ≡ now) × (played.since ≡ since)) }
+    ensures placed { IfOk result (λ played.
+        (played.place ≡ place) × (played.stood ≡ now) × (played.since ≡ since)) }
     ensures there { IfOk result (λ played.
         DomainIn (state_of (S.opening seat.old) (S.at seat.new)).policy played.take.after) }
     ensures fitted { IfOk result (λ played. FitsFrom (S.opening seat.old) (S.at seat.new)) }
     ensures opening { S.opening seat.new ≡ S.opening seat.old }
     ensures grows { Begins (S.at seat.old) (S.at seat.new) }
 {
-    seat.begin(tree, place);
+    seat.begin(place.tree, place.item);
     let take = play_take(seat, alloc, now, domain, request, spent)?;
     spent.clear();
     Ok(PlayedTake {
-        line,
+        place,
         stood: now,
         since,
         take,

@@ -39,13 +39,13 @@ fn fill(queues: &mut Vec<VecDeque<PlayedTake>>, process: PlayedProcess) -> Resul
     ensures { OnOk result (AreLaid (flat_map (λ queue. queue.items) queues.old.items)
         process.takes.items (flat_map (λ queue. queue.items) queues.new.items)) }
 {
-    let PlayedProcess { number, takes, .. } = process;
-    match queues.get(number) {
+    let PlayedProcess { place, takes, .. } = process;
+    match queues.get(place) {
         Some(queue) => {
             if !none_left(queue) {
                 return Err(AllocError);
             }
-            queues[number] = VecDeque::from(takes);
+            queues[place] = VecDeque::from(takes);
             Ok(())
         }
         None => Err(AllocError),
@@ -123,14 +123,23 @@ pub(crate) fn lay_out(
 }
 
 /// The first take that is left of the process at this place, if there is one.
-pub(crate) fn next_of(queues: &mut Vec<VecDeque<PlayedTake>>, process: usize) -> Option<PlayedTake>
+pub(crate) fn next_of(queues: &mut Vec<VecDeque<PlayedTake>>, process: u32) -> Option<PlayedTake>
     ensures { IfSome result (λ played. AreTheSame (flat_map (λ queue. queue.items) queues.old.items)
         (played ∷ flat_map (λ queue. queue.items) queues.new.items)) }
 {
-    match queues.get_mut(process) {
+    match queues.get_mut(process as usize) {
         Some(queue) => queue.pop_front(),
         None => None,
     }
+}
+
+/// How many takes are left of all processes.
+pub(crate) fn count_left(queues: &[VecDeque<PlayedTake>]) -> usize {
+    let mut count: usize = 0;
+    for queue in queues {
+        count = count.saturating_add(queue.len());
+    }
+    count
 }
 
 /// Whether nothing is left of any process.

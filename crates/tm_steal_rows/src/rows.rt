@@ -5,7 +5,7 @@ ghost use Rattle.tm_joint.specs.Played.{seen_by};
 ghost use Rattle.tm_steal_rows.specs.Gathering.{EndsNext, StandsAbove, IsRowOf, RowsAreOfParts, IsGathered};
 
 use crate::owners::check_owners;
-use crate::parts::{TreeLines, TreePart, count_processes, parts_of, walk_parts};
+use crate::parts::{TreePart, TreeRecords, count_processes, parts_of, walk_parts};
 use crate::played::Played;
 use crate::queues::{Laid, lay_out, no_take_left, none_left};
 use std::alloc::{AllocError, Global};
@@ -59,25 +59,23 @@ fn next_end(
     Ok(Some(end))
 }
 
-// The row of the tree of this number, of its part, whose first line has that number.
+// The row of a tree, of its part.
 fn next_row(
     alloc: Global,
     supervised: bool,
-    number: u32,
-    first: u64,
     part: TreePart<'_>,
     ends: &mut VecDeque<(u32, u64)>,
 ) -> Result<PlayedTree, NoMemory>
     ensures { IfOk result (λ row.
-        IsRowOf supervised number first part.entry ends.old.items row ends.new.items) }
+        IsRowOf supervised part.entry ends.old.items row ends.new.items) }
 {
     let TreePart {
-        first_line,
+        number,
         queues,
         takes,
         ..
     } = part;
-    if first_line != first || !no_take_left(queues.as_slice()) {
+    if !no_take_left(queues.as_slice()) {
         return Err(AllocError);
     }
     let Some(takes) = takes else {
@@ -103,23 +101,13 @@ fn all_rows(
     ends: VecDeque<(u32, u64)>,
 ) -> Result<Vec<PlayedTree>, NoMemory>
     ensures { IfOk result (λ rows.
-        RowsAreOfParts supervised 1 0 parts.entry.items ends.items rows.items []) }
+        RowsAreOfParts supervised parts.entry.items ends.items rows.items []) }
 {
     let mut ends = ends;
     let mut rows = Vec::with_capacity(alloc, parts.len())?;
-    let mut number: u32 = 0;
-    let mut first: u64 = 0;
     for part in parts {
-        let Some(next) = number.checked_add(1) else {
-            return Err(AllocError);
-        };
-        let row = next_row(alloc, supervised, next, first, part, &mut ends)?;
-        let Some(after) = first.checked_add(row.takes.len() as u64) else {
-            return Err(AllocError);
-        };
+        let row = next_row(alloc, supervised, part, &mut ends)?;
         rows.push(row)?;
-        number = next;
-        first = after;
     }
     if none_left(&ends) {
         return Ok(rows);
@@ -128,11 +116,11 @@ fn all_rows(
 }
 
 /// Gathers what the workers give back into a row for each tree of the trace, whose processes start
-/// in these domains and whose lines are of these processes. The trees are walked beside each other,
-/// by as many threads as there were workers. Whatever doesn't agree is refused: a process that two
-/// workers have played, or one twice, a line with no take or a take with no line, a take that began
-/// where its process doesn't stand, or before all that the process has seen was known, an End that
-/// isn't above all that its tree has seen.
+/// in these domains and of whose records that is known. The trees are walked beside each other, by
+/// as many threads as there were workers. Whatever doesn't agree is refused: a process that two
+/// workers have played, or takes of one that was played before, a line with no take or a take with
+/// no line, a take that began where its process doesn't stand, or before all that the process has
+/// seen was known, an End that isn't above all that its tree has seen.
 ///
 /// Errors: want of memory, or that something doesn't agree.
 pub fn gather<W: Threads + Sync>(
@@ -140,7 +128,7 @@ pub fn gather<W: Threads + Sync>(
     alloc: Global,
     trace: &[Tree],
     homes: Vec<Option<u32>>,
-    lines: Vec<TreeLines>,
+    records: Vec<TreeRecords>,
     supervised: bool,
     given: Vec<Seq<Played>>,
 ) -> Result<Vec<PlayedTree>, NoMemory>
@@ -149,9 +137,9 @@ pub fn gather<W: Threads + Sync>(
 {
     check_owners(alloc, given.as_slice())?;
     let workers = given.len().max(1);
-    let processes = count_processes(lines.as_slice());
+    let processes = count_processes(records.as_slice());
     let Laid { queues, ends } = lay_out(alloc, given, processes)?;
-    let mut parts = parts_of(alloc, trace, homes, lines, queues)?;
+    let mut parts = parts_of(alloc, trace, homes, records, queues)?;
     walk_parts(rt, alloc, workers, parts.as_mut_slice());
     all_rows(alloc, supervised, parts, ends)
 }

@@ -1,4 +1,4 @@
-//! The walk through a tree's lines, beside the takes that were played of them.
+//! The walk through a tree's records, beside the takes that were played of them.
 ghost use Rattle.std.specs.Prelude.{◌≡◌, ◌∷◌, flat_map, IsTrue, IfOk, OnOk};
 ghost use Rattle.tm_legal.specs.Run.{with_situation, after_take};
 ghost use Rattle.tm_verify_notes.specs.Cases.{stand_of, stands};
@@ -6,7 +6,8 @@ ghost use Rattle.tm_steal_rows.specs.Gathering.{StandsThere, AreTheSame, TakesOf
 ghost use Rattle.tm_steal_rows.specs.declared.played.PlayedTake.{PlayedTake};
 
 use crate::played::PlayedTake;
-use crate::queues::next_of;
+use crate::queues::{count_left, next_of};
+use crate::records::{RecordPlace, numbered};
 use std::alloc::{AllocError, Global};
 use std::collections::VecDeque;
 use tm_list::{NoMemory, Same};
@@ -35,6 +36,13 @@ fn same_process(left: Proc, right: Proc) -> bool
     left.pid == right.pid && left.ppid == right.ppid && same_ids(left.ids, right.ids)
 }
 
+// Whether they are one place.
+fn same_place(left: RecordPlace, right: RecordPlace) -> bool
+    ensures { IsTrue result → left ≡ right }
+{
+    left.tree == right.tree && left.item == right.item
+}
+
 // Whether a take began where its process stands, and knew all that the process has seen.
 fn stands_there(stand: Stand, played: &PlayedTake) -> bool
     ensures { IsTrue result → StandsThere (stand_of stand) played.now }
@@ -44,19 +52,19 @@ fn stands_there(stand: Stand, played: &PlayedTake) -> bool
         && stand.floor <= played.since
 }
 
-// The take of the line of this number, which is of this process, the one at this place: the first
-// that is left of it.
+// The take of the request at a place, which is of the process of this pid: the first that is left
+// of the process that stands there among the tree's.
 fn next_take(
     known: &mut Stands,
     queues: &mut Vec<VecDeque<PlayedTake>>,
-    process: usize,
+    process: u32,
     pid: u32,
-    line: u64,
+    place: RecordPlace,
 ) -> Result<Take, NoMemory>
     ensures { IfOk result (λ take. (played : PlayedTake)
         × AreTheSame (flat_map (λ queue. queue.items) queues.old.items)
         (played ∷ flat_map (λ queue. queue.items) queues.new.items)
-        × (take ≡ played.take) × (take.pid ≡ pid) × (played.line ≡ line)
+        × (take ≡ played.take) × (take.pid ≡ pid) × (played.place ≡ place)
         × StandsThere (stands known.old pid) played
         × (stands known.new ≡ with_situation (stands known.old) pid
         (after_take (stands known.old pid) take))) }
@@ -65,7 +73,7 @@ fn next_take(
         return Err(AllocError);
     };
     let stand = known.at(pid);
-    if played.line != line || !stands_there(stand, &played) {
+    if !same_place(played.place, place) || !stands_there(stand, &played) {
         return Err(AllocError);
     }
     let take = played.take;
@@ -76,17 +84,17 @@ fn next_take(
     Ok(take)
 }
 
-// One line: a process has other ids, a child stands where its parent does, or a request has its
-// take. The tree's first request has the number `first`.
-fn walk_line(
+// The record at a place: a process has other ids, a child stands where its parent does, or a
+// request has its take.
+fn walk_record(
     known: &mut Stands,
     queues: &mut Vec<VecDeque<PlayedTake>>,
-    first: u64,
-    processes_of_lines: &[usize],
+    place: RecordPlace,
+    process_places: &[u32],
     item: &Item,
     takes: &mut Vec<Take>,
 ) -> Result<(), NoMemory>
-    ensures { OnOk result (WalksOn first (stands known.old) item.now takes.old.items
+    ensures { OnOk result (WalksOn place.tree place.item (stands known.old) item.now takes.old.items
         (flat_map (λ queue. queue.items) queues.old.items) (stands known.new) takes.new.items
         (flat_map (λ queue. queue.items) queues.new.items)) }
 {
@@ -94,47 +102,43 @@ fn walk_line(
         Item::Ids(pid, ids) => known.set_ids(*pid, *ids),
         Item::Fork(pid, child) => known.fork(*pid, *child),
         Item::Do(pid, _) => {
-            let Some(process) = processes_of_lines.get(takes.len()) else {
+            let Some(process) = numbered(process_places, place.item) else {
                 return Err(AllocError);
             };
-            let Some(line) = first.checked_add(takes.len() as u64) else {
-                return Err(AllocError);
-            };
-            let take = next_take(known, queues, *process, *pid, line)?;
+            let take = next_take(known, queues, *process, *pid, place)?;
             takes.push(take)?;
             Ok(())
         }
     }
 }
 
-/// The takes of a tree's requests, of those that are left of its processes; its processes start in
-/// this domain, its first request has the number `first`, and each has its process's place.
+/// The takes of the requests of the tree of this number, of those that are left of its processes,
+/// which start in this domain; each record's process stands at this place among them.
 ///
 /// Errors: want of memory; that a request has no take, that its take began where its process
 /// doesn't stand, or didn't know what the process has seen.
 pub(crate) fn walk_tree(
     alloc: Global,
+    tree: u32,
     home: Option<u32>,
     records: &[Item],
-    first: u64,
-    processes_of_lines: &[usize],
+    process_places: &[u32],
     queues: &mut Vec<VecDeque<PlayedTake>>,
 ) -> Result<Vec<Take>, NoMemory>
-    ensures { IfOk result (λ takes. TakesOfProcesses home records.now first
+    ensures { IfOk result (λ takes. TakesOfProcesses tree home records.now
         (flat_map (λ queue. queue.items) queues.old.items) takes.items
         (flat_map (λ queue. queue.items) queues.new.items)) }
 {
     let mut known = Stands::new(alloc, home);
-    let mut takes = Vec::with_capacity(alloc, processes_of_lines.len())?;
+    let mut takes = Vec::with_capacity(alloc, count_left(queues.as_slice()))?;
+    let mut before: u32 = 0;
     for item in records {
-        walk_line(
-            &mut known,
-            queues,
-            first,
-            processes_of_lines,
-            item,
-            &mut takes,
-        )?;
+        let Some(number) = before.checked_add(1) else {
+            return Err(AllocError);
+        };
+        let place = RecordPlace { tree, item: number };
+        walk_record(&mut known, queues, place, process_places, item, &mut takes)?;
+        before = number;
     }
     Ok(takes)
 }

@@ -2,7 +2,9 @@
 use std::alloc::Global;
 use std::thread::Threads;
 use tm_list::{NoMemory, Seq};
-use tm_steal_rows::{Played, PlayedProcess, PlayedTake, TreeLines, gather, places_of, request_at};
+use tm_steal_rows::{
+    Played, PlayedProcess, PlayedTake, RecordPlace, TreeRecords, gather, record_at,
+};
 use tm_take::ProcessSituation;
 use tm_types::brief::Brief;
 use tm_types::entry::Args;
@@ -10,8 +12,8 @@ use tm_types::request::{Attributes, Ids, Item, Proc, Request, Tree};
 use tm_types::step::{Look, Take};
 use tm_types::verdict::{Move, Reason};
 
-/// A take: the worker that has played it, its line, its process with its parent, the domain that
-/// the process was in, how many steps were known, the version of its look, the domain after, and
+/// A take: the worker that has played it, its line among all, its process with its parent, the
+/// domain that the process was in, how many steps were known, the version of its look, the domain after, and
 /// the user of the process.
 type Row = [u32; 9];
 
@@ -93,6 +95,18 @@ fn take(alloc: Global, row: &Row) -> Result<Take, NoMemory> {
     })
 }
 
+/// Where a line stands, from 0 among all; one that isn't there stands past the first tree.
+fn place_of_line(line: u32) -> RecordPlace {
+    let (tree, item) = match line {
+        0 => (1, 1),
+        1 => (1, 3),
+        2 => (1, 4),
+        3 => (2, 1),
+        _ => (1, 5),
+    };
+    RecordPlace { tree, item }
+}
+
 fn played(alloc: Global, row: &Row) -> Result<PlayedTake, NoMemory> {
     let process = Proc {
         pid: row[2],
@@ -100,7 +114,7 @@ fn played(alloc: Global, row: &Row) -> Result<PlayedTake, NoMemory> {
         ids: ids_of(row[8]),
     };
     Ok(PlayedTake {
-        line: u64::from(row[1]),
+        place: place_of_line(row[1]),
         stood: ProcessSituation {
             process,
             domain: Some(row[4]),
@@ -135,9 +149,9 @@ fn given_of(
     if its.is_empty() {
         return Ok(None);
     }
-    let number = place_of(pid);
+    let place = place_of(pid);
     Ok(Some(Played::Process(PlayedProcess {
-        number,
+        place,
         pid,
         takes: its,
     })))
@@ -164,29 +178,27 @@ fn given_by(
     Ok(all)
 }
 
-/// What is known of the lines of the two trees: how many processes the first one has, the place of
-/// the process of its second line, and how many lines the second tree has before it.
-type Lines = [usize; 3];
+/// What is known of the records of the two trees: how many processes the first one has, the place
+/// of the process of its third record, and that of the second tree's only one.
+type Known = [u32; 3];
 
-const LINES: Lines = [2, 1, 3];
+const KNOWN: Known = [2, 1, 0];
 
-fn lines(alloc: Global, known: Lines) -> Result<Vec<TreeLines>, NoMemory> {
+fn records(alloc: Global, known: Known) -> Result<Vec<TreeRecords>, NoMemory> {
     let mut first = Vec::new(alloc);
-    for process in [0, known[1], 0] {
+    for process in [0, 0, known[1], 0] {
         first.push(process)?;
     }
     let mut second = Vec::new(alloc);
-    second.push(0)?;
+    second.push(known[2])?;
     let mut all = Vec::new(alloc);
-    all.push(TreeLines {
-        processes: known[0],
-        lines_before: 0,
-        processes_of_lines: first,
+    all.push(TreeRecords {
+        processes: known[0] as usize,
+        process_places: first,
     })?;
-    all.push(TreeLines {
+    all.push(TreeRecords {
         processes: 1,
-        lines_before: known[2] as u64,
-        processes_of_lines: second,
+        process_places: second,
     })?;
     Ok(all)
 }
@@ -204,15 +216,23 @@ fn rows_of<W: Threads + Sync>(
     rt: &W,
     alloc: Global,
     given: Vec<Seq<Played>>,
-    known: Lines,
+    known: Known,
     supervised: bool,
 ) -> Result<Option<Vec<u64>>, NoMemory> {
     let trees = trace(alloc)?;
     let mut homes = Vec::new(alloc);
     homes.push(Some(0))?;
     homes.push(Some(2))?;
-    let lines = lines(alloc, known)?;
-    let Ok(rows) = gather(rt, alloc, trees.as_slice(), homes, lines, supervised, given) else {
+    let records = records(alloc, known)?;
+    let Ok(rows) = gather(
+        rt,
+        alloc,
+        trees.as_slice(),
+        homes,
+        records,
+        supervised,
+        given,
+    ) else {
         return Ok(None);
     };
     let mut told = Vec::new(alloc);
@@ -235,7 +255,7 @@ fn gathered<W: Threads + Sync>(
     supervised: bool,
 ) -> Result<Option<Vec<u64>>, NoMemory> {
     let given = given_by_both(alloc, takes, ends)?;
-    rows_of(rt, alloc, given, LINES, supervised)
+    rows_of(rt, alloc, given, KNOWN, supervised)
 }
 
 #[test]
@@ -296,15 +316,15 @@ fn a_process_that_was_played_twice_is_refused(rt: HostRuntime) -> Result<(), NoM
     }
     given.push(first)?;
     given.push(given_by(alloc, 1, TAKES.as_slice(), &[])?)?;
-    let told = rows_of(&rt, alloc, given, LINES, true)?;
+    let told = rows_of(&rt, alloc, given, KNOWN, true)?;
     assert!(rt; told.is_none());
     Ok(())
 }
 
 #[test]
-fn lines_that_do_not_agree_are_refused(rt: HostRuntime) -> Result<(), NoMemory> {
-    for (place, number) in [(0, 1), (1, 0), (1, 2), (2, 2), (2, 4)] {
-        let mut known = LINES;
+fn records_that_do_not_agree_are_refused(rt: HostRuntime) -> Result<(), NoMemory> {
+    for (place, number) in [(0, 1), (0, 3), (1, 0), (1, 2), (2, 1)] {
+        let mut known = KNOWN;
         known[place] = number;
         let given = given_by_both(rt.alloc(), TAKES.as_slice(), ENDS.as_slice())?;
         let told = rows_of(&rt, rt.alloc(), given, known, true)?;
@@ -330,14 +350,28 @@ fn ends_that_do_not_agree_are_refused(rt: HostRuntime) -> Result<(), NoMemory> {
     Ok(())
 }
 
+// The trees of the trace with their records, from 0 to one that isn't there, and what each asks.
+const ASKED: [[Option<u8>; 6]; 4] = [
+    [None, None, None, None, None, None],
+    [None, Some(0), None, Some(1), Some(2), None],
+    [None, Some(3), None, None, None, None],
+    [None, None, None, None, None, None],
+];
+
 #[test]
-fn each_line_has_its_request(rt: HostRuntime) -> Result<(), NoMemory> {
+fn each_record_stands_at_its_place(rt: HostRuntime) -> Result<(), NoMemory> {
     let trees = trace(rt.alloc())?;
-    let places = places_of(rt.alloc(), trees.as_slice())?;
-    for line in 0u64..5 {
-        let found = request_at(trees.as_slice(), places.as_slice(), line).map(|asked| asked.perm());
-        let wanted = (line < 4).then_some(line as u8);
-        assert_eq!(rt; found, wanted);
+    for tree in 0u32..4 {
+        for item in 0u32..6 {
+            let found = record_at(trees.as_slice(), RecordPlace { tree, item });
+            let asked = match found {
+                Some(Item::Do(_, request)) => Some(request.perm()),
+                Some(Item::Ids(_, _)) | Some(Item::Fork(_, _)) | None => None,
+            };
+            assert_eq!(rt; asked, ASKED[tree as usize][item as usize], "{tree} {item}");
+        }
     }
+    let forked = record_at(trees.as_slice(), RecordPlace { tree: 1, item: 2 });
+    assert!(rt; matches!(forked, Some(Item::Fork(5, 6))));
     Ok(())
 }

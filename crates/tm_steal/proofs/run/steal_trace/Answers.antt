@@ -12,7 +12,6 @@ use Rattle.tm_replay.specs.Office.{list_of}
 use Rattle.tm_replay.specs.Parts.{PlayedTogether}
 use Rattle.tm_steal_rows.specs.Playing.{HandDid}
 use Rattle.tm_steal_rows.specs.Gathering.{homes_of, IsGathered}
-use Rattle.tm_steal_rows.specs.Lines.{places_from}
 use Rattle.tm_steal.specs.Boards.{IsBoard}
 use Rattle.tm_steal.proofs.Going.{for-each}
 use Rattle.tm_steal.proofs.run.steal_trace.Goals as goal
@@ -26,7 +25,6 @@ play_parts-requires-clause-ready g c κs within =
     let trees = c.requires.trees in
     for-each (IsBoard c.args.machine.start board) c.in_ok-board.hands.items
     (record {
-      places = c.in_ok-board.ensures.places ∙ ap (places_from 0) (sym c.in_ok-board.ensures.trace);
       asked = subst (λ (its : Trace). AllByRecursion (λ (tree : Tree). list_all (item_is_request tomoyo_grammar.is_path) tree.records ≡ true) its) (sym same) c.requires.can.requests;
       trees = omega (arith, all, count, trees);
     })

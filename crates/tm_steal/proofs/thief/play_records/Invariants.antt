@@ -1,7 +1,7 @@
 use Rattle.std.proofs.Common.{◌≡◌, []}
 use Rattle.tm_replay.specs.SeatSeats.{Begins}
 use Rattle.tm_steal.specs.Boards.{GoesOnWith}
-use Rattle.tm_steal.proofs.thief.play_process.Given as goal
+use Rattle.tm_steal.proofs.thief.play_records.Given as goal
 
 abbrev pub invariant-loop-line : goal.invariant-loop-line
 invariant-loop-line g l =
