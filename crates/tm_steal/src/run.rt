@@ -139,9 +139,9 @@ pub fn steal_run<
     stolen_runs_are_legal::<Hand>();
     let (machine, rows) = steal_trace(rt, alloc, machine, &trace, workers, desk, gate)?;
     machine.versions();
-    free_beside(rt, trace);
     let takes = takes_of(alloc, rows)?;
     let (steps, opening, last) = machine.into_history(alloc)?;
+    free_beside(rt, trace);
     Ok((Run { steps, takes }, opening, last))
 }
 

@@ -68,7 +68,7 @@ fn play_request<S: Seat>(
     }
     let request = request_of(board, alloc, place, request)?;
     let taken = play_at(seat, alloc, place, now, domain, request, since, spent)?;
-    let after = taken.take.after;
+    let after = taken.take.after();
     takes.push(taken)?;
     Ok(after)
 }

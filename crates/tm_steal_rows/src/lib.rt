@@ -14,6 +14,6 @@ mod walk;
 
 pub use law::{records_can_be_asked, stolen_runs_are_legal, workers_steal_on};
 pub use parts::TreeRecords;
-pub use played::{Played, PlayedProcess, PlayedTake, end_trees, play_at};
+pub use played::{Played, PlayedProcess, PlayedTake, SeenTake, end_trees, play_at};
 pub use records::{RecordPlace, record_at};
 pub use rows::gather;

@@ -3,7 +3,7 @@ ghost use Rattle.std.specs.Prelude.{◌≡◌, ◌<◌, ◌++◌, flat_map, IfOk
 ghost use Rattle.tm_steal_rows.specs.Gathering.{IsPartOf, PartsAreOf, IsWalked, AreWalked};
 
 use crate::played::PlayedTake;
-use crate::queues::{no_take_left, none_left};
+use crate::queues::none_left;
 use crate::walk::walk_tree;
 use std::alloc::{AllocError, Global};
 use std::collections::VecDeque;
@@ -131,8 +131,7 @@ pub(crate) fn parts_of<'a>(
 }
 
 impl TreePart<'_> {
-    // Walks the tree. There are no takes where something doesn't agree, or no memory is left. The
-    // queues are freed where nothing is left in them.
+    // Walks the tree. There are no takes where something doesn't agree, or no memory is left.
     fn walk(&mut self, alloc: Global)
         ensures { IsWalked self.old self.new }
     {
@@ -140,9 +139,6 @@ impl TreePart<'_> {
         let places = self.process_places.as_slice();
         let queues = &mut self.queues;
         self.takes = walk_tree(alloc, self.number, self.home, records, places, queues).ok();
-        if no_take_left(self.queues.as_slice()) {
-            self.queues = Vec::new(alloc);
-        }
     }
 }
 

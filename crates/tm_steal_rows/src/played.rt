@@ -1,10 +1,11 @@
 //! What a worker plays that takes processes from others.
-ghost use Rattle.std.specs.Prelude.{◌≡◌, ◌<◌, ◌≤◌, ◌++◌, ◌∷◌, [], ℕ, true, List, length, if◌then◌else◌, Some, IfOk, OnOk};
+ghost use Rattle.std.specs.Prelude.{◌≡◌, ◌<◌, ◌≤◌, ◌++◌, ◌∷◌, [], ℕ, true, List, length, flat_map, if◌then◌else◌, Some, IfOk, OnOk};
 ghost use Rattle.tm_types.specs.declared.step.Made.{Made};
 ghost use Rattle.tm_rules.specs.Requests.{is_request};
 ghost use Rattle.tm_rules.specs.Words.{Trace};
 ghost use Rattle.tm_steal_rows.specs.Records.{request_at};
 ghost use Rattle.tm_verify_notes.specs.Tomoyo.{tomoyo_grammar};
+ghost use Rattle.tm_legal.specs.Run.{seen, raised};
 ghost use Rattle.tm_legal.specs.Play.{IsOpened, IsNamed};
 ghost use Rattle.tm_legal.specs.Stages.{DomainIn};
 ghost use Rattle.tm_parts.specs.Seats.{state_of, FitsFrom, Begins};
@@ -13,11 +14,71 @@ ghost use Rattle.tm_steal_rows.specs.Playing.{Event, StealsOn, ends_from, events
 
 use crate::records::RecordPlace;
 use std::alloc::Global;
+use std::marker::Model;
 use tm_list::NoMemory;
 use tm_parts::seat::{Seat, play_take};
 use tm_types::request::Request;
 use tm_types::step::{Made, Maker, Settled, Step, Take};
+use tm_verify_notes::raised_by_looks;
 use tm_verify_notes::taking::ProcessSituation;
+
+/// A take with the highest version that it has seen, so that nobody has to go to its looks for that
+/// again. Contracts see the take.
+#[derive(Drop)]
+pub struct SeenTake {
+    take: Take,
+    highest: u64,
+}
+
+impl Model for SeenTake {
+    ghost use Rattle.std.specs.Prelude.{◌≡◌, flat_map};
+    ghost use Rattle.tm_types.specs.declared.step.Take.{Take};
+    ghost use Rattle.tm_legal.specs.Run.{seen, raised};
+
+    ghost Value = { Take };
+
+    ghost view = { λ s. s.take };
+
+    ghost invariant = { λ s. s.highest ≡ raised 0 (flat_map seen s.take.looks) };
+}
+
+impl SeenTake {
+    /// A take, whose looks are gone through once.
+    pub fn new(take: Take) -> SeenTake
+        ensures { result ≡ take }
+    {
+        let highest = raised_by_looks(0, take.looks.as_slice());
+        SeenTake { take, highest }
+    }
+
+    /// The highest version that it has seen; 0 where it has looked at none.
+    pub(crate) fn highest(&self) -> u64
+        ensures { result ≡ raised 0 (flat_map seen self.now.looks) }
+    {
+        self.highest
+    }
+
+    /// The process that has played it.
+    pub(crate) fn pid(&self) -> u32
+        ensures { result ≡ self.now.pid }
+    {
+        self.take.pid
+    }
+
+    /// The number of the domain after it.
+    pub fn after(&self) -> u32
+        ensures { result ≡ self.now.after }
+    {
+        self.take.after
+    }
+
+    /// The take alone.
+    pub(crate) fn into_take(self) -> Take
+        ensures { result ≡ self }
+    {
+        self.take
+    }
+}
 
 /// A take that was played: the place of its record, where its process stood, how many steps were
 /// known when it began, and the take.
@@ -26,7 +87,7 @@ pub struct PlayedTake {
     pub place: RecordPlace,
     pub stood: ProcessSituation,
     pub since: u64,
-    pub take: Take,
+    pub take: SeenTake,
 }
 
 /// A process that was played: its place among the processes of the trace, tree by tree, from 0, its
@@ -86,7 +147,7 @@ pub fn play_at<S: Seat>(
         place,
         stood: now,
         since,
-        take,
+        take: SeenTake::new(take),
     })
 }
 

@@ -77,11 +77,11 @@ fn next_take(
         return Err(AllocError);
     }
     let take = played.take;
-    if take.pid != pid {
+    if take.pid() != pid {
         return Err(AllocError);
     }
-    known.take(pid, stand, &take)?;
-    Ok(take)
+    known.take_seen(pid, stand, take.after(), take.highest())?;
+    Ok(take.into_take())
 }
 
 // The record at a place: a process has other ids, a child stands where its parent does, or a

@@ -3,7 +3,7 @@ use std::alloc::Global;
 use std::thread::Threads;
 use tm_list::{NoMemory, Seq};
 use tm_steal_rows::{
-    Played, PlayedProcess, PlayedTake, RecordPlace, TreeRecords, gather, record_at,
+    Played, PlayedProcess, PlayedTake, RecordPlace, SeenTake, TreeRecords, gather, record_at,
 };
 use tm_take::ProcessSituation;
 use tm_types::brief::Brief;
@@ -120,7 +120,7 @@ fn played(alloc: Global, row: &Row) -> Result<PlayedTake, NoMemory> {
             domain: Some(row[4]),
         },
         since: u64::from(row[5]),
-        take: take(alloc, row)?,
+        take: SeenTake::new(take(alloc, row)?),
     })
 }
 

@@ -1,6 +1,7 @@
 -- Floors that several looks raise.
-use Rattle.std.proofs.Common.{◌≡◌, ◌≤◌, ◌+◌, ℕ, zero, suc, max, List, [], ◌∷◌, ◌++◌, length, take, drop, refl, ap, ◌∙◌, arith}
-use Rattle.std.specs.Prelude.{Option}
+use Rattle.std.proofs.Common.{◌≡◌, ◌≤◌, ◌+◌, ℕ, zero, suc, max, List, [], ◌∷◌, ◌++◌, length, take, drop, refl, sym, ap, ◌∙◌, subst, arith}
+use Rattle.std.specs.Prelude.{Option, Some, Result, Ok, Err, OnOk}
+use Rattle.std.specs.List.{flat_map}
 use Rattle.std.proofs.lemmas.List.{append_assoc}
 use Rattle.std.proofs.lemmas.List.Sums.{fold-append}
 use Rattle.tm_rules.specs.Words.{Trace}
@@ -8,11 +9,28 @@ use Rattle.tm_types.specs.declared.policy.Policy.{Policy}
 use Rattle.tm_types.specs.declared.request.Tree.{Tree}
 use Rattle.tm_types.specs.declared.step.Take.{Take}
 use Rattle.tm_rules.specs.Policy.{live_domain}
-use Rattle.tm_verify_notes.specs.Cases.{first_stand}
-use Rattle.tm_legal.specs.Run.{raised, Case, at_start, do_pids, tree_cases, cases_from}
+use Rattle.tm_verify_notes.specs.declared.cases.Stand.{Stand}
+use Rattle.tm_verify_notes.specs.Cases.{first_stand, stand_of}
+use Rattle.tm_legal.specs.Run.{seen, raised, Situation, Situations, with_situation, after_take, Case, at_start, do_pids, tree_cases, cases_from}
 
 pub raised_more : (floor : ℕ) (xs ys : List ℕ) → raised floor (xs ++ ys) ≡ raised (raised floor xs) ys
 raised_more floor xs ys = fold-append max floor xs ys
+
+-- what raises a floor can be found by itself first
+pub raised_apart : (floor : ℕ) (xs : List ℕ) → raised floor xs ≡ max floor (raised 0 xs)
+raised_apart floor [] = omega arith
+raised_apart floor (x ∷ xs) =
+    let here = raised_apart (max floor x) xs in
+    let alone = raised_apart (max 0 x) xs in
+    omega (arith, here, alone)
+
+-- a process after a take that has seen this version at most
+pub take_seen : {A E : Type 0} (r : Result A E) (at later : Situations) (pid after highest low : ℕ) (stand : Stand) → stand_of stand ≡ at pid → low ≡ max stand.floor highest → OnOk r (later ≡ with_situation at pid (stand_of (record { process = stand.process; domain = Some after; floor = low }))) → OnOk r ((taken : Take) → taken.after ≡ after → raised 0 (flat_map seen taken.looks) ≡ highest → later ≡ with_situation at pid (after_take (at pid) taken))
+take_seen (Ok x) at later pid after highest low stand there is put = λ taken next high.
+    let floor : low ≡ raised stand.floor (flat_map seen taken.looks) = is ∙ ap (max stand.floor) (sym high) ∙ sym (raised_apart stand.floor (flat_map seen taken.looks)) in
+    subst (λ (old : Situation). later ≡ with_situation at pid (after_take old taken)) there
+    (put ∙ ap (with_situation at pid) (rw (sym next, floor) refl))
+take_seen (Err e) at later pid after highest low stand there is put = tt
 
 -- what a front and a rest are where it takes all
 pub take_over : {A : Type 0} (n : ℕ) (xs : List A) → length xs ≤ n → take n xs ≡ xs

@@ -1,25 +1,11 @@
 -- A look beside the verdict of its version, and what it has heard.
-use Rattle.std.proofs.Common.{◌≡◌, ◌≤◌, ◌<◌, ◌+◌, ℕ, zero, suc, Bool, true, false, ◌&&◌, List, [], ◌∷◌, ◌++◌, length, take, map, Option, Some, None, refl, sym, ap, ◌∙◌, subst, arith}
-use Rattle.std.specs.Prelude.{◌↔◌, option_map}
-use Rattle.std.specs.Option.{IfSome}
-use Rattle.tm_word.specs.Words.{Text}
-use Rattle.tm_types.specs.declared.policy.Mode.{Mode}
-use Rattle.tm_types.specs.declared.request.Proc.{Proc}
-use Rattle.tm_types.specs.declared.request.Request.{Request}
-use Rattle.tm_types.specs.declared.verdict.Move.{Move}
-use Rattle.tm_types.specs.declared.verdict.Reason.{Reason}
+use Rattle.std.proofs.Common.{◌≡◌, ℕ, Bool, true, false, ◌&&◌, List, [], ◌∷◌, map, Option, Some, refl}
+use Rattle.std.specs.Prelude.{◌↔◌}
 use Rattle.tm_types.specs.declared.verdict.Verdict.{Verdict}
-use Rattle.tm_types.specs.declared.step.Step.{Step}
-use Rattle.tm_types.specs.declared.step.Reply.{Reply}
-use Rattle.tm_types.specs.declared.step.Held.{Held}
-use Rattle.tm_types.specs.declared.step.Heard.{Heard}
-use Rattle.tm_types.specs.declared.step.Answered.{Answered}
 use Rattle.tm_types.specs.declared.step.Look.{Look}
-use Rattle.tm_rules.specs.Audit.{audit_text}
-use Rattle.tm_rules.specs.Queries.{answer_of}
 use Rattle.tm_take.specs.Tomoyo.{tomoyo_grammar}
-use Rattle.tm_legal.specs.Run.{History, Case, step_at, reply_at, steps_of}
-use Rattle.tm_legal.specs.Legal.{Scene, opening_of, subject_of, state_at, IsShown, LookHolds, OwnSteps, steps_asked, retry_written, look_grants, RisesFrom, MakesAfterYes, Hears, LookHears}
+use Rattle.tm_legal.specs.Run.{History, step_at}
+use Rattle.tm_legal.specs.Legal.{steps_asked, retry_written, look_grants, RisesFrom, MakesAfterYes}
 use Rattle.tm_verify_laws.specs.Looks.{rises_from, is_after_answer}
 use Rattle.tm_verify_laws.proofs.LookLaws.{own_order}
 use Rattle.tm_verify_notes.specs.Noting.{Owns}

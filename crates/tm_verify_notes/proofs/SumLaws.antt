@@ -1,21 +1,18 @@
 -- What the looks of a take come to.
-use Rattle.std.proofs.Common.{◌≡◌, ◌≤◌, ◌<◌, ◌+◌, ◌-◌, ℕ, zero, suc, Bool, true, false, ◌==◌, ◌&&◌, List, [], ◌∷◌, ◌++◌, length, take, drop, map, Option, Some, None, refl, sym, ap, ◌∙◌, subst, arith, eq-eqb, eqb-true}
+use Rattle.std.proofs.Common.{◌≡◌, ℕ, suc, Bool, true, ◌&&◌, List, [], ◌∷◌, length, take, drop, Some, None, refl, sym, ap, ◌∙◌, subst, arith}
 use Rattle.std.specs.Prelude.{◌↔◌, slice_get, replicate}
-use Rattle.std.specs.Bool.{beq}
 use Rattle.std.specs.Option.{IfSome}
 use Rattle.std.specs.List.{AllByRecursion, list_all}
 use Rattle.std.proofs.lemmas.List.{length-map}
 use Rattle.tm_types.specs.declared.step.Look.{Look}
-use Rattle.tm_types.specs.declared.step.Take.{Take}
 use Rattle.tm_legal.specs.Run.{History, Case}
-use Rattle.tm_legal.specs.Legal.{Scene, subject_of, last_look, last_number, LookHolds, OwnSteps, LookHears, LooksFollow, TakeHolds, TakeHears, EndsWith, look_grants, domain_after}
+use Rattle.tm_legal.specs.Legal.{Scene, subject_of, last_look, last_number, LookHolds, OwnSteps, LookHears, LooksFollow, EndsWith}
 use Rattle.tm_verify_laws.specs.Looks.{do_follow}
 use Rattle.tm_verify_laws.proofs.LookLaws.{following}
 use Rattle.tm_verify_notes.specs.declared.notes.LookNote.{LookNote}
 use Rattle.tm_verify_notes.specs.declared.notes.PartNote.{PartNote}
-use Rattle.tm_verify_notes.specs.declared.notes.VerdictNote.{VerdictNote}
 use Rattle.tm_verify_notes.specs.declared.sums.TakeNote.{TakeNote}
-use Rattle.tm_verify_notes.specs.Noting.{EachWith, LookOn, looks_on, all_looks, IsLookNote, IsPartNote, IsTakeNote, IsAudited}
+use Rattle.tm_verify_notes.specs.Noting.{EachWith, LookOn, looks_on, all_looks, IsLookNote, IsPartNote, IsTakeNote}
 use Rattle.tm_verify_notes.specs.Sums.{Completes, last_of}
 use Rattle.tm_verify_notes.proofs.EachLaws.{each_all, each_as, each_mapped, each_then, each_at, each_front, each_rest}
 use Rattle.tm_verify_notes.proofs.NoteLaws.{both_decide}

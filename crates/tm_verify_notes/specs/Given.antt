@@ -1,5 +1,4 @@
 -- The scene that a run is judged by, and its steps.
-use Rattle.std.specs.Prelude.{Option}
 use Rattle.std.specs.Option.{option_copied}
 use Rattle.tm_take.specs.Tomoyo.{tomoyo_grammar}
 use Rattle.tm_types.specs.declared.step.Run.{Run}

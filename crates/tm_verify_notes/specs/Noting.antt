@@ -1,5 +1,5 @@
 -- What is noted of looks and of takes.
-use Rattle.std.specs.Prelude.{◌≡◌, ◌↔◌, ⊤, ℕ, Bool, true, List, [], ◌∷◌, map, flat_map, Option, Some, None}
+use Rattle.std.specs.Prelude.{◌≡◌, ◌↔◌, ⊤, ℕ, Bool, true, List, [], ◌∷◌, map, flat_map, Option, Some}
 use Rattle.std.specs.Option.{IfSome}
 use Rattle.std.specs.List.{AllByRecursion}
 use Rattle.tm_word.specs.Words.{Text}
@@ -9,7 +9,7 @@ use Rattle.tm_rules.specs.Audit.{audit_text}
 use Rattle.tm_rules.specs.Requests.{is_request}
 use Rattle.tm_take.specs.Tomoyo.{tomoyo_grammar}
 use Rattle.tm_legal.specs.Run.{History, Case, step_at}
-use Rattle.tm_legal.specs.Legal.{Scene, Subject, subject_of, state_at, verdict_at, IsShown, LookHolds, OwnSteps, steps_asked, retry_written, look_grants, RisesFrom, MakesAfterYes, LookHears, TakeHolds, TakeHears, EndsWith, last_look}
+use Rattle.tm_legal.specs.Legal.{Scene, subject_of, state_at, verdict_at, IsShown, LookHolds, OwnSteps, steps_asked, retry_written, look_grants, RisesFrom, MakesAfterYes, LookHears, TakeHolds, TakeHears, EndsWith, last_look}
 use Rattle.tm_verify_notes.specs.declared.notes.VerdictNote.{VerdictNote}
 use Rattle.tm_verify_notes.specs.declared.notes.LookNote.{LookNote}
 use Rattle.tm_verify_notes.specs.declared.notes.PartNote.{PartNote}

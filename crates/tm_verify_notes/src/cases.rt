@@ -1,6 +1,7 @@
 //! The `do` lines with their takes, each with the situation of its process: one walk over the
 //! trace.
 ghost use Rattle.std.specs.Prelude.{◌≡◌, ◌++◌, ◌+◌, ◌<◌, ◌^◌, length, take, drop, OnOk, IfOk};
+ghost use Rattle.tm_types.specs.declared.step.Take.{Take};
 ghost use Rattle.tm_rules.specs.Few.{IsFew};
 ghost use Rattle.std.specs.List.{flat_map};
 ghost use Rattle.tm_legal.specs.Run.{seen, raised, with_situation, with_ids, forked, after_take, at_start, do_pids, tree_cases, cases_from, cases};
@@ -177,6 +178,31 @@ impl Stands {
                 process,
                 domain,
                 floor,
+            },
+        )
+    }
+
+    /// The same of a take whose looks aren't at hand: the domain after it, and the highest version
+    /// that it has seen.
+    pub fn take_seen(
+        &mut self,
+        pid: u32,
+        stand: Stand,
+        after: u32,
+        highest: u64,
+    ) -> Result<(), NoMemory>
+        requires { stand_of stand ≡ stands self.old pid }
+        ensures { OnOk result ((taken : Take) → taken.after ≡ after
+            → raised 0 (flat_map seen taken.looks) ≡ highest → stands self.new
+            ≡ with_situation (stands self.old) pid (after_take (stands self.old pid) taken)) }
+    {
+        let Stand { process, floor, .. } = stand;
+        self.put(
+            pid,
+            Stand {
+                process,
+                domain: Some(after),
+                floor: floor.max(highest),
             },
         )
     }
