@@ -1,3 +1,6 @@
+use Rattle.std.proofs.Common.{◌∷◌, [], sym, subst}
+use Rattle.tm_types.specs.declared.step.Take.{Take}
+use Rattle.tm_steal_rows.specs.Playing.{Event, StealsOn}
 use Rattle.tm_steal_rows.proofs.Stealing.{steals-take}
 use Rattle.tm_steal_rows.proofs.played.play_at.Goals as goal
 
@@ -6,5 +9,6 @@ returns-clause-steals g c trace asked =
     let a = c.args in
     let begun = c.begin.ensures in
     let e = c.in_ok-take.ensures in
-    steals-take (g.S.Seat.opening a.seat.now) trace (g.S.Seat.opening c.begin.new.self) (g.S.Seat.at a.seat.now) (g.S.Seat.at c.begin.new.self) (g.S.Seat.at c.play_take.new.seat) (g.S.Seat.own a.seat.now) (g.S.Seat.own c.begin.new.self) (g.S.Seat.own c.play_take.new.seat) a.place a.since a.now a.request c.in_ok-take.take
-    begun.opening begun.at begun.own e.grows c.requires.since asked e.legal e.own e.makers e.fresh e.pid
+    subst (λ (taken : Take). StealsOn (g.S.Seat.opening a.seat.now) trace (g.S.Seat.at a.seat.now) (g.S.Seat.own a.seat.now) (g.S.Seat.at c.play_take.new.seat) (g.S.Seat.own c.play_take.new.seat) (Event.Take (record { place = a.place; stood = a.now; since = a.since; take = taken }) ∷ [])) (sym c.new.ensures)
+    (steals-take (g.S.Seat.opening a.seat.now) trace (g.S.Seat.opening c.begin.new.self) (g.S.Seat.at a.seat.now) (g.S.Seat.at c.begin.new.self) (g.S.Seat.at c.play_take.new.seat) (g.S.Seat.own a.seat.now) (g.S.Seat.own c.begin.new.self) (g.S.Seat.own c.play_take.new.seat) a.place a.since a.now a.request c.in_ok-take.take
+    begun.opening begun.at begun.own e.grows c.requires.since asked e.legal e.own e.makers e.fresh e.pid)
