@@ -1,23 +1,20 @@
 -- What is read of a reader to its end, where the reader tells what it has.
-use Rattle.std.specs.Prelude.{◌≡◌, ℕ, ◌-◌, ◌≤◌, ◌<◌, List, ◌++◌, length, ⊤, Option, Some, None, IfSome}
+use Rattle.std.specs.Prelude.{◌≡◌, ℕ, ◌≤◌, ◌<◌, List, ◌++◌, length, ⊤, Option, IfSome}
 use Rattle.tm_io.specs.declared.answers.Fetched.{Fetched}
 
--- the bytes that stood before and the bytes that were to be read are the bytes that stand now and
--- those that are still to be read
-abbrev pub IsReadOn : List ℕ → Option (List ℕ) → List ℕ → Option (List ℕ) → Type 0
-IsReadOn before None now left = ⊤
-IsReadOn before (Some bytes) now None = ⊥
-IsReadOn before (Some bytes) now (Some left) = before ++ bytes ≡ now ++ left
+-- what reading to the end says of what was to be read and of what was: done has read all of it,
+-- which isn't too much; too long is too much
+abbrev pub ReadsAll : Option (List ℕ) → Fetched → List ℕ → Type 0
+ReadsAll left Fetched.Done read = IfSome left (λ bytes. (bytes ≡ read) × (length bytes ≤ 16777216))
+ReadsAll left Fetched.Absent read = ⊥
+ReadsAll left Fetched.TooLong read = IfSome left (λ bytes. 16777216 < length bytes)
+ReadsAll left Fetched.Failed read = ⊤
+ReadsAll left Fetched.NoMemory read = IfSome left (λ bytes. length bytes ≤ 16777216)
 
--- there is room for so many bytes behind these
-abbrev pub room : List ℕ → ℕ
-room bytes = 16777216 - length bytes
-
--- what reading to the end says of what was to be read: done has appended all of it, and there was
--- room; too long is more than there was room for
-abbrev pub ReadsAll : ℕ → Option (List ℕ) → Fetched → List ℕ → List ℕ → Type 0
-ReadsAll most left Fetched.Done old new = IfSome left (λ bytes. (new ≡ old ++ bytes) × (length bytes ≤ most))
-ReadsAll most left Fetched.Absent old new = ⊥
-ReadsAll most left Fetched.TooLong old new = IfSome left (λ bytes. most < length bytes)
-ReadsAll most left Fetched.Failed old new = ⊤
-ReadsAll most left Fetched.NoMemory old new = ⊤
+-- what a fetch from a reader appends: at done what was read, else nothing
+abbrev pub ReadGives : Option (List ℕ) → Fetched → List ℕ → List ℕ → Type 0
+ReadGives left Fetched.Done old new = (read : List ℕ) × (new ≡ old ++ read) × ReadsAll left Fetched.Done read
+ReadGives left Fetched.Absent old new = (new ≡ old) × ReadsAll left Fetched.Absent old
+ReadGives left Fetched.TooLong old new = (new ≡ old) × ReadsAll left Fetched.TooLong old
+ReadGives left Fetched.Failed old new = (new ≡ old) × ReadsAll left Fetched.Failed old
+ReadGives left Fetched.NoMemory old new = (new ≡ old) × ReadsAll left Fetched.NoMemory old

@@ -1,7 +1,7 @@
 use Rattle.std.proofs.Common.{◌++◌, take}
 use Rattle.std.proofs.KnownBytes.{Appends-trans}
-use Rattle.tm_io.proofs.Streams.{front-moves}
-use Rattle.tm_io.proofs.system.write_all.Goals as goal
+use Rattle.tm_io.proofs.Reading.{front-moves}
+use Rattle.tm_io.proofs.streams.write_all.Goals as goal
 
 pub loop-preserved : goal.loop-preserved
 loop-preserved g c =
