@@ -1,5 +1,5 @@
 -- What is carried out after calls that changed nothing.
-use Rattle.std.proofs.Common.{◌≡◌, ◌∙◌, ◌≤◌, ap, take, ◌++◌, ◌∷◌, []}
+use Rattle.std.proofs.Common.{◌≡◌, ◌∙◌, ◌≤◌, ap, take}
 use Rattle.tm_io.specs.Files.{Files, SameFiles}
 use Rattle.tm_io.specs.Bytes.{then_bytes}
 use Rattle.tm_call.specs.declared.status.Status.{Status}
@@ -33,7 +33,7 @@ carried-after outcome old mid new (Status.WriteFault OutName.StandardOutput) qui
       rose = rose-earlier _ _ _ quiet.sink h.rose;
     }
 carried-after outcome old mid new (Status.WriteFault (OutName.File name)) quiet h =
-    ((record { made = h.0.0.made; text = h.0.0.text; rest = h.0.0.rest; at = h.0.0.at; files = leaves-after (take h.0.0.made outcome.stores ++ (name, h.0.0.text) ∷ []) old.files mid.files new.files quiet.files h.0.0.files }, rose-earlier _ _ _ quiet.shelf h.0.1), h.1 ∙ quiet.written)
+    ((record { made = h.0.0.made; bytes = h.0.0.bytes; at = h.0.0.at; files = leaves-after (take h.0.0.made outcome.stores) old.files mid.files new.files quiet.files h.0.0.files }, rose-earlier _ _ _ quiet.shelf h.0.1), h.1 ∙ quiet.written)
 carried-after outcome old mid new Status.OutOfMemory quiet h =
     ((h.0.0, leaves-after (take h.0.0 outcome.stores) old.files mid.files new.files quiet.files h.0.1), h.1 ∙ quiet.written)
 carried-after outcome old mid new (Status.BadWords place) quiet h = absurd h.0

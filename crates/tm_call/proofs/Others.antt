@@ -4,8 +4,7 @@ use Rattle.tm_io.specs.declared.names.FileName.{FileName}
 use Rattle.tm_io.specs.Names.{same_name}
 use Rattle.tm_io.specs.Files.{FileState, Files, changed}
 use Rattle.tm_call.specs.Fetches.{Texts}
-use Rattle.tm_call.specs.Stores.{stored, Leaves, IsCut, names_of, is_named}
-use Rattle.tm_call.proofs.Steps.{stored-more}
+use Rattle.tm_call.specs.Stores.{stored, Leaves, names_of, is_named}
 
 -- a store of another file
 pub changed-other : (other : FileName) (bytes : List ℕ) (name : FileName) (state : FileState) → same_name other name ≡ false → changed other bytes name state ≡ state
@@ -46,21 +45,6 @@ named-at (s ∷ stores) (suc made) name bytes self e = at (same_name s.0 name) (
     at : (b : Bool) → is_named (names_of stores) name ≡ true → (if b then true else is_named (names_of stores) name) ≡ true
     at true h = refl
     at false h = h
-
--- another name than that of a store of the list
-pub other-than : (stores : Texts) (made : ℕ) (named : FileName) (bytes : List ℕ) (name : FileName) → slice_get stores made ≡ Some (named, bytes) → is_named (names_of stores) name ≡ false → same_name named name ≡ false
-other-than [] made named bytes name at e = cc
-other-than (s ∷ stores) zero named bytes name at e =
-    let is : s ≡ (named, bytes) = cc in
-    let first = not-first (same_name s.0 name) (is_named (names_of stores) name) e in
-    ap (λ (x : FileName × List ℕ). same_name x.0 name) (sym is) ∙ first
-other-than (s ∷ stores) (suc made) named bytes name at e = other-than stores made named bytes name at (not-later (same_name s.0 name) (is_named (names_of stores) name) e)
-
--- a file that isn't stored, after a store that was cut
-pub cut-other : (stores : Texts) (old new : Files) (named name : FileName) → IsCut stores old new named → is_named (names_of stores) name ≡ false → new name ≡ old name
-cut-other stores old new named name cut e =
-    let other = other-than stores cut.made named (cut.text ++ cut.rest) name cut.at e in
-    cut.files name ∙ stored-more (take cut.made stores) (named, cut.text) name (old name) ∙ changed-other named cut.text name (stored (take cut.made stores) name (old name)) other ∙ stored-other-first stores cut.made name (old name) e
 
 pub leaves-other : (stores : Texts) (old new : Files) (name : FileName) → Leaves stores old new → is_named (names_of stores) name ≡ false → new name ≡ old name
 leaves-other stores old new name leaves e = leaves name ∙ stored-other stores name (old name) e

@@ -7,7 +7,7 @@ use Rattle.tm_io.specs.Causes.{Rose}
 use Rattle.tm_io.specs.Files.{FileState, Files, changed, SameFiles}
 use Rattle.tm_call.specs.declared.fetches.Want.{Want}
 use Rattle.tm_call.specs.Fetches.{Texts, Given, AllGiven, FetchCause, FetchStops}
-use Rattle.tm_call.specs.Stores.{stored, Leaves, IsCut}
+use Rattle.tm_call.specs.Stores.{stored, Leaves, IsStopped}
 use Rattle.tm_call.specs.declared.status.Status.{Status}
 
 -- a count that rose late rose
@@ -62,14 +62,13 @@ stops-at files mid wants k d texts a b c status lt given kept le cause =
     }
 
 -- a store that fails after others
-pub cut-at : (stores : Texts) (k : ℕ) (item : FileName × List ℕ) (old mid new : Files) (text rest : List ℕ) → k < length stores → item ≡ get_or stores k item → Leaves (take k stores) old mid → text ++ rest ≡ item.1 → ((name : FileName) → new name ≡ changed item.0 text name (mid name)) → IsCut stores old new item.0
-cut-at stores k item old mid new text rest lt is made parts store =
+pub stopped-at : (stores : Texts) (k : ℕ) (item : FileName × List ℕ) (old mid new : Files) → k < length stores → item ≡ get_or stores k item → Leaves (take k stores) old mid → SameFiles mid new → IsStopped stores old new item.0
+stopped-at stores k item old mid new lt is made same =
     record {
       made = k;
-      text = text;
-      rest = rest;
-      at = slice_get-get_or stores k item lt ∙ ap (λ (x : FileName × List ℕ). Some x) (sym is) ∙ ap (λ (bytes : List ℕ). Some (item.0, bytes)) (sym parts);
-      files = leaves-more (take k stores) item.0 text old mid new made store;
+      bytes = item.1;
+      at = slice_get-get_or stores k item lt ∙ ap (λ (x : FileName × List ℕ). Some x) (sym is);
+      files = λ name. same name ∙ made name;
     }
 
 -- the stores that were made, with one more

@@ -1,5 +1,5 @@
 -- What stores leave, all of them or the first ones.
-use Rattle.std.specs.Prelude.{◌≡◌, ℕ, Bool, true, false, List, [], ◌∷◌, ◌++◌, map, take, Some, slice_get, if◌then◌else◌}
+use Rattle.std.specs.Prelude.{◌≡◌, ℕ, Bool, true, false, List, [], ◌∷◌, map, take, Some, slice_get, if◌then◌else◌}
 use Rattle.tm_io.specs.declared.names.FileName.{FileName}
 use Rattle.tm_io.specs.Names.{same_name}
 use Rattle.tm_io.specs.Files.{FileState, Files, changed}
@@ -16,17 +16,16 @@ stored (store ∷ stores) name state = stored stores name (changed store.0 store
 abbrev pub Leaves : Texts → Files → Files → Type 0
 Leaves stores old new = (name : FileName) → new name ≡ stored stores name (old name)
 
--- a fault at a store: those before it were made, and its file holds a prefix
-pub record IsCut (stores : Texts) (old new : Files) (name : FileName) : Type 0 where
+-- a fault at a store: those before it were made, and nothing else has changed
+pub record IsStopped (stores : Texts) (old new : Files) (name : FileName) : Type 0 where
   pub made : ℕ
-  pub text : List ℕ
-  pub rest : List ℕ
-  pub at : slice_get stores made ≡ Some (name, text ++ rest)
-  pub files : Leaves (take made stores ++ (name, text) ∷ []) old new
+  pub bytes : List ℕ
+  pub at : slice_get stores made ≡ Some (name, bytes)
+  pub files : Leaves (take made stores) old new
 
 -- how stores stop
 abbrev pub StoreStops : Texts → Files → Files → Type 0 → Status → Type 0
-StoreStops stores old new rose (Status.WriteFault (OutName.File name)) = IsCut stores old new name × rose
+StoreStops stores old new rose (Status.WriteFault (OutName.File name)) = IsStopped stores old new name × rose
 StoreStops stores old new rose Status.OutOfMemory = (made : ℕ) × Leaves (take made stores) old new
 StoreStops stores old new rose _ = ⊥
 

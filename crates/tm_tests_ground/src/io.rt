@@ -2,9 +2,9 @@
 use std::alloc::Global;
 use std::io::Write;
 use std::test::Fail;
-use std::{fs, io};
+use std::io;
 use tm_io::{
-    Fetched, FileList, FileName, FolderShelf, MemoryShelf, MemorySink, OutSink, Shelf, Sink, Stored,
+    Fetched, FileList, FileName, MemoryShelf, MemorySink, OutSink, Shelf, Sink, Stored,
 };
 use tm_list::NoMemory;
 use tm_word::Text;
@@ -71,7 +71,7 @@ fn memory_shelf_fetches_and_stores(rt: HostRuntime) -> Result<(), Fail> {
     assert!(rt; shelf.store(FileName::Run, b"first") == Stored::Done);
     assert_eq!(rt; shelf.get(FileName::Run), Some(b"first".as_slice()));
     assert!(rt; shelf.store(FileName::Run, b"second") == Stored::Failed);
-    assert_eq!(rt; shelf.get(FileName::Run), Some(b"sec".as_slice()));
+    assert_eq!(rt; shelf.get(FileName::Run), Some(b"first".as_slice()));
     assert_eq!(rt; shelf.get(FileName::Profile), Some(b"abc".as_slice()));
     assert_eq!(rt; shelf.get(FileName::Audit).is_none(), true);
     Ok(())
@@ -85,25 +85,6 @@ fn memory_sink_appends(rt: HostRuntime) -> Result<(), Fail> {
     assert!(rt; sink.put(b"cdef") == Stored::Failed);
     assert!(rt; sink.put(b"g") == Stored::Done);
     assert_eq!(rt; sink.bytes(), b"abcdg".as_slice());
-    Ok(())
-}
-
-#[test]
-fn folder_shelf_fetches_what_it_stored(rt: HostRuntime) -> Result<(), Fail> {
-    let alloc = rt.alloc();
-    let mut shelf = FolderShelf::new(&rt, alloc, String::from_str(alloc, ".")?);
-    let mut out = vec![in alloc; b'-']?;
-    assert!(rt; shelf.fetch(FileName::Audit2, &mut out) == Fetched::Absent);
-    assert!(rt; shelf.store(FileName::Audit2, b"a text") == Stored::Done);
-    assert!(rt; shelf.fetch(FileName::Audit2, &mut out) == Fetched::Done);
-    assert_eq!(rt; out.as_slice(), b"-a text".as_slice());
-    let long = vec![in alloc; 0u8; 16_777_217]?;
-    assert!(rt; shelf.store(FileName::Audit2, &long) == Stored::Done);
-    assert!(rt; shelf.fetch(FileName::Audit2, &mut out) == Fetched::TooLong);
-    assert_eq!(rt; out.len(), 7);
-    fs::remove_file(&rt, "audit2")?;
-    let mut nowhere = FolderShelf::new(&rt, alloc, String::from_str(alloc, "./no_such_folder")?);
-    assert!(rt; nowhere.store(FileName::Run, b"x") == Stored::Failed);
     Ok(())
 }
 
@@ -133,42 +114,6 @@ fn out_sink_writes_all_or_fails(rt: HostRuntime) -> Result<(), Fail> {
     assert!(rt; sink.put(b"abcde") == Stored::Done);
     assert!(rt; sink.put(b"abcde") == Stored::Failed);
     assert!(rt; sink.put(b"") == Stored::Done);
-    Ok(())
-}
-
-#[test]
-fn a_folder_has_files_up_to_the_limit(rt: HostRuntime) -> Result<(), Fail> {
-    let alloc = rt.alloc();
-    let mut shelf = FolderShelf::new(&rt, alloc, String::from_str(alloc, ".")?);
-    let mut bytes = vec![in alloc; b'x'; 16_777_216]?;
-    let mut out = vec![in alloc; b'-']?;
-    assert!(rt; shelf.store(FileName::Run2, &bytes) == Stored::Done);
-    assert!(rt; shelf.fetch(FileName::Run2, &mut out) == Fetched::Done);
-    assert_eq!(rt; out.len(), 16_777_217);
-    assert!(rt; out[1..] == bytes[..]);
-    bytes.push(b'y')?;
-    assert!(rt; shelf.store(FileName::Run2, &bytes) == Stored::Done);
-    assert!(rt; shelf.fetch(FileName::Run2, &mut out) == Fetched::TooLong);
-    assert_eq!(rt; out.len(), 16_777_217);
-    assert_eq!(rt; shelf.faults(), 0);
-    fs::remove_file(&rt, "run2")?;
-    Ok(())
-}
-
-#[test]
-fn a_folder_in_a_files_place_is_a_fault(rt: HostRuntime) -> Result<(), Fail> {
-    let alloc = rt.alloc();
-    let mut shelf = FolderShelf::new(&rt, alloc, String::from_str(alloc, ".")?);
-    fs::create_dir(&rt, "manager")?;
-    let mut out = vec![in alloc; b'-']?;
-    assert!(rt; shelf.fetch(FileName::Manager, &mut out) == Fetched::Failed);
-    assert_eq!(rt; shelf.faults(), 1);
-    assert_eq!(rt; out.as_slice(), b"-".as_slice());
-    assert!(rt; shelf.store(FileName::Manager, b"x") == Stored::Failed);
-    assert_eq!(rt; shelf.faults(), 2);
-    fs::remove_dir(&rt, "manager")?;
-    assert!(rt; shelf.fetch(FileName::Manager, &mut out) == Fetched::Absent);
-    assert_eq!(rt; shelf.faults(), 2);
     Ok(())
 }
 

@@ -8,6 +8,8 @@
 #[cfg(test)]
 mod addr;
 #[cfg(test)]
+mod disks;
+#[cfg(test)]
 mod io;
 #[cfg(test)]
 mod list;

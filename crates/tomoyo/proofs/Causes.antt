@@ -56,7 +56,7 @@ carried-cause : (command : Command) (old new : Outside) (texts : Texts) (outcome
 carried-cause command old new texts outcome Status.Done allowed h = tt
 carried-cause command old new texts outcome (Status.ReadFault name) allowed h = absurd h.0
 carried-cause command old new texts outcome (Status.WriteFault (OutName.File name)) allowed h =
-    (h.0.1, named-by command (names_of outcome.stores) name (names-allowed command texts outcome allowed) (named-at outcome.stores h.0.0.made name (h.0.0.text ++ h.0.0.rest) (self-same name) h.0.0.at), h.1)
+    (h.0.1, named-by command (names_of outcome.stores) name (names-allowed command texts outcome allowed) (named-at outcome.stores h.0.0.made name h.0.0.bytes (self-same name) h.0.0.at), h.1)
 carried-cause command old new texts outcome (Status.WriteFault OutName.StandardOutput) allowed h = h.rose
 carried-cause command old new texts outcome Status.OutOfMemory allowed h = h.1
 carried-cause command old new texts outcome (Status.BadWords place) allowed h = absurd h.0

@@ -31,7 +31,7 @@ use Rattle.tomoyo.specs.Sort.{part_store, sort_reading}
 use Rattle.tomoyo.specs.Call.{wants_of, stored_by, step_stores, rerun_stores, learn_stores, with_stores, policy_stores, MakesPlayed, MakesLearned, Refuses, Allows, IsPlayed, IsLearned, IsGenerated, IsShown, IsJudged, IsSorted, HasDone}
 use Rattle.tomoyo.proofs.Refusals.{refusal-kind}
 use Rattle.tomoyo.proofs.Named.{names-allowed, unnamed-by}
-use Rattle.tm_call.proofs.Others.{changed-other, not-first, not-later, stored-other, leaves-other, cut-other, first-other, self-same}
+use Rattle.tm_call.proofs.Others.{changed-other, not-first, not-later, stored-other, leaves-other, first-other, self-same}
 use Rattle.tm_call.proofs.Told.{texts-told}
 use Rattle.tm_call.specs.Fetches.{content}
 use Rattle.tm_call.specs.declared.status.What.{What}
@@ -52,7 +52,7 @@ use Rattle.tomoyo.proofs.Sorted.{Rising, filter-rising, changed-self, all-stored
 carried-others : (old new : Outside) (outcome : Outcome) (status : Status) (name : FileName) → CarriedOut outcome old new status → is_named (names_of outcome.stores) name ≡ false → new.files name ≡ old.files name
 carried-others old new outcome Status.Done name h e = leaves-other outcome.stores old.files new.files name h.0 e
 carried-others old new outcome (Status.ReadFault named) name h e = absurd h.0
-carried-others old new outcome (Status.WriteFault (OutName.File named)) name h e = cut-other outcome.stores old.files new.files named name h.0.0 e
+carried-others old new outcome (Status.WriteFault (OutName.File named)) name h e = first-other outcome.stores h.0.0.made old.files new.files name h.0.0.files e
 carried-others old new outcome (Status.WriteFault OutName.StandardOutput) name h e = leaves-other outcome.stores old.files new.files name h.files e
 carried-others old new outcome Status.OutOfMemory name h e = first-other outcome.stores h.0.0 old.files new.files name h.0.1 e
 carried-others old new outcome (Status.BadWords place) name h e = absurd h.0

@@ -16,7 +16,7 @@ use std::rt::Runtime;
 use std::sync::Wait;
 use std::thread::Threads;
 use tm_engine::gate::NoGate;
-use tm_io::{FolderShelf, OutSink, Sink, Stored};
+use tm_io::{DiskShelf, Folder, OutSink, Sink, Stored};
 use tomoyo::{OutName, Status, run};
 
 // Prints a text that was asked for by `--help` or `--version`.
@@ -37,7 +37,7 @@ fn answer<R: Runtime + Threads + Wait + Sync>(rt: &R, alloc: Global) -> Status {
         Asked::Help(topic) => show(rt, help_text(topic)),
         Asked::Version => show(rt, VERSION),
         Asked::Command => {
-            let mut shelf = FolderShelf::new(rt, alloc, line.folder);
+            let mut shelf = DiskShelf::new(Folder::new(rt, alloc, line.folder));
             let mut out = OutSink::new(io::writer(rt));
             run(rt, alloc, &line.words, &mut shelf, &mut out, &NoGate)
         }

@@ -4,15 +4,14 @@ use Rattle.tm_io.specs.Files.{changed}
 use Rattle.tm_io.specs.Notes.{Noted}
 use Rattle.tm_call.specs.Stores.{names_of}
 use Rattle.tm_call.specs.Calls.{LastCall}
-use Rattle.tm_call.proofs.Steps.{rose-earlier, cut-at, leaves-at}
+use Rattle.tm_call.proofs.Steps.{rose-earlier, stopped-at, leaves-at}
 use Rattle.tm_call.proofs.Calls.{none-after, last-at, noted-at, first-last}
 use Rattle.tm_call.proofs.carry.store_all.Goals as goal
 
 pub returns-in-Failed-clause-stops : goal.returns-in-Failed-clause-stops
 returns-in-Failed-clause-stops g c =
-    let lt : c.loop-name.name-index < length c.args.stores.now = omega arith in
-    let leaves = c.in-Failed.ensures.leaves in (
-      cut-at c.args.stores.now c.loop-name.name-index c.loop-name-item.result (g.S.Shelf.file c.args.shelf.now) (g.S.Shelf.file c.loop-name.shelf) (g.S.Shelf.file c.store.new.self) leaves.0 leaves.1 lt c.loop-name-item.is c.loop-name.invariant.made (leaves.2 ∙ c.bytes.ensures) leaves.3,
+    let lt : c.loop-name.name-index < length c.args.stores.now = omega arith in (
+      stopped-at c.args.stores.now c.loop-name.name-index c.loop-name-item.result (g.S.Shelf.file c.args.shelf.now) (g.S.Shelf.file c.loop-name.shelf) (g.S.Shelf.file c.store.new.self) lt c.loop-name-item.is c.loop-name.invariant.made c.in-Failed.ensures.leaves,
       rose-earlier _ _ _ c.loop-name.invariant.counts (c.in-Failed.ensures.cause refl),
     )
 
