@@ -8,11 +8,16 @@ import difflib
 import os
 import shlex
 import shutil
+import signal
 import subprocess
 
 TOP = os.path.dirname(os.path.dirname(os.path.abspath(__file__)))
 COMMANDS = ("tomoyo", "tools/on_a_terminal", "crates/tomoyo_run/out/tomoyo_run",
             "crates/tomoyo_trace/out/tomoyo_trace")
+
+# The seconds after which a session counts as one that waits for ever. However busy the machine is,
+# no other one takes as long.
+EVER = 7200
 
 
 def read(path):
@@ -59,10 +64,15 @@ class Room:
         script = os.path.join(self.path, "script")
         with open(script, "w", encoding="utf-8", errors="surrogateescape") as file:
             file.write(script_of(session))
-        ran = subprocess.run(["bash", script], cwd=folder, env=self.environment, check=False,
-                             stdin=subprocess.DEVNULL, stdout=subprocess.PIPE,
-                             stderr=subprocess.STDOUT)
-        return ran.stdout.decode("utf-8", "surrogateescape")
+        ran = subprocess.Popen(["bash", script], cwd=folder, env=self.environment,
+                               stdin=subprocess.DEVNULL, stdout=subprocess.PIPE,
+                               stderr=subprocess.STDOUT, start_new_session=True)
+        try:
+            put, more = ran.communicate(timeout=EVER)[0], ""
+        except subprocess.TimeoutExpired:
+            os.killpg(ran.pid, signal.SIGKILL)
+            put, more = ran.communicate()[0], "no end within %d s\n" % EVER
+        return put.decode("utf-8", "surrogateescape") + more
 
     def fault(self, session, folder, is_page=False):
         """How what the commands of a session put differs from it, or None. A page can't show empty
