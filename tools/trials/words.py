@@ -1,16 +1,11 @@
-#!/usr/bin/env python3
-"""Tries the words that tell of plays on bad input: bad_inputs PROGRAM [--count N] [--seed S]
+"""Tries the words that tell of plays on bad input.
 
 Plays a case of view/cases, and calls each word in copies of its folder in which something is wrong:
-a file is missing, empty, a folder, a pipe without an end, cut, binary, of another play, or
-too long; the words are faulty; standard output is full or closed; the program isn't there or is
-another one. With --count so many files more are damaged at random places. Each call has to end
-within the seconds given below, with one of the statuses of its word, with one line on standard
-error where it isn't done, and with all files as they were.
-Prints how many calls ended with each status, and each that didn't keep to this; the exit status is
-1 where one is."""
-import argparse
-import collections
+a file is missing, empty, a folder, a pipe without an end, cut, binary, of another play, or too
+long; the words are faulty; standard output is full or closed; the program isn't there or is another
+one. With --count so many files more are damaged at random places. Each call has to end within 60
+seconds, with one of the statuses of its word, with one line on standard error where it isn't done,
+and with all files as they were."""
 import os
 import random
 import shutil
@@ -18,26 +13,22 @@ import subprocess
 import sys
 import tempfile
 
-TOP = os.path.dirname(os.path.dirname(os.path.abspath(__file__)))
+from calls import TOP, Tally, call, read, write
+
 WORDS = ("why", "suggest", "tree", "curve", "unused", "check")
 INPUTS = ("profile", "exception_policy", "domain_policy", "manager", "trace", "edits", "schedule")
 STORED = ("run", "profile.new", "exception_policy.new", "domain_policy.new", "manager.new")
 DONE = {"why": (0, 2), "suggest": (0, 2), "check": (0, 5, 6)}
 REFUSED = (1, 10, 65, 66, 70)
-SECONDS = 60
 FAULTY = (["why", "x"], ["why", "0"], ["why", "-1"], ["why", "9" * 30], ["why", "1", "1", "\u0663"],
           ["why", "12"], ["suggest", "x"], ["tree", "--png"], ["tree", "x", "y"], ["curve", "1"],
           ["unused", "-"], ["check", "domain_policy"], ["whi"], [], ["help", "me"])
+PUT = [b"99999999999999999999", b"-1", b"x", b" ", b"\n", b"<", b"\\"]
 
 
-def read(path):
-    with open(path, "rb") as file:
-        return file.read()
-
-
-def write(path, text):
-    with open(path, "wb") as file:
-        file.write(text)
+def add_words(parser):
+    parser.add_argument("--count", type=int, default=0)
+    parser.add_argument("--seed", type=int, default=1)
 
 
 def told(folder):
@@ -49,44 +40,40 @@ def told(folder):
     return found
 
 
+def fault_of(line, ended):
+    """What is wrong with how a call ended, or None."""
+    if ended.status == "late":
+        return ended.line()
+    is_done = ended.status in DONE.get(line[0] if line else "", (0,))
+    if not is_done and ended.status not in REFUSED:
+        return "status %d: %s" % (ended.status, ended.line())
+    if not is_done and (ended.said.count(b"\n") != 1 or not ended.said.startswith(b"tomoyo: ")):
+        return "not one line is said: %s" % ended.line()
+    return None
+
+
 class Tried:
-    """The calls, and what they didn't keep to."""
+    """The calls in copies of a folder."""
 
     def __init__(self, program, base):
         self.program = program
         self.base = base
-        self.ended = collections.Counter()
-        self.bad = 0
+        self.tally = Tally()
 
-    def fault(self, line, before, after, ran):
-        """What is wrong with how a call ended, or None."""
-        said = ran.stderr.decode("utf-8", "replace")
-        done = ran.returncode in DONE.get(line[0] if line else "", (0,))
-        if not done and ran.returncode not in REFUSED:
-            return "status %d: %s" % (ran.returncode, said.strip()[-300:])
-        if not done and (said.count("\n") != 1 or not said.startswith("tomoyo: ")):
-            return "not one line is said: %s" % said.strip()[-300:]
-        return None if before == after else "files are changed"
-
-    def call(self, what, line, damage, program=None, stdout=subprocess.DEVNULL):
+    def call(self, what, line, damage, program=None, stdout=subprocess.DEVNULL, **more):
         """One call in a copy of the folder that `damage` has changed."""
         with tempfile.TemporaryDirectory() as room:
             folder = os.path.join(room, "here")
             shutil.copytree(self.base, folder)
             damage(folder)
             before = told(folder)
-            environment = dict(os.environ, TOMOYO_RUN=program or self.program)
-            words = [sys.executable, "-I", "-B", os.path.join(TOP, "view"), *line]
-            try:
-                ran = subprocess.run(words, cwd=folder, env=environment, stdout=stdout,
-                                     stderr=subprocess.PIPE, timeout=SECONDS, check=False)
-                fault = self.fault(line, before, told(folder), ran)
-                self.ended[ran.returncode] += 1
-            except subprocess.TimeoutExpired:
-                fault = "no end in %d s" % SECONDS
-        if fault:
-            self.bad += 1
-            print("%s, %s: %s" % (" ".join(line), what, fault))
+            ended = call([sys.executable, "-I", "-B", os.path.join(TOP, "view"), *line], folder,
+                         stdout=stdout, **more,
+                         env=dict(os.environ, TOMOYO_RUN=program or self.program))
+            fault = fault_of(line, ended)
+            if not fault and before != told(folder):
+                fault = "files are changed"
+        self.tally.count(ended.status, "%s, %s" % (" ".join(line), what), fault)
 
     def words(self, what, damage, **more):
         for word in WORDS:
@@ -114,6 +101,10 @@ def made(name, make):
     return damage
 
 
+def keep(_):
+    """Nothing is wrong with the files."""
+
+
 def sparse(path):
     with open(path, "wb") as file:
         file.truncate(1 << 30)
@@ -128,8 +119,7 @@ def damaged(draw, text):
     if kind == 1:
         return text[:at] + text[at + draw.randrange(1, 9):]
     if kind == 2:
-        number = draw.choice([b"99999999999999999999", b"-1", b"x", b" ", b"\n", b"<", b"\\"])
-        return text[:at] + number + text[at:]
+        return text[:at] + draw.choice(PUT) + text[at:]
     lines = text.splitlines(keepends=True) or [b""]
     place = draw.randrange(len(lines))
     if kind == 3:
@@ -161,14 +151,12 @@ def read_other(folder, name):
 
 def try_calls(tried):
     """The files are right, and the call is wrong."""
-    def keep(_):
-        """Nothing is wrong with the files."""
-
     tried.words("all right", keep)
     for line in FAULTY:
         tried.call("faulty words", line, keep)
     with open("/dev/full", "wb") as full:
         tried.words("full standard output", keep, stdout=full)
+    tried.words("closed standard output", keep, preexec_fn=lambda: os.close(1))
     for program in ("/nonexistent", "/bin/false", "/bin/true", "/bin/cat", TOP):
         tried.words("the program is %s" % program, keep, program=program)
 
@@ -180,30 +168,17 @@ def play(program, case, folder):
     subprocess.run([program, "-C", folder, "step"], stdout=subprocess.DEVNULL, check=True)
 
 
-def main():
-    words = argparse.ArgumentParser()
-    words.add_argument("program")
-    words.add_argument("--count", type=int, default=0)
-    words.add_argument("--seed", type=int, default=1)
-    words = words.parse_args()
+def run(words):
     draw = random.Random(words.seed)
     with tempfile.TemporaryDirectory() as work:
         base, other = os.path.join(work, "edits"), os.path.join(work, "names")
-        program = os.path.abspath(words.program)
-        play(program, "edits", base)
-        play(program, "names", other)
-        tried = Tried(program, base)
+        play(words.program, "edits", base)
+        play(words.program, "names", other)
+        tried = Tried(words.program, base)
         try_calls(tried)
         try_files(tried, other)
         for number in range(words.count):
             name = draw.choice(INPUTS + STORED)
             text = damaged(draw, read(os.path.join(base, name)))
             tried.words("%s damaged, number %d" % (name, number), replaced(name, text))
-    total = sum(tried.ended.values())
-    print("calls %d, " % total + ", ".join("%d with status %d" % (tried.ended[it], it)
-                                           for it in sorted(tried.ended)))
-    print("%d calls didn't keep to this" % tried.bad)
-    return 1 if tried.bad else 0
-
-
-sys.exit(main())
+    return tried.tally.tell("calls")
