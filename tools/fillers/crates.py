@@ -1,20 +1,16 @@
-#!/usr/bin/env python3
-"""Draws the crates by rows: draw_crates [--check] PAGE, or draw_crates --svg
+"""The crates by rows.
 
 A crate stands in the row above the highest crate that it stands on, by crates.txt. Behind the line
 `<!-- crates by rows -->` of the page stand the rows, the highest first, and behind each crate those
-that it stands on, without those that another of them stands on already. With --check nothing is
-written, and other rows end it with status 1. With --svg a picture of the same goes to standard
-output.
+that it stands on, without those that another of them stands on already.
 
 The first block of the page is a map, written by hand: each crate stands there once, at the
-beginning of a line, below all that it stands on, and set in below one of them. The first that
-doesn't ends this with status 1."""
+beginning of a line, below all that it stands on, and set in below one of them."""
 import os
 import re
-import sys
 
-TOP = os.path.dirname(os.path.dirname(os.path.abspath(__file__)))
+from pages import Fault, TOP
+
 MARK = "<!-- crates by rows -->"
 HIGH, WIDE, GAP = 60, 132, 14
 
@@ -68,8 +64,18 @@ def drawn(crates):
     return ["```", *lines, "```"]
 
 
-def filled(page, crates):
-    lines = page.split("\n")
+def listed():
+    """The crates of crates.txt."""
+    with open(os.path.join(TOP, "crates.txt"), encoding="utf-8") as file:
+        return Crates(file.read())
+
+
+def filled(page, _):
+    """A page with the rows, whose map is right."""
+    crates, lines = listed(), page.split("\n")
+    fault = misplaced(page, crates)
+    if fault:
+        raise Fault("in the map %s" % fault)
     begin = lines.index(MARK) + 1
     first = lines.index("```", begin)
     end = lines.index("```", first + 1)
@@ -97,9 +103,9 @@ def misplaced(page, crates):
     return "%s isn't there" % min(left) if left else None
 
 
-def picture(crates):
+def picture():
     """The rows as a picture."""
-    place, shapes = {}, []
+    crates, place, shapes = listed(), {}, []
     rows = crates.by_rows()
     for row, names in rows:
         for at, name in enumerate(names):
@@ -117,27 +123,3 @@ def picture(crates):
     size = 60 + max(x for x, _ in place.values()) + WIDE, 60 + rows[0][0] * HIGH
     head = '<svg xmlns="http://www.w3.org/2000/svg" width="%d" height="%d"' % size
     return "\n".join([head + ' font-family="sans-serif" font-size="12">', *shapes, "</svg>"])
-
-
-def main(words):
-    with open(os.path.join(TOP, "crates.txt"), encoding="utf-8") as file:
-        crates = Crates(file.read())
-    if words == ["--svg"]:
-        print(picture(crates))
-        return
-    is_check = words[:1] == ["--check"]
-    [page] = words[is_check:]
-    with open(page, encoding="utf-8") as file:
-        before = file.read()
-    after = filled(before, crates)
-    if is_check and after != before:
-        sys.exit("%s draws other crates than crates.txt; tools/draw_crates fills it" % page)
-    if not is_check:
-        with open(page, "w", encoding="utf-8") as file:
-            file.write(after)
-    fault = misplaced(after, crates)
-    if fault:
-        sys.exit("%s: in the map %s" % (page, fault))
-
-
-main(sys.argv[1:])

@@ -1,16 +1,14 @@
-#!/usr/bin/env python3
-"""Fills a page's quotes of definitions: quote_definitions [--check] PAGE
+"""Quotes of definitions.
 
 Behind a line `<!-- definition: CRATE MODULE NAME -->` of the page stands, indented, what
 `crates/CRATE/specs/MODULE.antt` has of NAME: its type and its equations, or its fields, without
 `pub` and the words before it. A definition that has moved into a module of that name in another
-crate has that crate in its line again. With --check nothing is written, and a page that differs
-ends it with status 1."""
+crate has that crate in its line again."""
 import os
 import re
-import sys
 
-TOP = os.path.dirname(os.path.dirname(os.path.abspath(__file__)))
+from pages import Fault, TOP
+
 MARK = re.compile(r"<!-- definition: (\S+) (\S+) (\S+) -->")
 
 
@@ -62,12 +60,12 @@ def definition(crate, module, name):
              for other in sorted(os.listdir(crates))]
     found = [(other, lines) for other, lines in found if lines]
     if len(found) != 1:
-        sys.exit("quote_definitions: no crate alone has %s of the module %s" % (name, module))
+        raise Fault("no crate alone has %s of the module %s" % (name, module))
     return found[0]
 
 
-def filled(page):
-    """The lines of a page, with each quote as the sources have it."""
+def filled(page, _):
+    """A page with each quote as the sources have it."""
     out, is_quote = [], False
     for line in page.split("\n"):
         mark = MARK.fullmatch(line)
@@ -80,19 +78,3 @@ def filled(page):
             is_quote = False
             out.append(line)
     return "\n".join(out)
-
-
-def main(words):
-    is_check = words[:1] == ["--check"]
-    [page] = words[is_check:]
-    with open(page, encoding="utf-8") as file:
-        before = file.read()
-    after = filled(before)
-    if is_check and after != before:
-        sys.exit("%s quotes what the sources don't say; tools/quote_definitions fills it" % page)
-    if not is_check:
-        with open(page, "w", encoding="utf-8") as file:
-            file.write(after)
-
-
-main(sys.argv[1:])

@@ -1,14 +1,12 @@
-#!/usr/bin/env python3
-"""Counts the lines of code that no contract describes: count_trusted [--check] PAGE
+"""The lines of code that no contract describes.
 
 Behind the line `<!-- trusted lines -->` of the page stands a table of these parts of the sources
-with their lines: those that have code, without comments, attributes, imports and ghost code. With
---check nothing is written, and another table ends it with status 1."""
+with their lines: those that have code, without comments, attributes, imports and ghost code."""
 import os
 import re
-import sys
 
-TOP = os.path.dirname(os.path.dirname(os.path.abspath(__file__)))
+from pages import Fault, TOP
+
 MARK = "<!-- trusted lines -->"
 NO_CODE = ("//", "#", "use ", "ghost ", "mod ", "ensures", "requires")
 READING = ("fn word_at", "fn words_from", "fn folder_at", "fn is_folder_option", "fn read_line")
@@ -36,7 +34,7 @@ def items(path, lines, heads):
         begin = next((at for at, line in enumerate(lines)
                       if re.match(r"(pub )?%s" % re.escape(head), line)), None)
         if begin is None:
-            sys.exit("count_trusted: %s has no %s" % (path, head))
+            raise Fault("%s has no %s" % (path, head))
         end = next(at for at in range(begin, len(lines)) if lines[at] == "}")
         found += lines[begin:end + 1]
     return found
@@ -54,25 +52,10 @@ def table():
     return ["| File | What | Lines |", "|---|---|---|", *rows, "| all | | %d |" % total]
 
 
-def filled(page):
+def filled(page, _):
+    """A page with the table."""
     lines = page.split("\n")
     begin = lines.index(MARK) + 1
     end = next(at for at in range(begin, len(lines))
                if lines[at].strip() and not lines[at].startswith("|"))
     return "\n".join(lines[:begin] + ["", *table(), ""] + lines[end:])
-
-
-def main(words):
-    is_check = words[:1] == ["--check"]
-    [page] = words[is_check:]
-    with open(page, encoding="utf-8") as file:
-        before = file.read()
-    after = filled(before)
-    if is_check and after != before:
-        sys.exit("%s counts other lines than there are; tools/count_trusted fills it" % page)
-    if not is_check:
-        with open(page, "w", encoding="utf-8") as file:
-            file.write(after)
-
-
-main(sys.argv[1:])
