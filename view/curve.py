@@ -4,15 +4,17 @@ Tells how many lines and domains each tenth of the requests of a play added to
 the policy. Where the last tenths still add as many as the first ones, a longer
 recording would teach more.
 
-Reads    run, as a play has stored it
+Reads    run, as a play has stored it, and the files that the play has read;
+         they have to be those of one play
 Stores   nothing
 Prints   a line for each tenth, and one for all
 
-Exit statuses: 0 done; 1 bad words; 65 run is none, 66 it is missing or can't be
-read.
+Exit statuses: 0 done; 1 bad words; 65 the files aren't those of one play,
+66 one is missing or can't be read.
 """
-from runs import read_run
-from texts import BAD_WORDS, Stop, read
+from engine import Engine
+from plays import stored_run
+from texts import BAD_WORDS, Stop
 
 PARTS, WIDE = 10, 40
 
@@ -40,7 +42,7 @@ def curve(run):
 def main(line):
     if line:
         raise Stop("curve takes no words", BAD_WORDS)
-    parts = curve(read_run(read("run")))
+    parts = curve(stored_run(Engine()))
     most = max([lines for _, _, lines, _ in parts] + [1])
     print("%15s %8s %8s" % ("requests", "lines", "domains"))
     for first, last, lines, domains in parts:

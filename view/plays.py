@@ -4,7 +4,23 @@ from history import History, Numbered, domains_of, edited_lines, other_files
 from policies import read_domains, read_groups, stored
 from runs import read_run
 from texts import MIXED, Stop, read
-from traces import read_trace
+from traces import asking, read_trace
+
+
+def check_trace(run, asking):
+    """Ends where a run hasn't a take of each of these processes' requests."""
+    if asking != [take.pid for take in run.takes]:
+        raise other_files("trace")
+
+
+def stored_run(engine):
+    """The run of the folder, which is one of the folder's files: that it has a take of each request
+    is seen here, and all else by the program, where that is there."""
+    run = read_run(read("run"))
+    check_trace(run, asking(read("trace")))
+    if engine.is_there():
+        engine.judge_run()
+    return run
 
 
 class StoredPlay:
@@ -15,18 +31,13 @@ class StoredPlay:
         self.trace_text = read("trace")
         self.trace = read_trace(self.trace_text)
         self.files = policy_files()
-        self.check_trace()
+        check_trace(self.run, [request.pid for request in self.trace.asked])
+        engine.judge_run()
         self.names = Numbered(domains_of(self.files["domain_policy"]), self.run.steps)
         self.names.finish()
         self.opening = engine.opening(self.files)
         self.history = History(domains_of(self.files["domain_policy"]), self.opening,
                                self.run.steps, engine.normal_lines(edited_lines(self.run.steps)))
-
-    def check_trace(self):
-        """The run has a take of each request."""
-        asked = [request.pid for request in self.trace.asked]
-        if asked != [take.pid for take in self.run.takes]:
-            raise other_files("trace")
 
     def asked(self, take):
         """What a take is of."""
