@@ -1,4 +1,6 @@
 """The play that is stored in the folder, with all that it was played of."""
+from functools import cached_property
+
 from engine import policy_files
 from history import History, Numbered, domains_of, edited_lines, other_files
 from policies import read_domains, read_groups, stored
@@ -24,20 +26,36 @@ def stored_run(engine):
 
 
 class StoredPlay:
-    """A stored run, the trace and the policy that it is of, and that policy's history."""
+    """A stored run, the trace and the policy that it is of, and that policy's history, which is
+    made where it is asked for."""
 
     def __init__(self, engine):
+        self.engine = engine
         self.run = read_run(read("run"))
         self.trace_text = read("trace")
         self.trace = read_trace(self.trace_text)
         self.files = policy_files()
         check_trace(self.run, [request.pid for request in self.trace.asked])
         engine.judge_run()
-        self.names = Numbered(domains_of(self.files["domain_policy"]), self.run.steps)
-        self.names.finish()
-        self.opening = engine.opening(self.files)
-        self.history = History(domains_of(self.files["domain_policy"]), self.opening,
-                               self.run.steps, engine.normal_lines(edited_lines(self.run.steps)))
+
+    @cached_property
+    def names(self):
+        """The domains by number, after all steps."""
+        names = Numbered(domains_of(self.files["domain_policy"]), self.run.steps)
+        names.finish()
+        return names
+
+    @cached_property
+    def opening(self):
+        """The policy that the play began with."""
+        return self.engine.opening(self.files)
+
+    @cached_property
+    def history(self):
+        """That policy, to which the steps are made."""
+        normal = self.engine.normal_lines(edited_lines(self.run.steps))
+        return History(domains_of(self.files["domain_policy"]), self.opening, self.run.steps,
+                       normal)
 
     def asked(self, take):
         """What a take is of."""
