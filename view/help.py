@@ -13,7 +13,9 @@ SOURCE = os.path.join(TOP, "crates", "tomoyo_run", "src", "command_line.rt")
 MORE = """
 On a play that is stored in the folder, the script `tomoyo` tells more:
 
-  why [N ..]    why requests were denied, or what became of those of these numbers
+  why [--short | N ..]
+                why requests were denied, and what made the run unclean;
+                or what became of the requests of these numbers
   suggest       the lines that would grant what was denied
   tree [--svg]  the domains as a tree, with what they were asked, or as a picture
   curve         what each tenth of the requests added: was the recording long?
