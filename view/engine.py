@@ -1,12 +1,16 @@
 """The program that decides, asked in a folder of its own."""
 import os
 import subprocess
+import sys
 import tempfile
 
 from policies import read_domains, read_groups
 from texts import MIXED, NO_PROGRAM, Stop, read, read_if_there
 
 POLICY = ("profile", "exception_policy", "domain_policy", "manager")
+
+# Statuses of the program: a file is too long, memory ran out, and the last one that it may have.
+TOO_LONG, OUT_OF_MEMORY, LAST = 4, 11, 13
 
 
 class Opening:
@@ -49,14 +53,13 @@ class Engine:
                         file.write(text.encode("latin-1"))
                 return self.ended(folder, command, wanted)
         except OSError as error:
-            line = "can't ask the program %s: %s" % (self.program, error.strerror)
-            raise Stop(line, NO_PROGRAM) from None
+            raise self.unasked(error) from None
 
     def ended(self, folder, command, wanted):
         """The end of a call in a folder that has the files."""
         ran = subprocess.run([self.program, "-C", folder, command], stdin=subprocess.DEVNULL,
                              stdout=subprocess.PIPE, stderr=subprocess.PIPE, check=False)
-        if ran.returncode < 0 or ran.returncode > 11:
+        if ran.returncode < 0 or ran.returncode > LAST:
             raise Stop("the program ended with %d" % ran.returncode, NO_PROGRAM)
         made = {}
         for name in wanted if ran.returncode == 0 else ():
@@ -65,6 +68,30 @@ class Engine:
         said = ran.stderr if ran.returncode else ran.stdout
         line = said.decode("latin-1").strip().split("\n")[0]
         return Ended(ran.returncode, line[len("tomoyo_run: "):] if ran.returncode else line, made)
+
+    def is_there(self):
+        return os.path.isfile(self.program) and os.access(self.program, os.X_OK)
+
+    def judge_run(self):
+        """Ends where the program says that the run of this folder isn't of the folder's files. Of a
+        run that is too long for it nothing is known, which is said."""
+        try:
+            ended = self.ended(".", "verify", ())
+        except OSError as error:
+            raise self.unasked(error) from None
+        if (ended.status, ended.line) == (TOO_LONG, "run is too long"):
+            sys.stderr.write("tomoyo: run is too long to be verified, and is taken to be of these "
+                             "files\n")
+        elif ended.status == OUT_OF_MEMORY:
+            raise Stop("the program can't verify run: %s" % ended.line, NO_PROGRAM)
+        elif ended.status or ended.line != "legal yes":
+            raise Stop("run isn't of these files: play again (`tomoyo verify`: %s)" % ended.line,
+                       MIXED)
+
+    def unasked(self, error):
+        """What is said where the program can't be asked."""
+        line = "can't ask the program %s: %s" % (self.program, error.strerror)
+        return Stop(line, NO_PROGRAM)
 
     def done(self, command, files, wanted):
         """A call that is done, or a Stop."""

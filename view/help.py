@@ -13,7 +13,9 @@ SOURCE = os.path.join(TOP, "crates", "tomoyo_run", "src", "command_line.rt")
 MORE = """
 On a play that is stored in the folder, the script `tomoyo` tells more:
 
-  why [N ..]    why requests were denied, or what became of those of these numbers
+  why [--short | N ..]
+                why requests were denied, and what made the run unclean;
+                or what became of the requests of these numbers
   suggest       the lines that would grant what was denied
   tree [--svg]  the domains as a tree, with what they were asked, or as a picture
   curve         what each tenth of the requests added: was the recording long?
@@ -24,12 +26,17 @@ On a play that is stored in the folder, the script `tomoyo` tells more:
 those of one play, with 66 where one is missing, and with 70 where the program
 can't be asked; `why` and `suggest` end with 2 where something was denied.
 
+From the log of a machine:
+
+  trace [LOG]   prints the trace of an audit log, and sums what was left out
+
 It also takes, in a checkout,
 
   install DESTDIR PREFIX    installs what is built, with pages and examples, in
                             DESTDIR, which may be empty, below PREFIX
-  --unproved WORDS          builds the sources, which takes about two minutes,
-                            and runs them without waiting for proofs
+  --unproved WORDS          builds the sources without proofs, and runs a
+                            command of the program, tree, curve or trace;
+                            each such call builds anew, which takes minutes
 """
 
 
@@ -74,7 +81,7 @@ def main(line):
     topic = line[0] if line else ""
     if topic in ("install", "--unproved"):
         sys.stdout.write(MORE[MORE.index("It also takes"):])
-    elif topic in ("why", "suggest", "tree", "curve", "unused", "check"):
+    elif topic in ("why", "suggest", "tree", "curve", "unused", "check", "trace"):
         sys.stdout.write(importlib.import_module(topic).__doc__)
     else:
         sys.stdout.write(help_text(topic) + ("" if topic else MORE))

@@ -1,32 +1,61 @@
 """The play that is stored in the folder, with all that it was played of."""
+from functools import cached_property
+
 from engine import policy_files
 from history import History, Numbered, domains_of, edited_lines, other_files
 from policies import read_domains, read_groups, stored
 from runs import read_run
 from texts import MIXED, Stop, read
-from traces import read_trace
+from traces import asking, read_trace
+
+
+def check_trace(run, asking):
+    """Ends where a run hasn't a take of each of these processes' requests."""
+    if asking != [take.pid for take in run.takes]:
+        raise other_files("trace")
+
+
+def stored_run(engine):
+    """The run of the folder, which is one of the folder's files: that it has a take of each request
+    is seen here, and all else by the program, where that is there."""
+    run = read_run(read("run"))
+    check_trace(run, asking(read("trace")))
+    if engine.is_there():
+        engine.judge_run()
+    return run
 
 
 class StoredPlay:
-    """A stored run, the trace and the policy that it is of, and that policy's history."""
+    """A stored run, the trace and the policy that it is of, and that policy's history, which is
+    made where it is asked for."""
 
     def __init__(self, engine):
+        self.engine = engine
         self.run = read_run(read("run"))
         self.trace_text = read("trace")
         self.trace = read_trace(self.trace_text)
         self.files = policy_files()
-        self.check_trace()
-        self.names = Numbered(domains_of(self.files["domain_policy"]), self.run.steps)
-        self.names.finish()
-        self.opening = engine.opening(self.files)
-        self.history = History(domains_of(self.files["domain_policy"]), self.opening,
-                               self.run.steps, engine.normal_lines(edited_lines(self.run.steps)))
+        check_trace(self.run, [request.pid for request in self.trace.asked])
+        engine.judge_run()
 
-    def check_trace(self):
-        """The run has a take of each request."""
-        asked = [request.pid for request in self.trace.asked]
-        if asked != [take.pid for take in self.run.takes]:
-            raise other_files("trace")
+    @cached_property
+    def names(self):
+        """The domains by number, after all steps."""
+        names = Numbered(domains_of(self.files["domain_policy"]), self.run.steps)
+        names.finish()
+        return names
+
+    @cached_property
+    def opening(self):
+        """The policy that the play began with."""
+        return self.engine.opening(self.files)
+
+    @cached_property
+    def history(self):
+        """That policy, to which the steps are made."""
+        normal = self.engine.normal_lines(edited_lines(self.run.steps))
+        return History(domains_of(self.files["domain_policy"]), self.opening, self.run.steps,
+                       normal)
 
     def asked(self, take):
         """What a take is of."""

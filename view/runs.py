@@ -35,7 +35,7 @@ class Take:
         self.after = after
         self.is_granted = is_granted
         self.looks = []
-        self.is_logged = False
+        self.is_logged = None
 
     @property
     def last(self):
@@ -74,9 +74,9 @@ class Run:
         self.takes[-1].is_logged = fields[1] != "-"
 
     def check(self):
-        """Each take has a look, and what it names is there."""
+        """Each take has a look and an audit line, and what it names is there."""
         for take in self.takes:
-            if not take.looks:
+            if not take.looks or take.is_logged is None:
                 raise ValueError
             for look in take.looks:
                 if max([look.version, *look.steps]) > len(self.steps):

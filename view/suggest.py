@@ -19,10 +19,11 @@ Exit statuses: 0 nothing was denied; 1 bad words; 2 something was denied;
 """
 import sys
 
+from clean import Unclean, let_pass, warn_of_disabled
 from copies import freed
 from engine import Engine
 from plays import StoredPlay
-from texts import BAD_WORDS, DENIED, Stop, read_if_there
+from texts import BAD_WORDS, DENIED, Stop, counted, read_if_there
 
 SCRIPTS = ("edits", "answers", "schedule")
 
@@ -35,15 +36,29 @@ def still_denied(engine, play, text):
     return engine.done("step", files, []).line.split(" ")[5]
 
 
+def say_what_is_hidden(play):
+    """Says what no line is suggested for, since this play doesn't deny it."""
+    passed, full = len(let_pass(play.run)), len(Unclean(play.run).quota)
+    if passed:
+        sys.stderr.write("tomoyo: %s that no line grants passed in permissive mode: make it enforcing in "
+                         "profile, and play\n" % counted(
+                             passed, "1 request", "%d requests"))
+    if full:
+        sys.stderr.write("tomoyo: %s learned nothing, since the domain was full: `tomoyo why`\n" %
+                         counted(full, "1 request", "%d requests"))
+    warn_of_disabled(play)
+
+
 def main(line):
     if line:
         raise Stop("suggest takes no words", BAD_WORDS)
     engine = Engine()
     play = StoredPlay(engine)
-    play.finish()
+    say_what_is_hidden(play)
     if not play.run.denied():
         sys.stderr.write("tomoyo: nothing was denied\n")
         return 0
+    play.finish()
     _, suggested = freed(engine, play)
     sys.stdout.write(suggested.text())
     sys.stdout.flush()

@@ -62,3 +62,8 @@ def lines_of(text):
     """The lines of a text; what stands behind the last end of a line is one unless it is empty."""
     lines = text.split("\n")
     return lines[:-1] if lines[-1] == "" else lines
+
+
+def counted(count, one, more):
+    """A count in words."""
+    return one if count == 1 else more % count

@@ -55,6 +55,12 @@ class Trace:
             raise ValueError
 
 
+def asking(text):
+    """The process of each request of a trace."""
+    split = [words(line) for line in lines_of(text)]
+    return [line_words[1] for line_words in split if line_words[:1] == ["do"] and line_words[1:]]
+
+
 def read_trace(text):
     """The trace of a text that the program has read."""
     trace, ids = Trace(), {}

@@ -5,8 +5,8 @@ entries that it has after the play, how many lines it learned, and how many
 requests it was asked for, granted and denied. A domain stands below the longest
 name that its own begins with. `--svg` draws the same as a picture for a page.
 
-Reads    domain_policy and domain_policy.new, and run where it is there; they
-         have to be those of one play
+Reads    domain_policy and domain_policy.new, and where run is there run and the
+         other files that the play has read; they have to be those of one play
 Stores   nothing
 Prints   the tree
 
@@ -17,10 +17,12 @@ import os
 import sys
 from collections import Counter
 
+from engine import Engine
 from history import Numbered, domains_of, other_files
 from picture import picture
+from plays import stored_run
 from policies import read_domains, stored
-from runs import Run, read_run
+from runs import Run
 from texts import BAD_WORDS, Stop, read
 
 COLUMNS = ("entries", "learned", "asked", "granted", "denied")
@@ -103,7 +105,7 @@ def names_by_number(run, domains):
 def tree():
     """The rows of all domains, those that were deleted in the play too if they were asked."""
     domains = stored("domain_policy.new", read_domains)
-    run = read_run(read("run")) if os.path.exists("run") else Run()
+    run = stored_run(Engine()) if os.path.exists("run") else Run()
     counts = Counts(run, names_by_number(run, domains))
     by_name = {domain.name: domain for domain in domains}
     names = dict.fromkeys([*by_name, *sorted(counts.names() - by_name.keys())])
