@@ -12,10 +12,7 @@ NO_CODE = ("//", "#", "use ", "ghost ", "mod ", "ensures", "requires")
 READING = ("fn word_at", "fn words_from", "fn folder_at", "fn is_folder_option", "fn read_line")
 # The parts: the file, what they are for, and the heads of their items, or none for a whole file.
 PARTS = (
-    ("crates/tm_io/src/system.rt", "`FolderShelf`: opens, reads and writes files by their names",
-     ("pub struct FolderShelf", "impl<'a, R: Files> FolderShelf", "impl<R: Files> Shelf for")),
-    ("crates/tm_io/src/system.rt", "`OutSink`: standard output",
-     ("pub struct OutSink", "impl<W: Write> OutSink", "impl<W: Write> Sink for")),
+    ("crates/tm_io/src/folder.rt", "`Folder`: opens files, and puts drafts in their place", ()),
     ("crates/tomoyo_run/src/main.rt", "the program `tomoyo_run`", ()),
     ("crates/tomoyo_run/src/command_line.rt", "the words of its command line", READING),
     ("crates/tomoyo_trace/src/main.rt", "the program `tomoyo_trace`", ()),
