@@ -1,5 +1,5 @@
 -- Files that aren't stored.
-use Rattle.std.proofs.Common.{zero, suc, ◌≡◌, ◌∙◌, ℕ, ◌∷◌, [], ◌++◌, List, Bool, true, false, Some, ap, sym, refl, take, if◌then◌else◌, slice_get, ◌==◌, ◌+◌, eq-eqb}
+use Rattle.std.proofs.Common.{zero, suc, ◌≡◌, ◌∙◌, ℕ, ◌∷◌, [], List, Bool, true, false, Some, ap, refl, take, if◌then◌else◌, slice_get, ◌==◌, ◌+◌, eq-eqb}
 use Rattle.tm_io.specs.declared.names.FileName.{FileName}
 use Rattle.tm_io.specs.Names.{same_name}
 use Rattle.tm_io.specs.Files.{FileState, Files, changed}

@@ -1,12 +1,11 @@
 -- What reading piece by piece and writing piece by piece comes to.
 use Rattle.std.proofs.Common.{◌≡◌, ℕ, ◌+◌, ◌-◌, ◌≤◌, ◌<◌, List, [], ◌++◌, length, length-append, IfSome, refl, sym, ap, ◌∙◌, append_assoc, append-nil, take, drop, take-append-drop, Option, None, Some, arith}
 use Rattle.std.proofs.lemmas.List.{take_rest}
-use Rattle.std.proofs.KnownBytes.{Consumes-trans}
 use Rattle.std.specs.Io.KnownBytes.{Appends, Consumes, IsAtEnd}
 use Rattle.tm_io.specs.Bytes.{then_bytes}
 use Rattle.tm_io.specs.Files.{FileState, FetchGives}
 use Rattle.tm_io.specs.Disks.{TellsOf}
-use Rattle.tm_io.specs.Streams.{ReadsAll, ReadGives}
+use Rattle.tm_io.specs.Streams.{ReadGives}
 use Rattle.tm_io.specs.declared.answers.Fetched.{Fetched}
 
 -- nothing is left to read: what was taken is all

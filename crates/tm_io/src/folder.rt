@@ -3,13 +3,12 @@ ghost use Rattle.tm_io.specs.Files.{FileState};
 
 use crate::{Disk, FileName};
 use std::alloc::Global;
-use std::fs;
 use std::fs::{File, Metadata, OpenFile, OpenOptions};
-use std::io;
 use std::io::{ErrorKind, Write};
 use std::os::unix::fs::{MetadataExt, OpenOptionsExt, lchown};
 use std::path::Path;
 use std::rt::Files;
+use std::{fs, io};
 
 // How many links in a row are followed.
 const MAX_LINKS: usize = 40;

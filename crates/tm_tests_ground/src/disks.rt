@@ -122,7 +122,9 @@ fn a_store_that_does_not_fit_is_a_fault(rt: HostRuntime) -> Result<(), Fail> {
 }
 
 #[test]
-fn drafts_of_calls_that_were_cut_off_stay_and_others_are_taken(rt: HostRuntime) -> Result<(), Fail> {
+fn drafts_of_calls_that_were_cut_off_stay_and_others_are_taken(
+    rt: HostRuntime,
+) -> Result<(), Fail> {
     let alloc = rt.alloc();
     let mut shelf = shelf_of(&rt, alloc, ".")?;
     assert!(rt; shelf.store(FileName::Profile, b"old") == Stored::Done);

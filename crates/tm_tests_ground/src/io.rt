@@ -1,11 +1,9 @@
 //! Shelves and sinks.
 use std::alloc::Global;
+use std::io;
 use std::io::Write;
 use std::test::Fail;
-use std::io;
-use tm_io::{
-    Fetched, FileList, FileName, MemoryShelf, MemorySink, OutSink, Shelf, Sink, Stored,
-};
+use tm_io::{Fetched, FileList, FileName, MemoryShelf, MemorySink, OutSink, Shelf, Sink, Stored};
 use tm_list::NoMemory;
 use tm_word::Text;
 
