@@ -25,6 +25,26 @@ def stored_run(engine):
     return run
 
 
+def moves(request):
+    """Whether a request may lead into another domain."""
+    return request.startswith(("file execute ", "task "))
+
+
+def origins(play, is_lost):
+    """Of each take whose process, or one that it descends from, was denied a move before which is
+    lost: the number of the last such take."""
+    lost, found = {}, {}
+    for take in play.run.takes:
+        for parent, child in play.trace.forks.get(take.number - 1, ()):
+            if parent in lost:
+                lost[child] = lost[parent]
+        if take.pid in lost:
+            found[take.number] = lost[take.pid]
+        if not take.is_granted and moves(play.asked(take).request) and is_lost(take.number):
+            lost[take.pid] = take.number
+    return found
+
+
 class StoredPlay:
     """A stored run, the trace and the policy that it is of, and that policy's history, which is
     made where it is asked for."""
