@@ -87,7 +87,6 @@ def told_takes(play, takes):
     for take in sorted(takes, key=lambda take: take.last.version):
         play.history.advance(take.last.version)
         found[take.number] = Told(play, take)
-    play.finish()
     return found
 
 
@@ -160,6 +159,7 @@ def tell_some(engine, play, numbers):
         if not 1 <= number <= there:
             raise Stop("the run has takes 1 to %d, and no %d" % (there, number), BAD_WORDS)
     told = told_takes(play, [play.run.takes[number - 1] for number in set(numbers)])
+    play.finish()
     found = answered(engine, play, told.values())
     for number in numbers:
         put_take(play, told[number], 0)
@@ -189,6 +189,7 @@ def tell_causes(engine, play, causes):
     if not causes.denied:
         return
     told = told_takes(play, [takes[0] for takes in causes.alike])
+    play.finish()
     found = answered(engine, play, told.values())
     for takes in causes.alike:
         first = takes[0]
