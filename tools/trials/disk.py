@@ -3,8 +3,8 @@
 FOLDER has the input files. First in a folder whose files can't be written (read-only mount), then
 on disks of some sizes that fill up while files are stored (tmpfs), and last with a standard output
 that is full. Each run has to end with status 10 and the name of what couldn't be written; the
-inputs stay as they were, and what was stored before the failing file is whole. Needs to be root, to
-mount."""
+inputs stay as they were, and what was stored before the failing file is whole, and nothing else is
+there. Needs to be root, to mount."""
 import contextlib
 import os
 import re
@@ -52,7 +52,6 @@ def fault_of(ended, place, files, whole):
     for name in files:
         if left.pop(name, None) != files[name]:
             return "%s was changed" % name
-    left.pop(failed.group(1).decode(), None)
     halves = [name for name in left if left[name] != whole.get(name)]
     return "%s is there and not whole" % halves[0] if halves else None
 
