@@ -138,8 +138,9 @@ clean-homes growing scene run can legal clean =
     let grows : Grows scene.policy (state_at scene run.steps (length run.steps)).policy = growing scene run can.grammar legal clean 0 (length run.steps) least most in
     homes-stay scene.policy (final_policy scene run) 0 scene.trace (subst (λ s. Grows scene.policy s.policy) (state_at-newest scene run.steps) grows) can.starts
 
-repeated-so : (way : Way) (loaded : Loaded) (run : Run) (rerun : Option RerunTexts) → CleanRunGrows → LearnedRunRepeats → CanPlay (scene_of loaded) → Legal (scene_of loaded) run → Reruns way (final_policy (scene_of loaded) run) loaded.trace run rerun → IsTrue (is_plain loaded.policy) → IsTrue (is_clean run)
-    → IsRepeated (scene_of loaded) run rerun
+repeated-so : (way : Way) (loaded : Loaded) (run : Run) (rerun : Option RerunTexts) → CleanRunGrows → LearnedRunRepeats → CanPlay (scene_of loaded) → Legal (scene_of loaded) run
+    → (reruns : Reruns way (final_policy (scene_of loaded) run) loaded.trace run rerun) → IsTrue (is_plain loaded.policy) → IsTrue (is_clean run)
+    → IsRepeated way (scene_of loaded) (final_policy (scene_of loaded) run) loaded.trace run rerun reruns
 repeated-so way loaded run None growing repeats can legal left plain clean =
     let homes : homeless (final_policy (scene_of loaded) run) loaded.trace ≡ None = clean-homes growing (scene_of loaded) run can legal clean in
     absurd (none-there (homeless (final_policy (scene_of loaded) run) loaded.trace) homes left)
@@ -150,7 +151,7 @@ repeated-so way loaded run None growing repeats can legal left plain clean =
 repeated-so way loaded run (Some rerun) growing repeats can legal played plain clean =
     let h = played.1 in
     let repeated = repeats (scene_of loaded) run h.run2 can plain legal clean h.is_legal in
-    (h.run2, h.printed.run_is, h.printed.line_is ∙ ap (rerun_text h.run2) (h.printed.is_same.1 repeated.same), repeated)
+    (h.printed.run_is, h.printed.line_is ∙ ap (rerun_text h.run2) (h.printed.is_same.1 repeated.same), repeated)
 
 -- what was read is played and played again
 pub learned-so : (way : Way) (loaded : Loaded) (run : Run) (last opening : Policy) (played : Played) (rerun : Option RerunTexts) → CleanRunGrows → LearnedRunRepeats → CanPlay (scene_of loaded) → IsPlayOf way loaded run last → opening ≡ loaded.policy

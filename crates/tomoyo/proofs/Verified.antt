@@ -25,7 +25,7 @@ use Rattle.tm_gen_laws.proofs.Readings.{step-scene, judging-read}
 use Rattle.tomoyo.specs.declared.way.Way.{Way}
 use Rattle.tomoyo.specs.Play.{reading_of}
 use Rattle.tomoyo.specs.Verify.{verdict_text}
-use Rattle.tomoyo.specs.Call.{scene_wants, wants_of, stored_by, IsPlayed, IsLearned, IsGenerated, IsJudged, HasDone, HoldsLegalRun, LegalRuns}
+use Rattle.tomoyo.specs.Call.{scene_wants, wants_of, stored_by, IsPlayed, IsLearned, IsGenerated, IsJudged, HasDone, HoldsLegalRun, HoldsPlayedRun, LegalRuns}
 
 -- Which files are read
 
@@ -55,15 +55,18 @@ scene-of-way Way.OnThreads wants files loaded same e = (loaded, sym same ∙ e, 
 -- a legal run of what was read is there
 holds-run : (way : Way) (wants : List Want) (old new : Files) (loaded : Loaded) (run : Run) (text : List ℕ) → scene_reading (told_texts wants old) ≡ scene_reading (told_texts scene_wants old)
     → told_texts scene_wants new ≡ told_texts scene_wants old → reading_of way (told_texts wants old) ≡ Ok loaded → new FileName.Run ≡ FileState.Holds text
-    → run_of text ≡ Ok run → Legal (scene_of loaded) run → HoldsLegalRun new
-holds-run way wants old new loaded run text same kept read stored back legal =
+    → run_of text ≡ Ok run → text ≡ run_text run → Legal (scene_of loaded) run → HoldsPlayedRun new
+holds-run way wants old new loaded run text same kept read stored back printed legal =
     let (scene, reads, is) = scene-of-way way wants old loaded same read in
     record {
-      loaded = scene;
-      read = ap scene_reading kept ∙ reads;
-      run = run;
-      run_is = ap (λ (state : FileState). run_of (told state)) stored ∙ back;
-      is_legal = subst (λ (s : Scene). Legal s run) (sym is) legal;
+      holds = record {
+            loaded = scene;
+            read = ap scene_reading kept ∙ reads;
+            run = run;
+            run_is = ap (λ (state : FileState). run_of (told state)) stored ∙ back;
+            is_legal = subst (λ (s : Scene). Legal s run) (sym is) legal;
+          };
+      text = ap told stored ∙ printed;
     }
 
 -- the files that a command has kept
@@ -71,14 +74,14 @@ abbrev pub Kept : Command → Outside → Outside → Type 0
 Kept command old new = (name : FileName) → is_named (stored_by command) name ≡ false → new.files name ≡ old.files name
 
 played-holds : (way : Way) (wants : List Want) (old new : Outside) → scene_reading (told_texts wants old.files) ≡ scene_reading (told_texts scene_wants old.files)
-    → told_texts scene_wants new.files ≡ told_texts scene_wants old.files → IsPlayed way wants old new → HoldsLegalRun new.files
+    → told_texts scene_wants new.files ≡ told_texts scene_wants old.files → IsPlayed way wants old new → HoldsPlayedRun new.files
 played-holds way wants old new same kept done =
-    holds-run way wants old.files new.files done.plays.loaded done.plays.plays.run done.played.run same kept done.plays.read done.stored.0 done.plays.read_back done.plays.plays.is_legal
+    holds-run way wants old.files new.files done.plays.loaded done.plays.plays.run done.played.run same kept done.plays.read done.stored.0 done.plays.read_back done.plays.plays.printed.run_is done.plays.plays.is_legal
 
 learned-holds : (way : Way) (wants : List Want) (old new : Outside) → scene_reading (told_texts wants old.files) ≡ scene_reading (told_texts scene_wants old.files)
-    → told_texts scene_wants new.files ≡ told_texts scene_wants old.files → IsLearned way wants old new → HoldsLegalRun new.files
+    → told_texts scene_wants new.files ≡ told_texts scene_wants old.files → IsLearned way wants old new → HoldsPlayedRun new.files
 learned-holds way wants old new same kept done =
-    holds-run way wants old.files new.files done.learns.loaded done.learns.learns.run done.learned.played.run same kept done.learns.read done.stored.0 done.learns.read_back done.learns.learns.is_legal
+    holds-run way wants old.files new.files done.learns.loaded done.learns.learns.run done.learned.played.run same kept done.learns.read done.stored.0 done.learns.read_back done.learns.learns.printed.run_is done.learns.learns.is_legal
 
 -- generated files without edits and answers are read as they were generated
 generated-texts : (seed size : ℕ) → scene_reading ((FileName.Profile, (generated seed size).profile) ∷ (FileName.ExceptionPolicy, (generated seed size).exception) ∷ (FileName.DomainPolicy, (generated seed size).domain)
@@ -86,17 +89,20 @@ generated-texts : (seed size : ℕ) → scene_reading ((FileName.Profile, (gener
 unfolding scene_reading parts_reading policy_of
 generated-texts seed size = refl
 
-generated-holds : (seed size : ℕ) (old new : Outside) → told (new.files FileName.Edits) ≡ [] → told (new.files FileName.Answers) ≡ [] → IsGenerated seed size old new → HoldsLegalRun new.files
+generated-holds : (seed size : ℕ) (old new : Outside) → told (new.files FileName.Edits) ≡ [] → told (new.files FileName.Answers) ≡ [] → IsGenerated seed size old new → HoldsPlayedRun new.files
 generated-holds seed size old new edits answers done =
     let s = done.stored in
     let texts : told_texts scene_wants new.files ≡ (FileName.Profile, (generated seed size).profile) ∷ (FileName.ExceptionPolicy, (generated seed size).exception) ∷ (FileName.DomainPolicy, (generated seed size).domain)
     ∷ (FileName.Manager, (generated seed size).manager) ∷ (FileName.Trace, (generated seed size).trace) ∷ (FileName.Edits, []) ∷ (FileName.Answers, []) ∷ [] = rw (s.0, s.1.0, s.1.1.0, s.1.1.1.0, s.1.1.1.1.0, edits, answers) refl in
     record {
-      loaded = record done.plays.loaded { schedule = [] };
-      read = ap scene_reading texts ∙ generated-texts seed size ∙ step-scene (generated_files seed size) done.plays.loaded done.plays.read;
-      run = done.plays.plays.run;
-      run_is = ap (λ (state : FileState). run_of (told state)) s.1.1.1.1.1.0 ∙ done.plays.read_back;
-      is_legal = done.plays.plays.is_legal;
+      holds = record {
+            loaded = record done.plays.loaded { schedule = [] };
+            read = ap scene_reading texts ∙ generated-texts seed size ∙ step-scene (generated_files seed size) done.plays.loaded done.plays.read;
+            run = done.plays.plays.run;
+            run_is = ap (λ (state : FileState). run_of (told state)) s.1.1.1.1.1.0 ∙ done.plays.read_back;
+            is_legal = done.plays.plays.is_legal;
+          };
+      text = ap told s.1.1.1.1.1.0 ∙ done.plays.plays.printed.run_is;
     }
 
 -- Runs that are judged

@@ -31,6 +31,7 @@ use Rattle.tm_call.specs.Ends.{Outside, Untouched, Ends}
 use Rattle.tm_types.specs.declared.step.Run.{Run}
 use Rattle.tm_legal.specs.Legal.{Legal}
 use Rattle.tm_run.specs.Reading.{run_of}
+use Rattle.tm_run.specs.RunText.{run_text}
 use Rattle.tm_gen_laws.specs.CallInputLoaded.{Loaded}
 use Rattle.tm_gen_laws.specs.Judging.{Judging}
 use Rattle.tm_gen_laws.specs.Reading.{refused, scene_reading, judging_reading, step_refusal, scene_of, RefusedBy}
@@ -406,21 +407,26 @@ pub record HoldsLegalRun (files : Files) : Type 0 where
   pub run_is : run_of (told (files FileName.Run)) ≡ Ok run
   pub is_legal : Legal (scene_of loaded) run
 
--- what was played leaves such a run, of `gen` where there are no edits and no answers; and of it
--- `verify` says yes
+-- `run` is the text of such a run
+pub record HoldsPlayedRun (files : Files) : Type 0 where
+  pub holds : HoldsLegalRun files
+  pub text : told (files FileName.Run) ≡ run_text holds.run
+
+-- what was played leaves the text of such a run, of `gen` where there are no edits and no answers;
+-- and of every file that is read as such a run `verify` says yes
 abbrev pub LegalRuns : Result Command ℕ → Outside → Outside → Status → Type 0
 LegalRuns (Err place) old new status = ⊤
-LegalRuns (Ok Command.Step) old new status = TellsAll old.files → status ≡ Status.Done → HoldsLegalRun new.files
+LegalRuns (Ok Command.Step) old new status = TellsAll old.files → status ≡ Status.Done → HoldsPlayedRun new.files
 LegalRuns (Ok Command.Print) old new status = ⊤
-LegalRuns (Ok Command.Learn) old new status = TellsAll old.files → status ≡ Status.Done → HoldsLegalRun new.files
+LegalRuns (Ok Command.Learn) old new status = TellsAll old.files → status ≡ Status.Done → HoldsPlayedRun new.files
 LegalRuns (Ok Command.Verify) old new status =
     TellsAll old.files → HoldsLegalRun old.files → status ≡ Status.Done → new.written ≡ then_bytes (verdict_text None) old.written
 LegalRuns (Ok Command.Sort) old new status = ⊤
 LegalRuns (Ok (Command.Gen seed size)) old new status =
-    TellsAll old.files → status ≡ Status.Done → told (old.files FileName.Edits) ≡ [] → told (old.files FileName.Answers) ≡ [] → HoldsLegalRun new.files
-LegalRuns (Ok (Command.Replay workers)) old new status = TellsAll old.files → status ≡ Status.Done → HoldsLegalRun new.files
-LegalRuns (Ok (Command.ReplaySteal workers)) old new status = TellsAll old.files → status ≡ Status.Done → HoldsLegalRun new.files
-LegalRuns (Ok (Command.ReplayRerun workers)) old new status = TellsAll old.files → status ≡ Status.Done → HoldsLegalRun new.files
+    TellsAll old.files → status ≡ Status.Done → told (old.files FileName.Edits) ≡ [] → told (old.files FileName.Answers) ≡ [] → HoldsPlayedRun new.files
+LegalRuns (Ok (Command.Replay workers)) old new status = TellsAll old.files → status ≡ Status.Done → HoldsPlayedRun new.files
+LegalRuns (Ok (Command.ReplaySteal workers)) old new status = TellsAll old.files → status ≡ Status.Done → HoldsPlayedRun new.files
+LegalRuns (Ok (Command.ReplayRerun workers)) old new status = TellsAll old.files → status ≡ Status.Done → HoldsPlayedRun new.files
 
 -- whatever the files hold, a `gen` is done, wants memory, or ends by a counted fault of a store or
 -- of the sink

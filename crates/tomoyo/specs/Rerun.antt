@@ -74,11 +74,12 @@ abbrev pub IsReadBack : (way : Way) (last : Policy) (trace : Trace) (run : Run) 
 IsReadBack way last trace run None left = ⊤
 IsReadBack way last trace run (Some rerun) played = run_of rerun.run ≡ Ok played.1.run2
 
--- the rerun isn't left out; it makes no step and grants every take, in domains of the same names,
--- and its line says that they are the same
-abbrev pub IsRepeated : Scene → Run → Option RerunTexts → Type 0
-IsRepeated scene run None = ⊥
-IsRepeated scene run (Some rerun) = (run2 : Run) × (rerun.run ≡ run_text run2) × (rerun.line ≡ rerun_text run2 true) × Repeats scene run run2
+-- the rerun isn't left out; its run, whose text is stored, makes no step and grants every take, in
+-- domains of the same names, and its line says that they are the same
+abbrev pub IsRepeated : (way : Way) (scene : Scene) (last : Policy) (trace : Trace) (run : Run) (rerun : Option RerunTexts) → Reruns way last trace run rerun → Type 0
+IsRepeated way scene last trace run None left = ⊥
+IsRepeated way scene last trace run (Some rerun) played =
+    (rerun.run ≡ run_text played.1.run2) × (rerun.line ≡ rerun_text played.1.run2 true) × Repeats scene run played.1.run2
 
 -- what was learned are the texts of a run of what was read, and of its rerun; a clean run from a
 -- plain opening is repeated
@@ -88,7 +89,8 @@ pub record LearnsLoaded (way : Way) (loaded : Loaded) (learned : Learned) : Type
   pub is_legal : Legal (scene_of loaded) run
   pub printed : IsPrinted run loaded.policy (final_policy (scene_of loaded) run) learned.played
   pub rerun : Reruns way (final_policy (scene_of loaded) run) loaded.trace run learned.rerun
-  pub repeated : IsTrue (is_plain loaded.policy) → IsTrue (is_clean run) → IsRepeated (scene_of loaded) run learned.rerun
+  pub repeated : IsTrue (is_plain loaded.policy) → IsTrue (is_clean run)
+      → IsRepeated way (scene_of loaded) (final_policy (scene_of loaded) run) loaded.trace run learned.rerun rerun
 
 -- the files are read, and what was learned are the texts of a run of what was read, and of its
 -- rerun; the text of each of the two is read back as that run

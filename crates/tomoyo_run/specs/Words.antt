@@ -1,5 +1,5 @@
 -- The words of the command line.
-use Rattle.std.specs.Prelude.{ℕ, Bool, if◌then◌else◌, List, [], ◌∷◌, codes}
+use Rattle.std.specs.Prelude.{ℕ, Bool, false, if◌then◌else◌, List, [], ◌∷◌, codes}
 use Rattle.std.specs.List.{list_any}
 use Rattle.std.specs.Str.{bytes_eq}
 use Rattle.tomoyo_run.specs.declared.command_line.Asked.{Asked}
@@ -38,3 +38,8 @@ what_is_asked [] = Asked.Command
 what_is_asked (word ∷ []) = asked_by word
 what_is_asked (word ∷ next ∷ []) = asked_by_two word next
 what_is_asked (word ∷ next ∷ third ∷ words) = Asked.Command
+
+-- the words name a command that plays on threads
+abbrev pub wants_threads : List (List ℕ) → Bool
+wants_threads [] = false
+wants_threads (word ∷ words) = bytes_eq word (codes "replay")

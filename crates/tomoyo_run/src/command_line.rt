@@ -1,6 +1,7 @@
 //! What the words of the command line ask for.
-ghost use Rattle.std.specs.Prelude.{◌≡◌, map, string_bytes};
-ghost use Rattle.tomoyo_run.specs.Words.{asked_by, asked_by_two, help_of, is_one_of, what_is_asked};
+ghost use Rattle.std.specs.Prelude.{◌≡◌, false, map, string_bytes};
+ghost use Rattle.tm_call.specs.Words.{read_words, run_words};
+ghost use Rattle.tomoyo_run.specs.Words.{asked_by, asked_by_two, help_of, is_one_of, wants_threads, what_is_asked};
 
 use std::alloc::{AllocError, Global};
 use std::env::{Env, FillError};
@@ -381,6 +382,19 @@ pub fn what_is_asked(words: &[String]) -> Asked
         [word] => asked_by(word),
         [word, next] => asked_by_two(word, next),
         [] | [_, _, _, ..] => Asked::Command,
+    }
+}
+
+/// Whether the words name a command that plays on threads. The words of every other one ask
+/// `run_alone` for what they ask `run` for.
+pub fn wants_threads(words: &[String]) -> bool
+    ensures named { result ≡ wants_threads (map string_bytes words.now) }
+    ensures alone { result ≡ false
+        → run_words (map string_bytes words.now) ≡ read_words (map string_bytes words.now) }
+{
+    match words {
+        [word, ..] => word.as_str() == "replay",
+        [] => false,
     }
 }
 

@@ -1,14 +1,14 @@
 //! The program `tomoyo_run`: the words of the command line, help and version, and what is printed
 //! of how a call ends.
-//! Stands on `tomoyo`, whose top call does the command, and on tm_io, whose folder and standard
-//! output it hands in.
-//! Promises what the top call promises of these two; which words ask for help and version is
+//! Stands on `tomoyo`, whose top calls do the command, with threads or without, and on tm_io, whose
+//! folder and standard output it hands in.
+//! Promises what these calls promise; which words ask for help and version, and which for threads, is
 //! proved.
 #![tactic(auto)]
 
 mod command_line;
 
-use crate::command_line::{Asked, VERSION, help_text, read_line, what_is_asked};
+use crate::command_line::{Asked, VERSION, help_text, read_line, wants_threads, what_is_asked};
 use std::alloc::Global;
 use std::io;
 use std::process::ExitCode;
@@ -17,7 +17,7 @@ use std::sync::Wait;
 use std::thread::Threads;
 use tm_engine::gate::NoGate;
 use tm_io::{DiskShelf, Folder, OutSink, Sink, Stored};
-use tomoyo::{OutName, Status, run};
+use tomoyo::{OutName, Status, run, run_alone};
 
 // Prints a text that was asked for by `--help` or `--version`.
 fn show<R: Runtime>(rt: &R, text: &str) -> Status {
@@ -39,7 +39,11 @@ fn answer<R: Runtime + Threads + Wait + Sync>(rt: &R, alloc: Global) -> Status {
         Asked::Command => {
             let mut shelf = DiskShelf::new(Folder::new(rt, alloc, line.folder));
             let mut out = OutSink::new(io::writer(rt));
-            run(rt, alloc, &line.words, &mut shelf, &mut out, &NoGate)
+            if wants_threads(&line.words) {
+                run(rt, alloc, &line.words, &mut shelf, &mut out, &NoGate)
+            } else {
+                run_alone(alloc, &line.words, &mut shelf, &mut out)
+            }
         }
     }
 }
