@@ -1,38 +1,30 @@
-//! A call with each element of a list, where calls may wait for each other.
+//! A task done with each element of a list, beside each other, where one may wait for others.
 ghost use Rattle.std.specs.Prelude.{◌≡◌, ◌≤◌, ◌<◌, ◌++◌, ◌∷◌, [], IfOk, IfErr, vec_len, vec_capacity};
-ghost use Rattle.std.specs.Fork.{AcceptsJobs, GivesJobs};
 ghost use Rattle.tm_beside.specs.Calls.{AcceptsAll, LeavesAll};
 
 use std::snapshot::Snapshot;
 use std::sync::Wait;
 use std::thread::{Promise, PromisedHandle, Scope, Threads, scope, scope_env};
 
-// What is done with an element: what it asks of it, and what it leaves of it.
-trait Task<T> {
+/// What is done with each element of a list. It may wait for what is done with others.
+pub trait Task<T> {
+    // what it asks of an element
     ghost accepts: { Self → T → Type 0 };
 
+    // what it leaves of an element
     ghost leaves: { Self → T → T → Type 0 };
 
+    // that nothing waits any more
+    ghost gave_up: { Self → Type 0 };
+
+    /// Does it with an element, and gives what is left of it.
     fn run(&self, element: T) -> T
         requires { accepts self.now element }
         ensures { leaves self.now element result };
-}
 
-// The call of a closure.
-#[derive(Drop)]
-struct Calling<'a, F> {
-    call: &'a F,
-}
-
-impl<'a, T, F: Fn(T) -> T> Task<T> for Calling<'a, F> {
-    ghost accepts = { λ c element. F.pre c.call.now element };
-
-    ghost leaves = { λ c element left. F.post c.call.now element left };
-
-    fn run(&self, element: T) -> T {
-        let call = self.call;
-        call(element)
-    }
+    /// Sees to it that from now on no call of `run` waits for another one.
+    fn give_up(&self)
+        ensures { gave_up self.now };
 }
 
 // That a thread leaves what the task leaves of an element.
@@ -43,22 +35,20 @@ impl<T, C: Task<T>> Promise<T> for LeftOf<C, T> {
     ghost kept_by = { λ p left. C.leaves p.0.value p.1.value left };
 }
 
-// Begins the task with an element in a thread of its own. Where none can be made, those that wait
-// are told to give up, and then it is done here.
+// Begins the task with an element in a thread of its own. Where none can be made, it gives up, and
+// then it is done here.
 //
 // Errors: what is left, where it was done here.
-fn begin<'s, 'e, T: Send + Drop + 'e, C: Task<T> + Sync + 'e, G: Fn()>(
+fn begin<'s, 'e, T: Send + Drop + 'e, C: Task<T> + Sync + 'e>(
     threads: &Scope<'s, &'e ()>,
     task: &'e C,
-    give_up: &G,
     element: T,
 ) -> Result<PromisedHandle<T, LeftOf<C, T>>, T>
     requires task { C.accepts task.now element }
-    requires give_up { G.pre give_up.now }
     ensures thread { IfOk result (λ thread.
         (thread.promise.0.value ≡ task.now) × (thread.promise.1.value ≡ element)) }
     ensures here { IfErr result (λ left. C.leaves task.now element left) }
-    ensures gave_up { IfErr result (λ _. G.post give_up.now tt) }
+    ensures gave_up { IfErr result (λ _. C.gave_up task.now) }
 {
     let promise = LeftOf(Snapshot::of(task), Snapshot::of(&element));
     let begun = threads.spawn_with(
@@ -71,7 +61,7 @@ fn begin<'s, 'e, T: Send + Drop + 'e, C: Task<T> + Sync + 'e, G: Fn()>(
     match begun {
         Ok(thread) => Ok(thread),
         Err(refused) => {
-            give_up();
+            task.give_up();
             Err((refused.value)())
         }
     }
@@ -91,15 +81,13 @@ fn put_back<T: Drop>(list: Vec<T>, element: T) -> Vec<T>
 }
 
 // The task with each element: with the first by this thread, with each other by one of its own.
-fn run_all<'s, 'e, W: Threads, T: Send + Drop + 'e, C: Task<T> + Sync + 'e, G: Fn()>(
+fn run_all<'s, 'e, W: Threads, T: Send + Drop + 'e, C: Task<T> + Sync + 'e>(
     rt: &W,
     threads: &Scope<'s, &'e ()>,
     task: &'e C,
-    give_up: &G,
     list: Vec<T>,
 ) -> Vec<T>
     requires accepts { AcceptsAll (C.accepts task.now) list.items }
-    requires give_up { G.pre give_up.now }
     ensures leaves { LeavesAll (C.leaves task.now) list.items result.items }
     ensures capacity { vec_capacity list ≤ vec_capacity result }
 {
@@ -110,54 +98,37 @@ fn run_all<'s, 'e, W: Threads, T: Send + Drop + 'e, C: Task<T> + Sync + 'e, G: F
     if list.is_empty() {
         return put_back(list, task.run(element));
     }
-    match begin(threads, task, give_up, element) {
+    match begin(threads, task, element) {
         Ok(thread) => {
-            let list = run_all(rt, threads, task, give_up, list);
+            let list = run_all(rt, threads, task, list);
             put_back(list, thread.join(rt))
         }
         Err(left) => {
-            let list = run_all(rt, threads, task, give_up, list);
+            let list = run_all(rt, threads, task, list);
             put_back(list, left)
         }
     }
 }
 
-// The task with each element, in threads that end before this does.
-fn run_together<W: Threads + Wait, T: Send + Drop, C: Task<T> + Sync, G: Fn()>(
+/// Does the task with each element of a list, beside each other: with the first in the caller, with
+/// each other in a thread of its own. Gives what is left of them, in their order.
+///
+/// Where a thread can't be made, the task gives up at once, before the caller does with that element
+/// what the thread would have done.
+pub fn call_together<W: Threads + Wait, T: Send + Drop, C: Task<T> + Sync>(
     rt: &W,
-    task: &C,
-    give_up: &G,
     list: Vec<T>,
+    task: &C,
 ) -> Vec<T>
     requires accepts { AcceptsAll (C.accepts task.now) list.items }
-    requires give_up { G.pre give_up.now }
-    ensures { LeavesAll (C.leaves task.now) list.items result.items }
+    ensures leaves { LeavesAll (C.leaves task.now) list.items result.items }
 {
     scope(
         scope_env(),
         rt,
         move |threads| -> Vec<T>
-            requires { AcceptsAll (C.accepts task.now) list.items × G.pre give_up.now }
+            requires { AcceptsAll (C.accepts task.now) list.items }
             ensures { LeavesAll (C.leaves task.entry.now) list.items result.items }
-        { run_all(rt, threads, task, give_up, list) },
+        { run_all(rt, threads, task, list) },
     )
-}
-
-/// Calls `call(element)` with each element of a list, beside each other: with the first in the
-/// caller, with each other in a thread of its own. Gives what the calls leave, in their order.
-///
-/// Calls may wait for each other. Where a thread can't be made, `give_up` is called at once, before
-/// the caller makes that call itself: it has to see to it that from then on no call waits.
-pub fn call_together<W: Threads + Wait, T: Send + Drop, F: Fn(T) -> T + Sync, G: Fn()>(
-    rt: &W,
-    list: Vec<T>,
-    call: &F,
-    give_up: &G,
-) -> Vec<T>
-    requires accepts { AcceptsJobs F.Fn call.now list.items }
-    requires give_up { G.pre give_up.now }
-    ensures len { vec_len result ≡ vec_len list }
-    ensures each { GivesJobs F.Fn call.now list.items result.items }
-{
-    run_together(rt, &Calling { call }, give_up, list)
 }
