@@ -1,6 +1,6 @@
 //! The engine.
 ghost use Rattle.std.specs.Prelude.{◌≡◌, ℕ, ◌<◌, ◌≤◌, ◌⊎◌, List, Some, true, length, slice_get};
-ghost use Rattle.std.specs.Prelude.{IfOk, OnErr, IfSome, IfNone};
+ghost use Rattle.std.specs.Prelude.{IfOk, IsOk, OnErr, IfSome, IfNone};
 ghost use Rattle.std.specs.Borrow.{Bor};
 ghost use Rattle.std.specs.List.{sum_by};
 ghost use mathlib.Core.List.{IsPrefix};
@@ -103,14 +103,9 @@ impl<L: Named, H: Hall, T: Sheet<L, H>> EngineOf<L, H, T> {
         ensures made { made_of pass.new ≡ made_of pass.old }
         ensures refused { refused_of pass.new ≡ refused_of pass.old }
     {
-        for _ in rt.forever() {
-            let front = self.board.lock(rt).front();
-            if front.version() >= pass.version() {
-                pass.told(&front);
-                return front;
-            }
-        }
-        unreachable!()
+        let mut guard = self.board.lock(rt);
+        let board = &mut *guard;
+        board.front_after(pass)
     }
 
     /// Waits for a version in which the query of this serial has its answer, and answers it with
@@ -128,6 +123,7 @@ impl<L: Named, H: Hall, T: Sheet<L, H>> EngineOf<L, H, T> {
         ensures knows { (xs : List H.Step) → HasSeen pass.old xs → HasSeen pass.new xs }
         ensures opening { home pass.new ≡ home pass.old }
         ensures made { made_of pass.new ≡ made_of pass.old }
+        ensures counts { refused_of pass.old ≤ refused_of pass.new }
     {
         for _ in rt.forever() {
             match answer_now(pass, serial) {
@@ -161,6 +157,7 @@ impl<L: Named, H: Hall, T: Sheet<L, H>> EngineOf<L, H, T> {
         ensures knows { (xs : List H.Step) → HasSeen pass.old xs → HasSeen pass.new xs }
         ensures opening { home pass.new ≡ home pass.old }
         ensures made { made_of pass.new ≡ made_of pass.old }
+        ensures counts { refused_of pass.old ≤ refused_of pass.new }
     {
         for _ in rt.forever() {
             let Some(
@@ -200,11 +197,11 @@ impl<L: Named, H: Hall, T: Sheet<L, H>> EngineOf<L, H, T> {
         self.moved.notify_all();
     }
 
-    /// The final office, and how many steps the passes made. All passes are given back.
-    ///
-    /// Errors: where a pass knows more than was published, which doesn't happen.
+    /// The final office, and how many steps the passes made. All passes are given back. It doesn't
+    /// fail.
     pub fn close<W: Wait>(self, rt: &W, passes: Vec<Pass<L, H>>) -> Result<Closed<H>, NoMemory>
         requires { length passes.items ≡ L.parts }
+        ensures closes { IsOk result }
         ensures fitting { IfOk result (λ r. AllFit H.fits (H.opening r.office) (H.steps r.office)) }
         ensures counted { IfOk result (λ r. r.own ≡ length (H.steps r.office)) }
         ensures own { IfOk result (λ r. r.own ≡ sum_by (λ p. length (made_of p)) passes.items) }

@@ -1,7 +1,7 @@
 //! What is asked of one version.
-ghost use Rattle.std.specs.Prelude.{◌≡◌, List, None, Some, IfOk, IfSome, MatchOption};
+ghost use Rattle.std.specs.Prelude.{◌≡◌, ◌≤◌, List, None, Some, IfOk, IfSome, MatchOption};
 ghost use Rattle.tm_engine.specs.Waits.{IsAnswered, IsAsked};
-ghost use Rattle.tm_publish.specs.Words.{home, HasSeen, made_of};
+ghost use Rattle.tm_publish.specs.Words.{home, HasSeen, made_of, refused_of};
 
 use std::alloc::Global;
 use tm_list::NoMemory;
@@ -20,6 +20,7 @@ pub(crate) fn answer_now<L: Named, H: Hall>(
         (λ a. IsAnswered H.fits H.answer_at pass.old pass.new serial a.0 a.1) }
     ensures knows { (xs : List H.Step) → HasSeen pass.old xs → HasSeen pass.new xs }
     ensures same { (made_of pass.new ≡ made_of pass.old) × (home pass.new ≡ home pass.old) }
+    ensures counts { refused_of pass.old ≤ refused_of pass.new }
 {
     pass.look(
         |hall: &H, version: u64| -> (Option<Answered>, u64)
@@ -67,6 +68,7 @@ pub(crate) fn asked_now<L: Named, H: Hall>(
         (λ a. IsAsked H.fits H.first_at H.over_at pass.old pass.new a.first a.over) }
     ensures knows { (xs : List H.Step) → HasSeen pass.old xs → HasSeen pass.new xs }
     ensures same { (made_of pass.new ≡ made_of pass.old) × (home pass.new ≡ home pass.old) }
+    ensures counts { refused_of pass.old ≤ refused_of pass.new }
 {
     pass.look(
         |hall: &H, version: u64| -> Asked<H::Query>

@@ -1,21 +1,18 @@
 //! The writer of an office.
-ghost use Rattle.std.specs.Prelude.{◌≡◌, ℕ, ◌+◌, ◌<◌, ◌≤◌, ◌++◌, ◌∷◌, [], List, Some, IsTrue, true, false};
-ghost use Rattle.std.specs.Prelude.{length, slice_index, slice_get, MatchResult, IfOk, IsErr};
+ghost use Rattle.std.specs.Prelude.{◌≡◌, ℕ, ◌+◌, ◌<◌, ◌≤◌, ◌^◌, ◌++◌, ◌∷◌, [], List, Some, IsTrue, true, false};
+ghost use Rattle.std.specs.Prelude.{length, slice_index, slice_get, MatchResult, IfOk, IsOk, IsErr};
 ghost use Rattle.std.specs.List.{sum_by};
 ghost use mathlib.Core.List.{IsPrefix};
 ghost use Rattle.tm_publish.specs.Fitting.{AllFit};
-ghost use Rattle.tm_publish.specs.History.{opening_of, steps_of, MayFollow};
+ghost use Rattle.tm_publish.specs.History.{opening_of, steps_of, IsNext, MayFollow};
 ghost use Rattle.core.specs.Mem.{manually_drop_value};
-ghost use Rattle.tm_publish.specs.Rules.{head_of};
 
 use crate::closing::give_back;
-use crate::event::{Event, Law};
 use crate::front::{Front, Named};
 use crate::page::{Page, Sheet};
 use crate::pass::Pass;
 use crate::press::Press;
 use core::mem::{ManuallyDrop, replace_with};
-use logbook::Word;
 use std::alloc::{AllocError, Global};
 use std::sync::Wait;
 use std::sync::ledger::{Book, Share};
@@ -32,12 +29,10 @@ pub struct BoardOf<L: Named, O: Office, T: Sheet<L, O>> {
     press: ManuallyDrop<Press<L, O, T>>,
     /// What is published.
     front: Front<L, O>,
-    head: Word<Event<O::Opening, O::Step>, u64, Law>,
     stopped: bool,
     book: Book<L>,
     rest: Share<L>,
     ghost shown: { T.log (manually_drop_value press).writer.desk.shown.value ≡ front.seen.log },
-    ghost head_is: { head ≡ head_of L.history },
     ghost counted: { book.total ≡ front.version },
     ghost nothing: { (rest.parts ≡ 0) × (rest.amount ≡ 0) },
 }
@@ -51,12 +46,10 @@ impl<L: Named, O: Office, T: Sheet<L, O>> BoardOf<L, O, T> {
     pub(crate) fn new(
         press: Press<L, O, T>,
         front: Front<L, O>,
-        head: Word<Event<O::Opening, O::Step>, u64, Law>,
         book: Book<L>,
         rest: Share<L>,
     ) -> BoardOf<L, O, T>
         requires shown { T.log press.writer.desk.shown.value ≡ front.seen.log }
-        requires head { head ≡ head_of L.history }
         requires counted { book.total ≡ front.version }
         requires nothing { (rest.parts ≡ 0) × (rest.amount ≡ 0) }
         ensures { (result.front.seen.log ≡ front.seen.log) × (result.stopped ≡ false) }
@@ -64,7 +57,6 @@ impl<L: Named, O: Office, T: Sheet<L, O>> BoardOf<L, O, T> {
         BoardOf {
             press: unsafe { ManuallyDrop::new_unchecked(press) },
             front,
-            head,
             stopped: false,
             book,
             rest,
@@ -122,8 +114,8 @@ impl<L: Named, O: Office, T: Sheet<L, O>> BoardOf<L, O, T> {
 
     /// Publishes the step as one of the pass, and answers its number.
     ///
-    /// Errors: want of memory, or that it was stopped; what is published stays, and nothing more is
-    /// published.
+    /// Errors: want of memory, that 2^60 steps are made, or that it was stopped; what is published
+    /// stays, and nothing more is published.
     pub fn publish<W: Wait>(
         &mut self,
         rt: &W,
@@ -160,45 +152,63 @@ impl<L: Named, O: Office, T: Sheet<L, O>> BoardOf<L, O, T> {
             return Err(AllocError);
         }
         let now = self.published();
-        if now.version < pass.mind.front.version || now.version >= MOST || !pass.mind.room() {
+        if now.version >= MOST || !pass.mind.room() {
             self.stopped = true;
             return Err(AllocError);
         }
-        let Some(next) = now.after(&self.head, &step) else {
-            self.stopped = true;
-            return Err(AllocError);
-        };
+        self.press.meet(&pass.mind, &now);
         pass.mind.told(&now);
         let printed = replace_with(
             &mut *self.press,
-            (rt, alloc, step, &now, &next),
-            |press: Press<L, O, T>, x: (&W, Global, O::Step, &Front<L, O>, &Front<L, O>)| -> (
+            (rt, alloc, step, &now),
+            |press: Press<L, O, T>, x: (&W, Global, O::Step, &Front<L, O>)| -> (
                 Press<L, O, T>,
-                Result<(), NoMemory>,
+                Result<Front<L, O>, NoMemory>,
             )
                 requires now { x.3.now.seen.log ≡ T.log press.writer.desk.shown.value }
-                requires next { x.4.now.seen.log ≡ x.3.now.seen.log ++ Event.Made x.2 ∷ [] }
                 requires fits { MayFollow O.fits x.3.now.seen.log x.2 }
+                requires room { x.3.now.version < 2 ^ 62 }
                 ensures { MatchResult result.1
-                    (λ _. T.log result.0.writer.desk.shown.value ≡ x.entry.4.now.seen.log)
+                    (λ next. (T.log result.0.writer.desk.shown.value ≡ next.seen.log)
+                    × IsNext x.entry.3.now.seen.log x.entry.2 next.seen.log)
                     (λ _. T.log result.0.writer.desk.shown.value ≡ x.entry.3.now.seen.log) }
-            { press.print(x.0, x.1, x.2, x.3, x.4) },
+            { press.print(x.0, x.1, x.2, x.3) },
         );
-        if printed.is_err() {
+        let Ok(next) = printed else {
             self.stopped = true;
             return Err(AllocError);
-        }
+        };
         self.front = next.twin();
         pass.mind.told(&next);
         pass.mind.make(&mut self.book, next.version);
         Ok(next.version)
     }
 
-    /// The final office, and how many steps the passes made. All passes are given back.
-    ///
-    /// Errors: where a pass knows more than was published, which doesn't happen.
+    /// A front that begins with all that the pass had seen or been told. The pass is told of it.
+    pub fn front_after(&mut self, pass: &mut Pass<L, O>) -> Front<L, O>
+        ensures begins { (xs : List O.Step) → HasSeen pass.old xs → IsPrefix xs (front_list result) }
+        ensures told { HasSeen pass.new (front_list result) }
+        ensures known { known pass.new ≡ front_list result }
+        ensures knows { (xs : List O.Step) → HasSeen pass.old xs → HasSeen pass.new xs }
+        ensures opening { home pass.new ≡ home pass.old }
+        ensures board { front_home result ≡ home pass.old }
+        ensures made { made_of pass.new ≡ made_of pass.old }
+        ensures refused { refused_of pass.new ≡ refused_of pass.old }
+        ensures same { (board_list self.new ≡ board_list self.old)
+            × (board_home self.new ≡ board_home self.old)
+            × (is_stopped self.new ≡ is_stopped self.old) }
+    {
+        let now = self.published();
+        self.press.meet(&pass.mind, &now);
+        pass.told(&now);
+        now
+    }
+
+    /// The final office, and how many steps the passes made. All passes are given back. It doesn't
+    /// fail.
     pub fn close<W: Wait>(self, rt: &W, passes: Vec<Pass<L, O>>) -> Result<Closed<O>, NoMemory>
         requires { length passes.items ≡ L.parts }
+        ensures closes { IsOk result }
         ensures office { IfOk result (λ r. (board_list self ≡ O.steps r.office)
             × (board_home self ≡ Some (O.opening r.office))) }
         ensures fitting { IfOk result (λ r. AllFit O.fits (O.opening r.office) (O.steps r.office)) }
@@ -213,16 +223,14 @@ impl<L: Named, O: Office, T: Sheet<L, O>> BoardOf<L, O, T> {
         let BoardOf {
             press,
             front,
-            head: _,
             stopped: _,
             mut book,
             rest,
         } = self;
-        let page = Box::into_inner(ManuallyDrop::into_inner(press).take(rt));
+        let (shown, mut last) = ManuallyDrop::into_inner(press).take(rt);
+        let page = Box::into_inner(shown);
         let office = page.into_office();
-        if !give_back(&front, &mut book, rest, passes) {
-            return Err(AllocError);
-        }
+        give_back(&front, &mut last, &office, &mut book, rest, passes);
         Ok(Closed {
             office,
             own: front.version,

@@ -1,21 +1,18 @@
 //! The history of a board, which stands in proofs alone.
-ghost use Rattle.std.specs.Prelude.{◌≡◌, ◌+◌, ◌<◌, ◌^◌, ◌++◌, ◌∷◌, [], length, None, IfSome};
-ghost use Rattle.tm_publish.specs.Rules.{head_of};
-
-use logbook::{Gain, Offer, Plain, Play, Rule, Seen, Word};
+use logbook::{Gain, Pen, Plain, Play, Rule};
 use std::marker::PhantomData;
 use tm_office::Office;
 
-/// An entry of the history: the opening, or a step.
+/// An entry of the history: the opening, or a step; and the key of the pen that enters the next one.
 pub enum Event<P, S> {
-    Opened(P),
-    Made(S),
+    Opened(P, u64),
+    Made(S, u64),
 }
 
-/// The rule of the history: its word counts its entries.
+/// The rule of the history: its word counts its entries, and a pen enters one.
 pub struct Law;
 
-impl<E> Rule<E, u64> for Law {
+impl<P, S> Rule<Event<P, S>, u64> for Law {
     ghost use Rattle.std.specs.Prelude.{[]};
     ghost use base.Fml.{ftrue};
     ghost use Rattle.tm_publish.specs.Rules.{IsKept};
@@ -42,7 +39,16 @@ impl<E> Gain<E, u64> for Nothing {
     ghost after = { λ names about answer. ftrue };
 }
 
-/// The step of the history that adds an entry.
+/// The step of the history that enters the opening.
+pub struct First;
+
+impl<E> Play<E, u64> for First {
+    ghost use Rattle.tm_publish.specs.Rules.{Begins};
+
+    ghost then = { Begins };
+}
+
+/// The step of the history that adds an entry, by the last pen.
 pub struct Add;
 
 impl<E> Play<E, u64> for Add {
@@ -51,18 +57,64 @@ impl<E> Play<E, u64> for Add {
     ghost then = { Adds };
 }
 
+/// The step of the history that adds nothing: who has the last pen knows the whole.
+pub struct Whole;
+
+impl<P, S> Play<Event<P, S>, u64> for Whole {
+    ghost use Rattle.tm_publish.specs.Rules.{IsWhole};
+
+    ghost then = { IsWhole };
+}
+
+/// The step of the history that makes a pen.
+pub struct Grow;
+
+impl<E> Play<E, u64> for Grow {
+    ghost use Rattle.tm_publish.specs.Rules.{Grows};
+
+    ghost then = { Grows };
+}
+
+/// A step, and the pen that enters the one after it.
+#[derive(Drop)]
+pub struct Making<'a, S> {
+    pub(crate) step: &'a S,
+    pub(crate) pen: &'a Pen,
+}
+
 /// What a step asks for: that the step is made.
 pub struct Step<S> {
     of: PhantomData<S>,
 }
 
-impl<P, S> Plain<S, Event<P, S>, u64> for Step<S> {
+impl<'a, P, S> Plain<Making<'a, S>, Event<P, S>, u64> for Step<S> {
     ghost use Rattle.std.specs.Prelude.{None};
     ghost use Rattle.tm_publish.specs.declared.event.Event.TheVariants.{Made};
 
-    ghost ask = { λ s. Made s };
+    ghost ask = { λ m. Made m.step.now m.pen.now.nib.key };
+
+    ghost state = { λ m. None };
+}
+
+/// What asks for nothing, beside a step.
+pub struct Beside<S> {
+    of: PhantomData<S>,
+}
+
+impl<P, S> Plain<S, Event<P, S>, u64> for Beside<S> {
+    ghost use Rattle.std.specs.Prelude.{None};
+    ghost use Rattle.tm_publish.specs.declared.event.Event.TheVariants.{Made};
+
+    ghost ask = { λ s. Made s 0 };
 
     ghost state = { λ s. None };
+}
+
+/// An office, and the pen that enters its first step.
+#[derive(Drop)]
+pub struct Opening<'a, O> {
+    pub(crate) office: &'a O,
+    pub(crate) pen: &'a Pen,
 }
 
 /// What the first step asks for: that the office is opened.
@@ -70,38 +122,25 @@ pub struct Open<O> {
     of: PhantomData<O>,
 }
 
-impl<O: Office> Plain<O, Event<O::Opening, O::Step>, u64> for Open<O> {
+impl<'a, O: Office> Plain<Opening<'a, O>, Event<O::Opening, O::Step>, u64> for Open<O> {
     ghost use Rattle.std.specs.Prelude.{None};
     ghost use Rattle.tm_publish.specs.declared.event.Event.TheVariants.{Opened};
 
-    ghost ask = { λ o. Opened (O.opening o) };
+    ghost ask = { λ o. Opened (O.opening o.office.now) o.pen.now.nib.key };
 
     ghost state = { λ o. None };
 }
 
-/// The history with one entry more; None where another one was entered before.
-pub(crate) fn enter<E, X, M: Plain<X, E, u64>>(
-    seen: &Seen<E, u64, Law>,
-    head: &Word<E, u64, Law>,
-    place: u64,
-    about: &X,
-) -> Option<Seen<E, u64, Law>>
-    requires head { head.now ≡ head_of seen.now.book }
-    requires place { length seen.now.log ≡ place }
-    requires room { place < 2 ^ 63 }
-    requires plain { M.state about.now ≡ None }
-    ensures { IfSome result
-        (λ s. (s.book ≡ seen.now.book) × (s.log ≡ seen.now.log ++ M.ask about.now ∷ [])) }
-{
-    let mut next = seen.again();
-    let mut offer: Offer<E, u64, Law, Nothing> = next.plain::<Nothing, X, M>(about);
-    let mut pen = next.no_pen();
-    let found = head.compare_exchange::<Add, Nothing>(
-        place,
-        place + 1,
-        &mut next,
-        &mut offer,
-        &mut pen,
-    );
-    if found == place { Some(next) } else { None }
+/// What asks for nothing, beside an office.
+pub struct Idle<O> {
+    of: PhantomData<O>,
+}
+
+impl<O: Office> Plain<O, Event<O::Opening, O::Step>, u64> for Idle<O> {
+    ghost use Rattle.std.specs.Prelude.{None};
+    ghost use Rattle.tm_publish.specs.declared.event.Event.TheVariants.{Opened};
+
+    ghost ask = { λ o. Opened (O.opening o) 0 };
+
+    ghost state = { λ o. None };
 }

@@ -1,10 +1,9 @@
 //! Beginnings of the history that were reached.
-ghost use Rattle.std.specs.Prelude.{◌≡◌, ◌+◌, ◌<◌, ◌^◌, ◌++◌, ◌∷◌, [], length, IfSome, IsTrue, true};
+ghost use Rattle.std.specs.Prelude.{◌≡◌, ◌+◌, length, IsTrue, true};
 ghost use Rattle.tm_publish.specs.History.{is_opened, steps_of};
-ghost use Rattle.tm_publish.specs.Rules.{head_of};
 
-use crate::event::{Event, Law, Open, Step, enter};
-use logbook::{Seen, Word};
+use crate::event::{Event, Law};
+use logbook::Seen;
 use std::marker::{Brand, PhantomData};
 use std::sync::ledger::Ledger;
 use tm_office::Office;
@@ -37,24 +36,22 @@ pub struct Front<L: Named, O: Office> {
 impl<L: Named, O: Office> Front<L, O> {
     ghost use Rattle.tm_publish.specs.Words.{front_home, front_list};
 
-    /// The first front, of an office with no step; None where something was entered before, which
-    /// doesn't happen.
-    pub(crate) fn open(
-        seen: &Seen<Event<O::Opening, O::Step>, u64, Law>,
-        head: &Word<Event<O::Opening, O::Step>, u64, Law>,
-        office: &O,
-    ) -> Option<Front<L, O>>
-        requires named { seen.now.book ≡ L.history }
-        requires head { head.now ≡ head_of L.history }
-        requires empty { seen.now.log ≡ [] }
-        ensures { IfSome result (λ f. f.seen.log ≡ Event.Opened (O.opening office.now) ∷ []) }
+    /// A front of what was seen, an opening and so many steps.
+    pub(crate) fn of_seen(
+        seen: Seen<Event<O::Opening, O::Step>, u64, Law>,
+        version: u64,
+    ) -> Front<L, O>
+        requires named { seen.book ≡ L.history }
+        requires counted { version ≡ length (steps_of seen.log) }
+        requires whole { length seen.log ≡ version + 1 }
+        requires opened { is_opened seen.log ≡ true }
+        ensures { (result.seen ≡ seen) × (result.version ≡ version) }
     {
-        let next = enter::<Event<O::Opening, O::Step>, O, Open<O>>(seen, head, 0, office)?;
-        Some(Front {
-            seen: next,
-            version: 0,
+        Front {
+            seen,
+            version,
             of: PhantomData,
-        })
+        }
     }
 
     /// How long its list is.
@@ -81,28 +78,6 @@ impl<L: Named, O: Office> Front<L, O> {
             version: self.version,
             of: PhantomData,
         }
-    }
-
-    /// The front with one step more; None where another step was entered before, which doesn't
-    /// happen.
-    pub(crate) fn after(
-        &self,
-        head: &Word<Event<O::Opening, O::Step>, u64, Law>,
-        step: &O::Step,
-    ) -> Option<Front<L, O>>
-        requires head { head.now ≡ head_of L.history }
-        requires room { self.now.version < 2 ^ 62 }
-        ensures { IfSome result (λ f. f.seen.log ≡ self.now.seen.log ++ Event.Made step.now ∷ []) }
-    {
-        let place = self.version + 1;
-        let next = enter::<Event<O::Opening, O::Step>, O::Step, Step<O::Step>>(
-            &self.seen, head, place, step,
-        )?;
-        Some(Front {
-            seen: next,
-            version: place,
-            of: PhantomData,
-        })
     }
 
     /// True where the two have one list.

@@ -3,10 +3,11 @@ ghost use Rattle.std.specs.Prelude.{◌≡◌, ℕ, ◌+◌, ◌<◌, ◌≤◌,
 ghost use Rattle.std.specs.Prelude.{length, take, slice_index, vec_capacity};
 ghost use mathlib.Core.List.{IsPrefix};
 ghost use Rattle.tm_publish.specs.Beginnings.{longer};
-ghost use Rattle.tm_publish.specs.History.{opening_of, steps_of, Knows};
+ghost use Rattle.tm_publish.specs.History.{opening_of, steps_of, next_key, Knows};
 
 use crate::event::{Event, Law};
 use crate::front::{Front, Named};
+use crate::last::Last;
 use logbook::Seen;
 use std::sync::ledger::{Book, Share};
 use tm_office::Office;
@@ -65,6 +66,15 @@ impl<L: Named, O: Office> Mind<L, O> {
         if self.front.version <= front.version {
             self.front = front.twin();
         }
+    }
+
+    /// The front is all that was published, so the pass knows no more.
+    pub(crate) fn meet(&self, last: &mut Last<L, O>, now: &Front<L, O>, office: &O)
+        requires key { last.old.pen.nib.key ≡ next_key now.now.seen.log }
+        ensures met { self.now.front.version ≤ now.now.version }
+        ensures same { last.new.pen.nib.key ≡ last.old.pen.nib.key }
+    {
+        last.meet(now, &self.all, office);
     }
 
     /// Counts an entry that was refused.

@@ -6,6 +6,7 @@ ghost use Rattle.tm_publish.specs.Words.{IsFresh};
 use crate::blank::Blank;
 use crate::board::{Board, BoardOf};
 use crate::front::{Front, Named};
+use crate::last::Last;
 use crate::page::Page;
 use crate::pass::Pass;
 use crate::press::Press;
@@ -82,7 +83,7 @@ pub fn open_board<L: Named, O: Office, W: Wait>(
 {
     let Blank { ledger, head, seen } = blank;
     let (book, mut all) = ledger.open::<L>();
-    let Some(front) = Front::open(&seen, &head, &office) else {
+    let Some((last, front)) = Last::open(&seen, head, &office) else {
         return Err(AllocError);
     };
     let spare = Page::new(office.copy(alloc)?, &front);
@@ -102,10 +103,10 @@ pub fn open_board<L: Named, O: Office, W: Wait>(
         return Err(AllocError);
     }
     let made = make_passes(rt, alloc, writer.factory(), &front, &mut all, passes);
-    let press = Press::new(writer);
+    let press = Press::new(writer, last);
     match made {
         Ok(made) => {
-            let board = BoardOf::new(press, front, head, book, all);
+            let board = BoardOf::new(press, front, book, all);
             Ok((board, made))
         }
         Err(_) => {

@@ -1,9 +1,10 @@
 //! An office beside the history that it stands for.
 ghost use Rattle.std.specs.Prelude.{◌≡◌, ◌++◌, [], Some, MatchResult};
 ghost use Rattle.tm_publish.specs.Fitting.{AllFit};
-ghost use Rattle.tm_publish.specs.History.{opening_of, steps_of, MayFollow, entries};
+ghost use Rattle.tm_publish.specs.History.{opening_of, steps_of, next_key, MayFollow, entries};
 
 use crate::front::{Front, Named};
+use crate::last::Last;
 use left_right::Absorb;
 use std::alloc::Global;
 use tm_list::NoMemory;
@@ -58,11 +59,10 @@ impl<L: Named, O: Office> Page<L, O> {
 
 /// A page as the press sees it: what holds a writer of pages is generic in them.
 pub trait Sheet<L: Named, O: Office>: Absorb<(), State = ()> + Drop {
-    ghost use Rattle.std.specs.Prelude.{◌≡◌, ◌++◌, ◌∷◌, [], List, Some, MatchResult};
+    ghost use Rattle.std.specs.Prelude.{◌≡◌, ◌<◌, ◌^◌, List, Some, MatchResult};
     ghost use Rattle.tm_publish.specs.declared.event.Event.{Event};
-    ghost use Rattle.tm_publish.specs.declared.event.Event.TheVariants.{Made};
     ghost use Rattle.tm_publish.specs.Fitting.{AllFit};
-    ghost use Rattle.tm_publish.specs.History.{opening_of, steps_of, MayFollow};
+    ghost use Rattle.tm_publish.specs.History.{opening_of, steps_of, next_key, IsNext, MayFollow};
 
     // the history that it stands for
     ghost log: { Self → List (Event O.Opening O.Step) };
@@ -70,11 +70,32 @@ pub trait Sheet<L: Named, O: Office>: Absorb<(), State = ()> + Drop {
     /// Applies the step by which the front is further.
     ///
     /// Errors: want of memory; the page is as before.
-    fn grow(&mut self, alloc: Global, step: &O::Step, front: &Front<L, O>) -> Result<(), NoMemory>
+    fn follow(&mut self, alloc: Global, step: &O::Step, front: &Front<L, O>) -> Result<(), NoMemory>
         requires fits { MayFollow O.fits (log self.old) step.now }
-        requires front { front.now.seen.log ≡ log self.old ++ Made step.now ∷ [] }
+        requires front { IsNext (log self.old) step.now front.now.seen.log }
         ensures { MatchResult result (λ _. log self.new ≡ front.now.seen.log)
             (λ _. log self.new ≡ log self.old) };
+
+    /// Applies a step, and enters it in the history, of which the front is all.
+    ///
+    /// Errors: want of memory; the page is as before, and nothing is entered.
+    fn grow(
+        &mut self,
+        alloc: Global,
+        step: &O::Step,
+        now: &Front<L, O>,
+        last: &mut Last<L, O>,
+    ) -> Result<Front<L, O>, NoMemory>
+        requires fits { MayFollow O.fits (log self.old) step.now }
+        requires now { now.now.seen.log ≡ log self.old }
+        requires key { last.old.pen.nib.key ≡ next_key now.now.seen.log }
+        requires room { now.now.version < 2 ^ 62 }
+        ensures grown { MatchResult result
+            (λ next. (log self.new ≡ next.seen.log) × IsNext (log self.old) step.now next.seen.log)
+            (λ _. log self.new ≡ log self.old) }
+        ensures key { MatchResult result
+            (λ next. last.new.pen.nib.key ≡ next_key next.seen.log)
+            (λ _. last.new.pen.nib.key ≡ last.old.pen.nib.key) };
 
     /// Its office.
     fn office(&self) -> &O
@@ -96,10 +117,28 @@ impl<L: Named, O: Office> Sheet<L, O> for Page<L, O> {
 
     ghost log = { λ p. p.front.seen.log };
 
-    fn grow(&mut self, alloc: Global, step: &O::Step, front: &Front<L, O>) -> Result<(), NoMemory> {
+    fn follow(
+        &mut self,
+        alloc: Global,
+        step: &O::Step,
+        front: &Front<L, O>,
+    ) -> Result<(), NoMemory> {
         self.office.apply(alloc, step)?;
         self.front = front.twin();
         Ok(())
+    }
+
+    fn grow(
+        &mut self,
+        alloc: Global,
+        step: &O::Step,
+        now: &Front<L, O>,
+        last: &mut Last<L, O>,
+    ) -> Result<Front<L, O>, NoMemory> {
+        self.office.apply(alloc, step)?;
+        let next = last.enter(now, step);
+        self.front = next.twin();
+        Ok(next)
     }
 
     fn office(&self) -> &O {
@@ -125,14 +164,15 @@ pub(crate) fn catch_up<L: Named, O: Office, T: Sheet<L, O>>(
     front: &Front<L, O>,
 ) -> Result<(), O::Step>
     requires fits { (s : O.Step) → late ≡ Some s → MayFollow O.fits (T.log page.old) s }
-    requires front { front.now.seen.log ≡ T.log page.old ++ entries late }
+    requires front { front.now.seen.log ≡ T.log page.old
+        ++ entries (next_key front.now.seen.log) late }
     ensures { MatchResult result (λ _. T.log page.new ≡ front.now.seen.log) (λ s. (late ≡ Some s)
         × (T.log page.new ≡ T.log page.old)) }
 {
     let Some(step) = late else {
         return Ok(());
     };
-    match page.grow(alloc, &step, front) {
+    match page.follow(alloc, &step, front) {
         Ok(()) => Ok(()),
         Err(_) => Err(step),
     }

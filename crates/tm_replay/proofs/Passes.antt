@@ -58,8 +58,8 @@ module _ {L O : Type 0} {n : _} {l : _} {o : _} where
     where
       there : (log : List (Event Start Made)) → history.is_opened log ≡ true → history.opening_of log ≡ Some (unwrap_or (history.opening_of log) no_start)
       there [] is = absurd (true≢false (sym is))
-      there (event.Opened p ∷ log) is = refl
-      there (event.Made s ∷ log) is = absurd (true≢false (sym is))
+      there (event.Opened p k ∷ log) is = refl
+      there (event.Made s k ∷ log) is = absurd (true≢false (sym is))
 
   -- what a pass knows fits from its opening
   pub knows-fit : (old new : Pass L O Start Made n l o) → home new ≡ home old → ((p : Start) → home old ≡ Some p → EachFits tomoyo_grammar p (known new)) → FitsFrom (home_of new) (known new)
