@@ -7,7 +7,8 @@ import sys
 
 from texts import BAD_WORDS, NO_OUTPUT, Stop
 
-WORDS = ("why", "suggest", "tree", "curve", "unused", "compare", "check", "help", "refusal")
+WORDS = ("why", "suggest", "tree", "curve", "unused", "shapes", "compare",
+         "check", "help", "refusal")
 
 
 def main(line):

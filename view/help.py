@@ -20,6 +20,8 @@ On a play that is stored in the folder, the script `tomoyo` tells more:
   tree [--svg]  the domains as a tree, with what they were asked, or as a picture
   curve         what each tenth of the requests added: was the recording long?
   unused        the lines that granted nothing
+  shapes [--lines]
+                patterns for names that are others at each boot
   compare FOLDER
                 which requests of this trace the policy of FOLDER answers
                 otherwise, or leads elsewhere
@@ -80,7 +82,7 @@ def main(line):
     topic = line[0] if line else ""
     if topic in ("install", "--unproved"):
         sys.stdout.write(MORE[MORE.index("It also takes"):])
-    elif topic in ("why", "suggest", "tree", "curve", "unused", "compare",
+    elif topic in ("why", "suggest", "tree", "curve", "unused", "shapes", "compare",
                    "check"):
         sys.stdout.write(importlib.import_module(topic).__doc__)
     else:
