@@ -1,13 +1,14 @@
 """usage: tomoyo [-C DIR] shapes [--lines]
 
-Proposes patterns for names that are others at each boot: lines of one
-domain with equal permissions whose names differ in numbers alone, or
-in six or more last letters of one component that look like those of
-a temporary file, from 3 lines on. Each proposal is tried by a play of
-the trace in which what learns or is permissive enforces: with the
-patterns in place of the lines every request has to end as with the
-lines, but for those that are granted now and weren't. These are told.
-What a pattern grants beyond this trace no play shows: read it.
+Proposes patterns for names that are others at each boot: lines of
+one domain with equal permissions whose names differ in numbers
+alone, or in six or more last letters of one component that look
+like those of a temporary file, from 3 lines on. Each proposal is
+tried by a play of the trace in which what learns or is permissive
+enforces: with the patterns in place of the lines every request has
+to end as with the lines, but for those that are granted now and
+weren't. These are told. What a pattern grants beyond this trace no
+play shows: read it.
 
 With --lines it prints the lines as they are appended to the policy
 that the play began with: `tomoyo shapes --lines >> domain_policy`,
