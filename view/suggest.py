@@ -15,10 +15,10 @@ behind it; it says which domain and which profile to write.
 Reads    run and the .new files, as a play has stored them, and the
          files that it has read; they have to be those of one play
 Stores   nothing
-Prints   the lines; and on standard error how many they are, how many
-         requests are still denied in a play with them, and what
-         isn't seen here: requests that passed in permissive mode or
-         in disabled mode, and those that learned nothing
+Prints   the lines; and on standard error how many they are, how
+         many requests are still denied in a play with them, and
+         what isn't seen here: requests that passed in permissive
+         mode or in disabled mode, and those that learned nothing
 
 Exit statuses: 0 nothing was denied; 1 bad words; 2 something was
 denied; 65 the files aren't those of one play, 66 one is missing or
