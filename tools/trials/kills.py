@@ -15,7 +15,7 @@ import subprocess
 import sys
 import tempfile
 
-from calls import STORED, call, files_of, lay
+from calls import INPUTS, STORED, call, files_of, lay
 
 KILL = os.path.join(os.path.dirname(os.path.abspath(__file__)), "kill.c")
 EARLIER = b"an earlier file\n"
@@ -46,8 +46,7 @@ class Runs:
         if ended.status != 0:
             sys.exit("the run that isn't killed ended with %s: %s" % (ended.status, ended.line()))
         stored = [name for name in self.new if self.new[name] != inputs.get(name)]
-        self.order = [name for name in STORED if name in stored]
-        self.order += [name for name in stored if name not in STORED]
+        self.order = [name for name in (*INPUTS, *STORED) if name in stored]
         self.old = {**inputs, **{name: EARLIER for name in stored if name not in inputs}}
 
     def run(self, folder, number=0, half=False):
@@ -95,7 +94,7 @@ class Runs:
             if left[name] not in (self.old[name], self.new[name]):
                 return "%s is neither the earlier file nor the new one" % name
         made = [left[name] == self.new[name] for name in self.order]
-        if self.order[0] in STORED and made != sorted(made, reverse=True):
+        if made != sorted(made, reverse=True):
             return "a file is new, and one that is stored before it isn't"
         return None
 
