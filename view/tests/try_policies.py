@@ -46,6 +46,10 @@ class Joined(unittest.TestCase):
         made.add("file read /a task.uid=0")
         self.assertEqual(made.lines()[2:], ["file read /a task.uid=0"])
 
+    def test_permissions_are_printed_in_their_order(self):
+        self.assertEqual(self.entries("file append/execute /a", "file read /a").lines(),
+                         ["file execute/read/append /a"])
+
     def test_arguments_that_are_permissions(self):
         made = self.entries("file read read", "file write read")
         self.assertEqual(made.lines(), ["file read/write read"])
