@@ -1,5 +1,6 @@
 """Plays of copies in which what enforces learns, and what they say of the stored play."""
 from history import Numbered, domains_of
+from plays import moves, origins
 from runs import read_run
 from texts import lines_of, read_if_there, words
 
@@ -55,9 +56,11 @@ class Copy:
         files["trace"] = play.trace_text
         files["edits"] = learning_edits(read_if_there("edits"))
         files["schedule"] = read_if_there("schedule")
+        self.files = files
         self.run = read_run(engine.played(files))
         self.numbered = Numbered(domains_of(policy), self.run.steps)
         self.numbered.finish()
+        self.behind = origins(play, self.leads_nowhere)
 
     def domain_before(self, take):
         return self.numbered.domain(take.before)
@@ -67,17 +70,30 @@ class Copy:
         take = self.run.takes[number - 1]
         return not take.is_granted or take.last.move == "fail"
 
-    def learned(self):
-        """The lines that were learned where the mode was enforcing, by domain."""
-        found = {}
+    def nowhere(self, play):
+        """The takes that are denied a move in the play, and that lead nowhere here."""
+        return [take for take in self.run.takes if self.leads_nowhere(take.number)
+                and take.number not in self.behind
+                and not play.run.takes[take.number - 1].is_granted
+                and moves(play.asked(take).request)]
+
+    def learning(self):
+        """The takes that were learned from where the mode was enforcing, each with its line. Those
+        behind one that leads nowhere are none: what they ask belongs to a domain that isn't there.
+        """
         for take in self.run.takes:
-            if not take.is_logged or self.leads_nowhere(take.number):
+            if not take.is_logged or self.leads_nowhere(take.number) or take.number in self.behind:
                 continue
             for number in take.last.steps:
                 step = self.run.steps[number - 1]
                 if step.kind == "learn":
-                    lines = found.setdefault(self.numbered.domain(step.rest[0]), [])
-                    lines.append(" ".join(step.rest[1:]))
+                    yield take, " ".join(step.rest[1:])
+
+    def learned(self):
+        """The lines that were learned where the mode was enforcing, by domain."""
+        found = {}
+        for take, line in self.learning():
+            found.setdefault(self.domain_before(take), []).append(line)
         return found
 
     def transitions(self, play, is_granted):
@@ -85,7 +101,8 @@ class Copy:
         found = {}
         for take in self.run.takes:
             is_manual = play.asked(take).request.startswith("task ")
-            if is_manual and take.is_granted == is_granted and take.last.reason != "not_ready":
+            if is_manual and take.is_granted == is_granted and take.last.reason != "not_ready" \
+                    and take.number not in self.behind:
                 found.setdefault(self.domain_before(take), []).append(play.asked(take).text())
         return found
 

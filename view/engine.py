@@ -31,10 +31,11 @@ class Ended:
         self.files = files
 
 
-def policy_files():
-    """The four policy files of the folder, those that may be missing as empty texts."""
-    files = {name: read(name) for name in ("profile", "domain_policy")}
-    files.update((name, read_if_there(name)) for name in ("exception_policy", "manager"))
+def policy_files(folder=""):
+    """The four policy files of a folder, those that may be missing as empty texts."""
+    files = {name: read(os.path.join(folder, name)) for name in ("profile", "domain_policy")}
+    files.update((name, read_if_there(os.path.join(folder, name)))
+                 for name in ("exception_policy", "manager"))
     return files
 
 

@@ -20,11 +20,15 @@ On a play that is stored in the folder, the script `tomoyo` tells more:
   tree [--svg]  the domains as a tree, with what they were asked, or as a picture
   curve         what each tenth of the requests added: was the recording long?
   unused        the lines that granted nothing
+  compare FOLDER
+                which requests of this trace the policy of FOLDER answers
+                otherwise, or leads elsewhere
   check         every line of the policy that is refused, not only the first
 
 `tomoyo help WORD` tells more of each. These end with 65 where the files aren't
 those of one play, with 66 where one is missing, and with 70 where the program
-can't be asked; `why` and `suggest` end with 2 where something was denied.
+can't be asked; `why` and `suggest` end with 2 where something was denied,
+`compare` where something changes.
 
 From the log of a machine:
 
@@ -81,7 +85,7 @@ def main(line):
     topic = line[0] if line else ""
     if topic in ("install", "--unproved"):
         sys.stdout.write(MORE[MORE.index("It also takes"):])
-    elif topic in ("why", "suggest", "tree", "curve", "unused", "check", "trace"):
+    elif topic in ("why", "suggest", "tree", "curve", "unused", "compare", "check", "trace"):
         sys.stdout.write(importlib.import_module(topic).__doc__)
     else:
         sys.stdout.write(help_text(topic) + ("" if topic else MORE))

@@ -1,4 +1,4 @@
-"""The play that is stored in the folder, with all that it was played of."""
+"""Plays with all that they were played of, and the one that is stored in the folder."""
 from functools import cached_property
 
 from engine import policy_files
@@ -25,18 +25,36 @@ def stored_run(engine):
     return run
 
 
-class StoredPlay:
-    """A stored run, the trace and the policy that it is of, and that policy's history, which is
-    made where it is asked for."""
+def moves(request):
+    """Whether a request may lead into another domain."""
+    return request.startswith(("file execute ", "task "))
 
-    def __init__(self, engine):
+
+def origins(play, is_lost):
+    """Of each take whose process, or one that it descends from, was denied a move before which is
+    lost: the number of the last such take."""
+    lost, found = {}, {}
+    for take in play.run.takes:
+        for parent, child in play.trace.forks.get(take.number - 1, ()):
+            if parent in lost:
+                lost[child] = lost[parent]
+        if take.pid in lost:
+            found[take.number] = lost[take.pid]
+        if not take.is_granted and moves(play.asked(take).request) and is_lost(take.number):
+            lost[take.pid] = take.number
+    return found
+
+
+class Play:
+    """A run, the trace and the policy that it is of, and that policy's history, which is made where
+    it is asked for."""
+
+    def __init__(self, engine, run, trace_text, files):
         self.engine = engine
-        self.run = read_run(read("run"))
-        self.trace_text = read("trace")
-        self.trace = read_trace(self.trace_text)
-        self.files = policy_files()
-        check_trace(self.run, [request.pid for request in self.trace.asked])
-        engine.judge_run()
+        self.run = run
+        self.trace_text = trace_text
+        self.trace = read_trace(trace_text)
+        self.files = files
 
     @cached_property
     def names(self):
@@ -64,6 +82,15 @@ class StoredPlay:
     def name(self, number):
         """The name of the domain of a number, at whatever version it was made."""
         return self.names.domains.name(number)
+
+
+class StoredPlay(Play):
+    """The play of the folder, whose files are those of one play."""
+
+    def __init__(self, engine):
+        super().__init__(engine, read_run(read("run")), read("trace"), policy_files())
+        check_trace(self.run, [request.pid for request in self.trace.asked])
+        engine.judge_run()
 
     def finish(self):
         """Makes all steps. The policy that comes out is the one that is stored."""

@@ -28,7 +28,7 @@ from collections import Counter
 from clean import Unclean, judged_line, let_pass, warn_of_disabled
 from copies import freed
 from engine import Engine
-from plays import StoredPlay
+from plays import StoredPlay, origins
 from questions import Question, answers
 from texts import BAD_WORDS, DENIED, Stop, counted
 
@@ -87,27 +87,6 @@ def told_takes(play, takes):
     for take in sorted(takes, key=lambda take: take.last.version):
         play.history.advance(take.last.version)
         found[take.number] = Told(play, take)
-    play.finish()
-    return found
-
-
-def moves(request):
-    """Whether a request may lead into another domain."""
-    return request.startswith(("file execute ", "task "))
-
-
-def origins(play):
-    """Of each take whose process, or one that it descends from, was denied a move before: the
-    number of the last such take."""
-    lost, found = {}, {}
-    for take in play.run.takes:
-        for parent, child in play.trace.forks.get(take.number - 1, ()):
-            if parent in lost:
-                lost[child] = lost[parent]
-        if take.pid in lost:
-            found[take.number] = lost[take.pid]
-        if not take.is_granted and moves(play.asked(take).request):
-            lost[take.pid] = take.number
     return found
 
 
@@ -115,7 +94,7 @@ def behind(play, copy):
     """The denied takes that are asked in another domain where nothing is denied on the way, each
     with the number of the denied move that it stands behind."""
     found = {}
-    for number, origin in origins(play).items():
+    for number, origin in origins(play, lambda number: True).items():
         take = play.run.takes[number - 1]
         elsewhere = copy.domain_before(copy.run.takes[number - 1]).name != play.name(take.before)
         if not take.is_granted and (elsewhere or copy.leads_nowhere(origin)):
@@ -180,6 +159,7 @@ def tell_some(engine, play, numbers):
         if not 1 <= number <= there:
             raise Stop("the run has takes 1 to %d, and no %d" % (there, number), BAD_WORDS)
     told = told_takes(play, [play.run.takes[number - 1] for number in set(numbers)])
+    play.finish()
     found = answered(engine, play, told.values())
     for number in numbers:
         put_take(play, told[number], 0)
@@ -209,6 +189,7 @@ def tell_causes(engine, play, causes):
     if not causes.denied:
         return
     told = told_takes(play, [takes[0] for takes in causes.alike])
+    play.finish()
     found = answered(engine, play, told.values())
     for takes in causes.alike:
         first = takes[0]
