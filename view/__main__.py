@@ -7,8 +7,8 @@ import sys
 
 from texts import BAD_WORDS, NO_OUTPUT, Stop
 
-WORDS = ("why", "suggest", "tree", "curve", "unused", "compare", "check", "trace", "help",
-         "refusal")
+WORDS = ("why", "suggest", "tree", "curve", "unused", "shapes", "compare", "check", "trace",
+         "help", "refusal")
 
 
 def main(line):

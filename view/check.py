@@ -6,8 +6,8 @@ behind it are judged, as Linux leaves it out. It ends where it has
 found 1,000, and says so.
 
 Reads    profile and domain_policy, which have to be there;
-         exception_policy and manager, which count as empty where they
-         are missing
+         exception_policy and manager, which count as empty where
+         they are missing
 Stores   nothing
 Prints   FILE:N: REPLY: a sentence, and the line, for each refused
          line; and then

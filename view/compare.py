@@ -1,16 +1,17 @@
 """usage: tomoyo [-C DIR] compare FOLDER
 
-Tells which requests of the trace of this folder are answered otherwise
-under the policy of FOLDER, or lead into other domains, or are asked
-in others: it plays the trace, with the edits, answers and schedule of
-this folder, under both policies. Those that change alike are told
-together, with the line that decides on each side. Those that are
-answered alike, and asked in another domain only since the process was
-led there before, are counted. FOLDER is looked for in DIR.
+Tells which requests of the trace of this folder are answered
+otherwise under the policy of FOLDER, or lead into other domains, or
+are asked in others: it plays the trace, with the edits, answers and
+schedule of this folder, under both policies. Those that change
+alike are told together, with the line that decides on each side.
+Those that are answered alike, and asked in another domain only
+since the process was led there before, are counted. FOLDER is
+looked for in DIR.
 
-Reads    profile, domain_policy and trace, which have to be there, and
-         exception_policy, manager, edits, answers and schedule; and
-         of FOLDER the four policy files
+Reads    profile, domain_policy and trace, which have to be there,
+         and exception_policy, manager, edits, answers and schedule;
+         and of FOLDER the four policy files
 Stores   nothing
 Prints   a paragraph for each change, and then
          requests R answers A domains D moved M changes C

@@ -1,16 +1,17 @@
 """usage: tomoyo [-C DIR] curve
 
-Tells how many lines and domains each tenth of the requests of a play
-added to the policy. Where the last tenths still add as many as the
-first ones, a longer recording would teach more. In the bars # stands
-for lines that were learned, and - for requests that learned nothing
-since their domain was full: what these would have taught isn't known.
+Tells how many lines and domains each tenth of the requests of a
+play added to the policy. Where the last tenths still add as many as
+the first ones, a longer recording would teach more. In the bars #
+stands for lines that were learned, and - for requests that learned
+nothing since their domain was full: what these would have taught
+isn't known.
 
-Reads    run, as a play has stored it, and the files that the play has
-         read; they have to be those of one play
+Reads    run, as a play has stored it, and the files that the play
+         has read; they have to be those of one play
 Stores   nothing
-Prints   a line for each tenth, and one for all; and where a domain was
-         full, how many requests learned nothing
+Prints   a line for each tenth, and one for all; and where a domain
+         was full, how many requests learned nothing
 
 Exit statuses: 0 done; 1 bad words; 65 the files aren't those of one
 play, 66 one is missing or can't be read.

@@ -11,36 +11,48 @@ TOP = os.path.dirname(os.path.dirname(os.path.abspath(__file__)))
 SOURCE = os.path.join(TOP, "crates", "tomoyo_run", "src", "command_line.rt")
 
 MORE = """
-On a play that is stored in the folder, the script `tomoyo` tells more:
+On a play that is stored in the folder, the script `tomoyo` tells
+more:
 
   why [--short | N ..]
-                why requests were denied, and what made the run unclean;
-                or what became of the requests of these numbers
+                why requests were denied, and what made the run
+                unclean; or what became of these requests
   suggest       the lines that would grant what was denied
-  tree [--svg]  the domains as a tree, with what they were asked, or as a picture
-  curve         what each tenth of the requests added: was the recording long?
+  tree [--svg]  the domains as a tree, with what they were asked,
+                or as a picture
+  curve         what each tenth of the requests added: was the
+                recording long?
   unused        the lines that granted nothing
-  compare FOLDER
-                which requests of this trace the policy of FOLDER answers
-                otherwise, or leads elsewhere
-  check         every line of the policy that is refused, not only the first
+  shapes [--lines]
+                patterns for names that are others at each boot
 
-`tomoyo help WORD` tells more of each. These end with 65 where the files aren't
-those of one play, with 66 where one is missing, and with 70 where the program
-can't be asked; `why` and `suggest` end with 2 where something was denied,
-`compare` where something changes.
+And on the files of the folder:
+
+  compare FOLDER
+                which requests of the trace the policy of FOLDER
+                answers otherwise, or leads elsewhere
+  check         every line of the policy that is refused, not only
+                the first
+
+`tomoyo help WORD` tells more of each. These end with 65 where the
+files aren't those of one play, with 66 where one is missing, and
+with 70 where the program can't be asked; `why` and `suggest` end
+with 2 where something was denied, `compare` where something differs.
 
 From the log of a machine:
 
-  trace [LOG]   prints the trace of an audit log, and sums what was left out
+  trace [LOG]   prints the trace of an audit log, and sums what was
+                left out
 
 It also takes, in a checkout,
 
-  install DESTDIR PREFIX    installs what is built, with pages and examples, in
-                            DESTDIR, which may be empty, below PREFIX
-  --unproved WORDS          builds the sources without proofs, and runs a
-                            command of the program, tree, curve or trace;
-                            each such call builds anew, which takes minutes
+  install DESTDIR PREFIX
+                installs what is built, with pages and examples, in
+                DESTDIR, which may be empty, below PREFIX
+  --unproved WORDS
+                builds the sources without proofs, and runs a command
+                of the program, tree, curve or trace; each such call
+                builds anew, which takes minutes
 """
 
 
@@ -85,7 +97,8 @@ def main(line):
     topic = line[0] if line else ""
     if topic in ("install", "--unproved"):
         sys.stdout.write(MORE[MORE.index("It also takes"):])
-    elif topic in ("why", "suggest", "tree", "curve", "unused", "compare", "check", "trace"):
+    elif topic in ("why", "suggest", "tree", "curve", "unused", "shapes", "compare", "check",
+                   "trace"):
         sys.stdout.write(importlib.import_module(topic).__doc__)
     else:
         sys.stdout.write(help_text(topic) + ("" if topic else MORE))

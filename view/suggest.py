@@ -15,10 +15,10 @@ behind it; it says which domain and which profile to write.
 Reads    run and the .new files, as a play has stored them, and the
          files that it has read; they have to be those of one play
 Stores   nothing
-Prints   the lines; and on standard error how many they are, how many
-         requests are still denied in a play with them, and what
-         isn't seen here: requests that passed in permissive mode or
-         in disabled mode, and those that learned nothing
+Prints   the lines; and on standard error how many they are, how
+         many requests are still denied in a play with them, and
+         what isn't seen here: requests that passed in permissive
+         mode or in disabled mode, and those that learned nothing
 
 Exit statuses: 0 nothing was denied; 1 bad words; 2 something was
 denied; 65 the files aren't those of one play, 66 one is missing or
@@ -31,6 +31,7 @@ from copies import freed
 from engine import Engine
 from entering import entered, made
 from plays import StoredPlay, origins
+from policies import CONDITIONS
 from questions import Question, answers
 from sentences import shortened
 from texts import BAD_WORDS, DENIED, Stop, counted, read_if_there
@@ -64,9 +65,15 @@ def say_what_is_hidden(play):
     warn_of_disabled(play)
 
 
+def is_as_learned(line):
+    """Whether the conditions of a line are just those that learning writes."""
+    lefts = [word.partition("=")[0] for word in line.split(" ") if word.startswith(CONDITIONS)]
+    return lefts in (["exec.realpath", "exec.argv[0]"], ["symlink.target"])
+
+
 def conditional(engine, play, copy, suggested):
-    """The suggested lines that would not be needed but for the condition of another, each with that
-    other line."""
+    """The suggested lines that would not be needed but for the condition of another, which isn't as
+    learned ones are, each with that other line."""
     asked = {}
     for take, line in copy.learning():
         domain = copy.domain_before(take)
@@ -75,7 +82,7 @@ def conditional(engine, play, copy, suggested):
             asked.setdefault((domain.name, line), Question(domain, known.request, known.ids))
     found = answers(engine, list(asked.values()))
     return [(line, answer.conditional) for (_, line), answer in zip(asked, found)
-            if answer.conditional and not answer.granted]
+            if answer.conditional and not answer.granted and not is_as_learned(answer.conditional)]
 
 
 def say_lifted(found):

@@ -1,17 +1,19 @@
 """usage: tomoyo [-C DIR] tree [--svg]
 
-Draws the domains as a tree, each with its profile in brackets, its flags, the
-entries that it has after the play, how many lines it learned, and how many
-requests it was asked for, granted and denied. A domain stands below the longest
-name that its own begins with. `--svg` draws the same as a picture for a page.
+Draws the domains as a tree, each with its profile in brackets, its
+flags, the entries that it has after the play, how many lines it
+learned, and how many requests it was asked for, granted and denied.
+A domain stands below the longest name that its own begins with.
+`--svg` draws the same as a picture for a page.
 
-Reads    domain_policy and domain_policy.new, and where run is there run and the
-         other files that the play has read; they have to be those of one play
+Reads    domain_policy and domain_policy.new, and where run is there
+         run and the other files that the play has read; they have
+         to be those of one play
 Stores   nothing
 Prints   the tree
 
-Exit statuses: 0 done; 1 bad words; 65 the files aren't those of one play,
-66 one is missing or can't be read.
+Exit statuses: 0 done; 1 bad words; 65 the files aren't those of one
+play, 66 one is missing or can't be read.
 """
 import os
 import sys

@@ -1,18 +1,20 @@
 """usage: tomoyo [-C DIR] unused
 
-Tells which lines of the policy that a play began with granted nothing in it,
-with those of their permissions that granted nothing, under the names of their
-domains; lines of ACL groups come last. That a recording had no use for a line
-doesn't say that the machine has none.
+Tells which lines of the policy that a play began with granted
+nothing in it, with those of their permissions that granted nothing,
+under the names of their domains; lines of ACL groups come last.
+That a recording had no use for a line doesn't say that the machine
+has none.
 
-Reads    run and the .new files, as a play has stored them, and the files that
-         it has read; they have to be those of one play
+Reads    run and the .new files, as a play has stored them, and the
+         files that it has read; they have to be those of one play
 Stores   nothing
 Prints   the lines, and then
          entries N unused U partly P
 
-Exit statuses: 0 done; 1 bad words; 65 the files aren't those of one play,
-66 one is missing or can't be read, 70 the program can't be asked.
+Exit statuses: 0 done; 1 bad words; 65 the files aren't those of one
+play, 66 one is missing or can't be read, 70 the program can't be
+asked.
 """
 from engine import Engine
 from plays import StoredPlay

@@ -1,15 +1,15 @@
 """usage: tomoyo [-C DIR] why [--short | N ..]
 
 Tells why requests were denied: those that are alike together, with
-the domain by its name, what decided, what a supervisor said, and the
-line that would grant it, or would but for its condition. Those that
-were asked in a domain only since an execute or a manual transition
-was denied before are counted behind it. Then it tells what else made
-the run unclean: domains that were full, transitions that failed,
-lines that weren't learned, edits, and what passed since its mode is
-permissive. `why --short` has a line for each cause, and counts by
-domain. `why N ..` tells of the Nth request of the trace whatever
-became of it.
+the domain by its name, what decided, what a supervisor said, and
+the line that would grant it, or would but for its condition. Those
+that were asked in a domain only since an execute or a manual
+transition was denied before are counted behind it. Then it tells
+what else made the run unclean: domains that were full, transitions
+that failed, lines that weren't learned, edits, and what passed
+since its mode is permissive. `why --short` has a line for each
+cause, and counts by domain. `why N ..` tells of the Nth request of
+the trace whatever became of it.
 
 Reads    run and the .new files, as a play has stored them, and the
          files that it has read; they have to be those of one play
