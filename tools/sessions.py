@@ -21,7 +21,7 @@ EVER = 7200
 
 
 def read(path):
-    with open(path, encoding="utf-8", errors="surrogateescape") as file:
+    with open(path, encoding="utf-8", errors="surrogateescape", newline="") as file:
         return file.read()
 
 
@@ -64,15 +64,20 @@ class Room:
         script = os.path.join(self.path, "script")
         with open(script, "w", encoding="utf-8", errors="surrogateescape") as file:
             file.write(script_of(session))
-        ran = subprocess.Popen(["bash", script], cwd=folder, env=self.environment,
-                               stdin=subprocess.DEVNULL, stdout=subprocess.PIPE,
-                               stderr=subprocess.STDOUT, start_new_session=True)
-        try:
-            put, more = ran.communicate(timeout=EVER)[0], ""
-        except subprocess.TimeoutExpired:
-            os.killpg(ran.pid, signal.SIGKILL)
-            put, more = ran.communicate()[0], "no end within %d s\n" % EVER
-        return put.decode("utf-8", "surrogateescape") + more
+        said, more = os.path.join(self.path, "put"), ""
+        with open(said, "wb") as out:
+            ran = subprocess.Popen(["bash", script], cwd=folder, env=self.environment,
+                                   stdin=subprocess.DEVNULL, stdout=out, stderr=out,
+                                   start_new_session=True)
+            try:
+                ran.wait(EVER)
+            except subprocess.TimeoutExpired:
+                more = "no end within %d s\n" % EVER
+            finally:
+                if ran.poll() is None:
+                    os.killpg(ran.pid, signal.SIGKILL)
+                    ran.wait()
+        return read(said) + more
 
     def fault(self, session, folder, is_page=False):
         """How what the commands of a session put differs from it, or None. A page can't show empty

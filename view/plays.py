@@ -9,9 +9,9 @@ from texts import MIXED, Stop, read
 from traces import asking, read_trace
 
 
-def check_trace(run, asking):
-    """Ends where a run hasn't a take of each of these processes' requests."""
-    if asking != [take.pid for take in run.takes]:
+def check_trace(run, pids):
+    """Ends where a run hasn't a take of each of the requests of these processes."""
+    if pids != [take.pid for take in run.takes]:
         raise other_files("trace")
 
 

@@ -33,7 +33,7 @@ from history import Numbered, domains_of
 from plays import StoredPlay
 from policies import CONDITIONS, permission_place
 from runs import read_run
-from texts import BAD_WORDS, Stop, lines_of, read, words
+from texts import BAD_WORDS, Stop, lacks_end, lines_of, read, words
 
 LEAST = 3
 
@@ -277,8 +277,8 @@ def put_lines(play, proposals):
     lines = Suggested({domain.name for domain in play.opening.domains})
     for its in proposals:
         lines.add({by_name[its.domain]: [its.line]})
-    if lines.text() and not play.files["domain_policy"].endswith("\n"):
-        sys.stdout.write("\n")
+    if lines.text() and lacks_end(play.files["domain_policy"]):
+        sys.stdout.write("\n")  # what is appended begins a line of its own
     sys.stdout.write(lines.text())
 
 

@@ -31,9 +31,10 @@ from copies import freed
 from engine import Engine
 from entering import entered, made
 from plays import StoredPlay, origins
+from policies import CONDITIONS
 from questions import Question, answers
 from sentences import shortened
-from texts import BAD_WORDS, DENIED, Stop, counted, read_if_there
+from texts import BAD_WORDS, DENIED, Stop, counted, lacks_end, read_if_there
 
 SCRIPTS = ("edits", "answers", "schedule")
 
@@ -46,27 +47,28 @@ def still_denied(engine, play, text):
     return engine.done("step", files, []).line.split(" ")[5]
 
 
-def ends_in_a_line(text):
-    """Whether the last line of a text has no end."""
-    return text != "" and not text.endswith("\n")
-
-
 def say_what_is_hidden(play):
     """Says what no line is suggested for, since this play doesn't deny it."""
     passed, full = len(let_pass(play.run)), len(Unclean(play.run).quota)
     if passed:
-        sys.stderr.write("tomoyo: %s that no line grants passed in permissive mode: make it enforcing in "
-                         "profile, and play\n" % counted(
-                             passed, "1 request", "%d requests"))
+        sys.stderr.write("tomoyo: %s that no line grants passed in permissive mode: make it "
+                         "enforcing in profile, and play\n" %
+                         counted(passed, "1 request", "%d requests"))
     if full:
         sys.stderr.write("tomoyo: %s learned nothing, since the domain was full: `tomoyo why`\n" %
                          counted(full, "1 request", "%d requests"))
     warn_of_disabled(play)
 
 
+def is_as_learned(line):
+    """Whether the conditions of a line are just those that learning writes."""
+    lefts = [word.partition("=")[0] for word in line.split(" ") if word.startswith(CONDITIONS)]
+    return lefts in (["exec.realpath", "exec.argv[0]"], ["symlink.target"])
+
+
 def conditional(engine, play, copy, suggested):
-    """The suggested lines that would not be needed but for the condition of another, each with that
-    other line."""
+    """The suggested lines that would not be needed but for the condition of another, which isn't as
+    learned ones are, each with that other line."""
     asked = {}
     for take, line in copy.learning():
         domain = copy.domain_before(take)
@@ -75,7 +77,7 @@ def conditional(engine, play, copy, suggested):
             asked.setdefault((domain.name, line), Question(domain, known.request, known.ids))
     found = answers(engine, list(asked.values()))
     return [(line, answer.conditional) for (_, line), answer in zip(asked, found)
-            if answer.conditional and not answer.granted]
+            if answer.conditional and not answer.granted and not is_as_learned(answer.conditional)]
 
 
 def say_lifted(found):
@@ -92,7 +94,9 @@ def say_unlifted(engine, play, copy):
     if not takes:
         return
     names = entered(engine, play, copy, takes)
-    behind = list(origins(play, {take.number for take in takes}.__contains__).values())
+    found = origins(play, {take.number for take in takes}.__contains__)
+    behind = [origin for number, origin in found.items()
+              if not play.run.takes[number - 1].is_granted]
     told = {}
     for take in takes:
         name = names.get(take.number)
@@ -119,7 +123,7 @@ def main(line):
     play.finish()
     copy, suggested = freed(engine, play)
     text = suggested.text()
-    if text and ends_in_a_line(play.files["domain_policy"]):
+    if text and lacks_end(play.files["domain_policy"]):
         sys.stdout.write("\n")  # what is appended begins a line of its own
     sys.stdout.write(text)
     sys.stdout.flush()

@@ -64,6 +64,11 @@ def lines_of(text):
     return lines[:-1] if lines[-1] == "" else lines
 
 
+def lacks_end(text):
+    """Whether the last line of a text has no end."""
+    return text != "" and not text.endswith("\n")
+
+
 def counted(count, one, more):
     """A count in words."""
     return one if count == 1 else more % count

@@ -33,7 +33,7 @@ REASONS = {
     "domain": "its second line is no domain",
     "request": "its third line is no request",
     "flag": "the kernel set a flag of a domain, or gave a new one its profile and groups",
-    "arguments": "the execute has no arguments",
+    "arguments": "the header lacks the arguments of an execute, or the target of a symlink",
 }
 
 
@@ -58,5 +58,6 @@ def main(_):
             others.append(line)
     for told, count in reasons.most_common():
         print("%7d %s" % (count, told))
-    print("\n".join(others))
+    for line in others:
+        print(line)
     return 0

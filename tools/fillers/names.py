@@ -10,7 +10,7 @@ import re
 
 from pages import Fault, TOP
 
-PART = re.compile(r"\((`\w+: [^()]*)\)", re.S)
+PART = re.compile(r"\((`\w+:\s[^()]*)\)")
 NAME = re.compile(r"`([^`]+)`")
 
 
