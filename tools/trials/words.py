@@ -15,14 +15,16 @@ import tempfile
 
 from calls import TOP, Tally, call, read, write
 
-WORDS = ("why", "suggest", "tree", "curve", "unused", "check")
+LINES = (["why"], ["why", "--short"], ["suggest"], ["tree"], ["curve"], ["unused"], ["shapes"],
+         ["compare", "."], ["check"])
 INPUTS = ("profile", "exception_policy", "domain_policy", "manager", "trace", "edits", "schedule")
 STORED = ("run", "profile.new", "exception_policy.new", "domain_policy.new", "manager.new")
-DONE = {"why": (0, 2), "suggest": (0, 2), "check": (0, 5, 6)}
+DONE = {"why": (0, 2), "suggest": (0, 2), "compare": (0, 2), "check": (0, 5, 6)}
 REFUSED = (1, 10, 65, 66, 70)
 FAULTY = (["why", "x"], ["why", "0"], ["why", "-1"], ["why", "9" * 30], ["why", "1", "1", "\u0663"],
           ["why", "12"], ["suggest", "x"], ["tree", "--png"], ["tree", "x", "y"], ["curve", "1"],
-          ["unused", "-"], ["check", "domain_policy"], ["whi"], [], ["help", "me"])
+          ["unused", "-"], ["shapes", "x"], ["compare"], ["compare", "nowhere"],
+          ["check", "domain_policy"], ["whi"], [], ["help", "me"])
 PUT = [b"99999999999999999999", b"-1", b"x", b" ", b"\n", b"<", b"\\"]
 
 
@@ -76,8 +78,8 @@ class Tried:
         self.tally.count(ended.status, "%s, %s" % (" ".join(line), what), fault)
 
     def words(self, what, damage, **more):
-        for word in WORDS:
-            self.call(what, [word], damage, **more)
+        for line in LINES:
+            self.call(what, line, damage, **more)
 
 
 def replaced(name, text):
