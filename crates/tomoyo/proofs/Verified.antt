@@ -60,12 +60,12 @@ holds-run way wants old new loaded run text same kept read stored back printed l
     let (scene, reads, is) = scene-of-way way wants old loaded same read in
     record {
       holds = record {
-            loaded = scene;
-            read = ap scene_reading kept ∙ reads;
-            run = run;
-            run_is = ap (λ (state : FileState). run_of (told state)) stored ∙ back;
-            is_legal = subst (λ (s : Scene). Legal s run) (sym is) legal;
-          };
+        loaded = scene;
+        read = ap scene_reading kept ∙ reads;
+        run = run;
+        run_is = ap (λ (state : FileState). run_of (told state)) stored ∙ back;
+        is_legal = subst (λ (s : Scene). Legal s run) (sym is) legal;
+      };
       text = ap told stored ∙ printed;
     }
 
@@ -96,12 +96,12 @@ generated-holds seed size old new edits answers done =
     ∷ (FileName.Manager, (generated seed size).manager) ∷ (FileName.Trace, (generated seed size).trace) ∷ (FileName.Edits, []) ∷ (FileName.Answers, []) ∷ [] = rw (s.0, s.1.0, s.1.1.0, s.1.1.1.0, s.1.1.1.1.0, edits, answers) refl in
     record {
       holds = record {
-            loaded = record done.plays.loaded { schedule = [] };
-            read = ap scene_reading texts ∙ generated-texts seed size ∙ step-scene (generated_files seed size) done.plays.loaded done.plays.read;
-            run = done.plays.plays.run;
-            run_is = ap (λ (state : FileState). run_of (told state)) s.1.1.1.1.1.0 ∙ done.plays.read_back;
-            is_legal = done.plays.plays.is_legal;
-          };
+        loaded = record done.plays.loaded { schedule = [] };
+        read = ap scene_reading texts ∙ generated-texts seed size ∙ step-scene (generated_files seed size) done.plays.loaded done.plays.read;
+        run = done.plays.plays.run;
+        run_is = ap (λ (state : FileState). run_of (told state)) s.1.1.1.1.1.0 ∙ done.plays.read_back;
+        is_legal = done.plays.plays.is_legal;
+      };
       text = ap told s.1.1.1.1.1.0 ∙ done.plays.plays.printed.run_is;
     }
 
