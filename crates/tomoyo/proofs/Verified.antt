@@ -7,6 +7,7 @@ use Rattle.tm_io.specs.Bytes.{then_bytes}
 use Rattle.tm_types.specs.declared.step.Run.{Run}
 use Rattle.tm_legal.specs.Legal.{Scene, Legal}
 use Rattle.tm_run.specs.Reading.{run_of}
+use Rattle.tm_run.specs.RunText.{run_text}
 use Rattle.tm_verify_laws.specs.declared.broken.Broken.{Broken}
 use Rattle.tm_verify_laws.proofs.BrokenLaws.{not_legal}
 use Rattle.tm_verify.specs.Verified.{IsVerified}
