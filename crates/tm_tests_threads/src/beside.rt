@@ -3,10 +3,11 @@ ghost use Rattle.std.specs.Prelude.{◌<◌};
 
 use std::alloc::Global;
 use std::process::Abort;
+use std::sync::Wait;
 use std::sync::atomic::{AtomicU64, Ordering};
 use std::test::Fail;
 use std::thread::{Threads, yield_now};
-use tm_beside::for_each_beside;
+use tm_beside::{Task, call_together, for_each_beside};
 
 // Comes to where so many are awaited: whether they all came before this one gave up.
 fn meets(come: &AtomicU64, awaited: u64) -> bool {
@@ -83,5 +84,57 @@ fn each_place_has_its_call(rt: HostRuntime) -> Result<(), Fail> {
     assert_eq!(&rt; place, 7);
     assert_eq!(&rt; count_met(&rt, rt.alloc(), 0, 3, 1)?, 0);
     assert_eq!(&rt; count_met(&rt, rt.alloc(), 5, 1, 1)?, 5);
+    Ok(())
+}
+
+// What comes to where so many are awaited, and adds one to a number where they all came.
+#[derive(Drop)]
+struct Meeting {
+    come: AtomicU64,
+    awaited: u64,
+}
+
+impl Task<u64> for Meeting {
+    ghost accepts = { λ meeting number. Unit {0} };
+
+    ghost leaves = { λ meeting number left. Unit {0} };
+
+    ghost gave_up = { λ meeting. Unit {0} };
+
+    fn run(&self, number: u64) -> u64 {
+        if meets(&self.come, self.awaited) {
+            number.saturating_add(1)
+        } else {
+            0
+        }
+    }
+
+    fn give_up(&self) {}
+}
+
+// What is left of the numbers below this one, each of which waits for all.
+fn left_together<W: Threads + Wait>(rt: &W, alloc: Global, awaited: u64) -> Result<Vec<u64>, Fail> {
+    let mut list = Vec::new(alloc);
+    for number in 0..awaited {
+        list.push(number)?;
+    }
+    let meeting = Meeting {
+        come: AtomicU64::new(0),
+        awaited,
+    };
+    Ok(call_together(rt, list, &meeting))
+}
+
+#[test]
+fn calls_that_wait_for_each_other_go_on(rt: HostRuntime) -> Result<(), Fail> {
+    for awaited in [0, 1, 2, 25] {
+        let left = left_together(&rt, rt.alloc(), awaited)?;
+        let mut count: u64 = 0;
+        for number in left.as_slice() {
+            count = count.saturating_add(1);
+            assert_eq!(&rt; *number, count);
+        }
+        assert_eq!(&rt; count, awaited);
+    }
     Ok(())
 }
