@@ -7,7 +7,7 @@ use std::sync::Wait;
 use std::sync::atomic::{AtomicU64, Ordering};
 use std::test::Fail;
 use std::thread::{Threads, yield_now};
-use tm_beside::{Task, call_together, for_each_beside};
+use tm_beside::{call_together, for_each_beside};
 
 // Comes to where so many are awaited: whether they all came before this one gave up.
 fn meets(come: &AtomicU64, awaited: u64) -> bool {
@@ -87,42 +87,24 @@ fn each_place_has_its_call(rt: HostRuntime) -> Result<(), Fail> {
     Ok(())
 }
 
-// What comes to where so many are awaited, and adds one to a number where they all came.
-#[derive(Drop)]
-struct Meeting {
-    come: AtomicU64,
-    awaited: u64,
-}
-
-impl Task<u64> for Meeting {
-    ghost accepts = { λ meeting number. Unit {0} };
-
-    ghost leaves = { λ meeting number left. Unit {0} };
-
-    ghost gave_up = { λ meeting. Unit {0} };
-
-    fn run(&self, number: u64) -> u64 {
-        if meets(&self.come, self.awaited) {
-            number.saturating_add(1)
-        } else {
-            0
-        }
-    }
-
-    fn give_up(&self) {}
-}
-
-// What is left of the numbers below this one, each of which waits for all.
+// What is left of the numbers below this one, each of which waits for all: one more where they met.
 fn left_together<W: Threads + Wait>(rt: &W, alloc: Global, awaited: u64) -> Result<Vec<u64>, Fail> {
     let mut list = Vec::new(alloc);
     for number in 0..awaited {
         list.push(number)?;
     }
-    let meeting = Meeting {
-        come: AtomicU64::new(0),
-        awaited,
-    };
-    Ok(call_together(rt, list, &meeting))
+    let come = AtomicU64::new(0);
+    let left = call_together(
+        rt,
+        list,
+        &|place: usize, number: &mut u64| {
+            if meets(&come, awaited) && place as u64 == *number {
+                *number = number.saturating_add(1);
+            }
+        },
+        &|| (),
+    );
+    Ok(left)
 }
 
 #[test]
