@@ -8,4 +8,4 @@ mod each;
 mod together;
 
 pub use each::for_each_beside;
-pub use together::{Task, call_together};
+pub use together::call_together;

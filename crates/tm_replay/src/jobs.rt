@@ -15,7 +15,7 @@ use std::alloc::{AllocError, Global};
 use std::collections::VecDeque;
 use std::sync::Wait;
 use std::thread::Threads;
-use tm_beside::for_each_beside;
+use tm_beside::call_together;
 use tm_desk::Desk;
 use tm_engine::engine::Engine;
 use tm_engine::gate::Gate;
@@ -185,7 +185,9 @@ pub(crate) fn begin_jobs<L: Named, R: Rep, W: Wait, H: Drop, D: Drop>(
     }
 }
 
-/// Plays every job, each in a thread of its own where one can be made.
+/// Plays every job, each but the first in a thread of its own. Where a thread can't be made and a
+/// supervisor stands, the engine is stopped, so that nobody waits for what will not come; without a
+/// supervisor nobody waits.
 pub(crate) fn run_jobs<
     L: Named + Send + Sync,
     R: Rep + Send + Sync,
@@ -203,31 +205,33 @@ pub(crate) fn run_jobs<
     gate: &G,
     way: &K,
     supervised: bool,
-    jobs: &mut Vec<Job<L, Machine<R>, H, D>>,
-)
-    requires some { 0 < length jobs.old.items }
+    jobs: Vec<Job<L, Machine<R>, H, D>>,
+) -> Vec<Job<L, Machine<R>, H, D>>
     requires desk { IsDesk F.Fn desk.now }
-    requires given { (k : ℕ) (d : _) → k < length jobs.old.items
-        → IsJob (K.ready way.now) supervised (slice_index_or jobs.old.items k d).part
-        (slice_index_or jobs.old.items k d).pass }
-    ensures count { length jobs.new.items ≡ length jobs.old.items }
-    ensures done { (k : ℕ) (d : _) → k < length jobs.old.items
-        → JobIsDone (K.did way.now) (desk_book desk.now) (slice_index_or jobs.old.items k d).part
-        (slice_index_or jobs.old.items k d).pass (slice_index_or jobs.new.items k d).pass
-        (slice_index_or jobs.new.items k d).rows }
+    requires given { (k : ℕ) (d : _) → k < length jobs.items
+        → IsJob (K.ready way.now) supervised (slice_index_or jobs.items k d).part
+        (slice_index_or jobs.items k d).pass }
+    ensures count { length result.items ≡ length jobs.items }
+    ensures done { (k : ℕ) (d : _) → k < length jobs.items
+        → JobIsDone (K.did way.now) (desk_book desk.now) (slice_index_or jobs.items k d).part
+        (slice_index_or jobs.items k d).pass (slice_index_or result.items k d).pass
+        (slice_index_or result.items k d).rows }
 {
-    let count = jobs.len();
-    for_each_beside(
+    call_together(
         rt,
-        jobs.as_mut_slice(),
-        count,
+        jobs,
         &|_place: usize, job: &mut Job<L, Machine<R>, H, D>|
             requires desk { IsDesk F.Fn desk.now }
             requires given { IsJob (K.ready way.now) supervised job.old.part job.old.pass }
             ensures { JobIsDone (K.did way.entry.now) (desk_book desk.entry.now) job.old.part
                 job.old.pass job.new.pass job.new.rows }
         { run_job(rt, alloc, engine, desk, gate, way, supervised, job) },
-    );
+        &|| {
+            if supervised {
+                engine.stop(rt);
+            }
+        },
+    )
 }
 
 // Appends the pass of a job, where it is there.

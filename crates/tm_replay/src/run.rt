@@ -121,12 +121,9 @@ fn play_at<
         → ArePlayed (K.did way.now) start (desk_book desk.now) (parts.items ++ desk_parts start.desk)
         r.0.items r.1) }
 {
-    let mut jobs = begin_jobs(rt, alloc, engine, parts, passes, supervised)?;
-    if jobs.is_empty() {
-        return Err(AllocError);
-    }
-    run_jobs(rt, alloc, engine, desk, gate, way, supervised, &mut jobs);
-    take_apart(alloc, jobs)
+    let jobs = begin_jobs(rt, alloc, engine, parts, passes, supervised)?;
+    let done = run_jobs(rt, alloc, engine, desk, gate, way, supervised, jobs);
+    take_apart(alloc, done)
 }
 
 // All parts, played at an engine of the machine, under a name that its board has: the machine with

@@ -3,10 +3,11 @@ ghost use Rattle.std.specs.Prelude.{◌<◌};
 
 use std::alloc::Global;
 use std::process::Abort;
+use std::sync::Wait;
 use std::sync::atomic::{AtomicU64, Ordering};
 use std::test::Fail;
 use std::thread::{Threads, yield_now};
-use tm_beside::for_each_beside;
+use tm_beside::{call_together, for_each_beside};
 
 // Comes to where so many are awaited: whether they all came before this one gave up.
 fn meets(come: &AtomicU64, awaited: u64) -> bool {
@@ -83,5 +84,39 @@ fn each_place_has_its_call(rt: HostRuntime) -> Result<(), Fail> {
     assert_eq!(&rt; place, 7);
     assert_eq!(&rt; count_met(&rt, rt.alloc(), 0, 3, 1)?, 0);
     assert_eq!(&rt; count_met(&rt, rt.alloc(), 5, 1, 1)?, 5);
+    Ok(())
+}
+
+// What is left of the numbers below this one, each of which waits for all: one more where they met.
+fn left_together<W: Threads + Wait>(rt: &W, alloc: Global, awaited: u64) -> Result<Vec<u64>, Fail> {
+    let mut list = Vec::new(alloc);
+    for number in 0..awaited {
+        list.push(number)?;
+    }
+    let come = AtomicU64::new(0);
+    let left = call_together(
+        rt,
+        list,
+        &|place: usize, number: &mut u64| {
+            if meets(&come, awaited) && place as u64 == *number {
+                *number = number.saturating_add(1);
+            }
+        },
+        &|| (),
+    );
+    Ok(left)
+}
+
+#[test]
+fn calls_that_wait_for_each_other_go_on(rt: HostRuntime) -> Result<(), Fail> {
+    for awaited in [0, 1, 2, 25] {
+        let left = left_together(&rt, rt.alloc(), awaited)?;
+        let mut count: u64 = 0;
+        for number in left.as_slice() {
+            count = count.saturating_add(1);
+            assert_eq!(&rt; *number, count);
+        }
+        assert_eq!(&rt; count, awaited);
+    }
     Ok(())
 }

@@ -6,8 +6,8 @@ use Rattle.tm_replay.proofs.Playing.{if-ok}
 use Rattle.tm_replay.proofs.Whole.{began-given, played-at}
 use Rattle.tm_replay.proofs.run.play_at.Goals as goal
 
-pub run_jobs-requires-clause-given : goal.run_jobs-requires-clause-given
-run_jobs-requires-clause-given g c κs within =
+pub run_jobs-done-requires-clause-given : goal.run_jobs-done-requires-clause-given
+run_jobs-done-requires-clause-given g c κs within =
     let (start, fresh, can, stands, waits) = c.requires.fresh in
     let ready = g.K.Work.ready c.args.way.now in
     let working = All-map (PartWaits ready start) IsWorking c.args.parts.items (waits-working ready start) waits in
@@ -19,4 +19,4 @@ returns g c =
     if-ok _ _ _ c.take_apart.result c.take_apart.ensures.passes c.take_apart.ensures.rows
     (λ r passes rows start fresh stands working.
     let (attached, come, starts) = c.in_ok-jobs.ensures.starts start fresh working in
-    played-at (λ job. job.part) (λ job. job.pass) (g.K.Work.did c.args.way.now) (λ job. job.rows) start (desk_book c.args.desk.now) c.args.supervised c.args.parts.items attached c.in_ok-jobs.jobs.items c.run_jobs.new.jobs.items r.0.items r.1 stands c.in_ok-jobs.ensures.parts_are come starts c.run_jobs.ensures.count c.run_jobs.ensures.done passes rows)
+    played-at (λ job. job.part) (λ job. job.pass) (g.K.Work.did c.args.way.now) (λ job. job.rows) start (desk_book c.args.desk.now) c.args.supervised c.args.parts.items attached c.in_ok-jobs.jobs.items c.run_jobs-done.result.items r.0.items r.1 stands c.in_ok-jobs.ensures.parts_are come starts c.run_jobs-done.ensures.count c.run_jobs-done.ensures.done passes rows)
