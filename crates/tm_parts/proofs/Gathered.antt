@@ -18,7 +18,8 @@ use Rattle.tm_deal.specs.PlayedTree.{PlayedTree}
 use Rattle.tm_deal.specs.TreeToPlay.{TreeToPlay}
 use Rattle.tm_deal.specs.Seats.{scene_of}
 use Rattle.tm_deal.specs.Playing.{LooksSince}
-use Rattle.tm_deal.specs.Rows.{RowIsPlayed, EachIsPlayed, RowSince, rows_own, row_of}
+use Rattle.tm_deal.specs.Rows.{RowIsPlayed, EachIsPlayed, RowSince, row_seen, rows_own, row_of}
+use Rattle.tm_deal.proofs.Rising.{row-since-lower, rises-since}
 use Rattle.tm_deal.specs.Dealing.{dealt_to, hand_of, queues_own, IsAmong, IsGathered}
 use Rattle.tm_parts.specs.Parts.{trees_from, Deed, deed, EachPart, WorkerDid}
 use Rattle.tm_parts.specs.Replayed.{AreDealt}
@@ -117,7 +118,7 @@ module _ (start : Start) (trace : Trace) (book : Option Book) (stands : is_some 
   rows-fresh =
       All-flat (λ (t : Take). AllByRecursion (λ (look : Look). floor ≤ look.version) t.looks) (λ (row : Row). row.takes) (map row_of rows)
       (All-mapped (λ (row : Row). AllByRecursion (LooksSince floor) row.takes) row_of rows
-      (All-of (RowSince floor) rows (λ k row at. let from = source k row at in All-at (RowSince floor) from.done.rows from.place row from.did.fresh from.at)))
+      (All-of (RowSince floor) rows (λ k row at. let from = source k row at in All-at (RowSince floor) from.done.rows from.place row (rises-since RowSince row_seen row-since-lower floor from.done.rows from.did.rises) from.at)))
 
   -- the workers' steps are those of the rows
   flat-own : (those : List PlayedTree) → flat_map row_own (map row_of those) ≡ rows_own those

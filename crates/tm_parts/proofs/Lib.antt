@@ -9,3 +9,4 @@ mod Gathered
 mod Jointly
 pub mod Working
 pub use Rattle.tm_deal.proofs.Opening
+pub use Rattle.tm_deal.proofs.Rising

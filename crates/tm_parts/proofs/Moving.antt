@@ -35,7 +35,7 @@ trees-later start floor trees done list begins h =
       each = rows-stay start start.desk done.known list trees done.rows begins h.each;
       own_is = h.own_is;
       claims = claimed-later (makers_all trees) done.known list done.own begins h.claims;
-      fresh = h.fresh;
+      rises = h.rises;
     }
 
 module _ {H D : Type 0} (Did : Start → ℕ → H → Deed D → Type 0) (stays : DidStays Did) (start : Start) (book : Book) (floor : ℕ) where

@@ -1,18 +1,15 @@
 -- What a worker that plays trees has come to.
-use Rattle.std.proofs.Common.{◌≡◌, ◌≤◌, arith, List, [], ◌++◌, sym, ap, ◌∙◌, subst, length, ℕ, Bool}
+use Rattle.std.proofs.Common.{◌≡◌, ◌≤◌, List, [], ◌++◌, sym, ap, ◌∙◌, subst, length, ℕ, Bool}
 use Rattle.std.specs.Prelude.{Result, Ok, Err, IfOk}
-use Rattle.std.specs.List.{AllByRecursion}
-use Rattle.tm_types.specs.declared.step.Look.{Look}
 use Rattle.tm_types.specs.declared.step.Made.{Made}
 use Rattle.tm_types.specs.declared.step.Maker.{Maker}
 use Rattle.tm_types.specs.declared.step.Start.{Start}
-use Rattle.tm_legal.proofs.Walks.{All-map}
 use Rattle.tm_joint.specs.Makers.{Claims}
 use Rattle.tm_deal.specs.PlayedTree.{PlayedTree}
 use Rattle.tm_deal.specs.TreeToPlay.{TreeToPlay}
 use Rattle.tm_deal.specs.Seats.{MadeBy}
-use Rattle.tm_deal.specs.Playing.{LooksSince}
-use Rattle.tm_deal.specs.Rows.{EachIsPlayed, RowSince, rows_own, makers_all}
+use Rattle.tm_deal.specs.Rows.{EachIsPlayed, RowSince, RowsRise, row_seen, rows_own, makers_all}
+use Rattle.tm_deal.proofs.Rising.{row-since-lower, rises-lower}
 use Rattle.tm_parts.specs.Parts.{deed, ClaimedBy, WorkerDid}
 
 -- whoever begins with no step claims those that it has made since
@@ -23,19 +20,11 @@ pub if-ok-of-four : {A E : Type 0} (P Q R S Z : A → Type 0) (result : Result A
 if-ok-of-four P Q R S Z (Ok x) p q r s all = all x p q r s
 if-ok-of-four P Q R S Z (Err e) p q r s all = tt
 
--- none of its looks is older than what was known before
-since-before : (list : List Made) (floor : ℕ) (row : PlayedTree) → floor ≤ length list → RowSince (length list) row → RowSince floor row
-since-before list floor row low h =
-    All-map (LooksSince (length list)) (LooksSince floor) row.takes
-    (λ k looks. All-map (λ (look : Look). length list ≤ look.version) (λ (look : Look). floor ≤ look.version) k.looks
-    (λ look le. let up : length list ≤ look.version = le in omega (arith, low, up)) looks)
-    h
-
-pub worker-done : (start : Start) (supervised : Bool) (old new : List Made) (before own : List ℕ) (trees items : List TreeToPlay) (rows : List PlayedTree) → supervised ≡ start.desk → items ≡ trees → before ≡ [] → EachIsPlayed start supervised new items rows → own ≡ before ++ rows_own rows → MadeBy (makers_all items) old before new own → AllByRecursion (RowSince (length old)) rows → (floor : ℕ) → floor ≤ length old → WorkerDid start floor trees (deed new own rows)
-worker-done start supervised old new before own trees items rows stands are none each noted by fresh floor low =
+pub worker-done : (start : Start) (supervised : Bool) (old new : List Made) (before own : List ℕ) (trees items : List TreeToPlay) (rows : List PlayedTree) → supervised ≡ start.desk → items ≡ trees → before ≡ [] → EachIsPlayed start supervised new items rows → own ≡ before ++ rows_own rows → MadeBy (makers_all items) old before new own → RowsRise (length old) rows → (floor : ℕ) → floor ≤ length old → WorkerDid start floor trees (deed new own rows)
+worker-done start supervised old new before own trees items rows stands are none each noted by rises floor low =
     record {
       each = subst (λ (b : Bool). EachIsPlayed start b new trees rows) stands (subst (λ (ts : List TreeToPlay). EachIsPlayed start supervised new ts rows) are each);
       own_is = noted ∙ ap (λ (ns : List ℕ). ns ++ rows_own rows) none;
       claims = claimed (makers_all trees) old new before own none (subst (λ (ts : List TreeToPlay). MadeBy (makers_all ts) old before new own) are by);
-      fresh = All-map (RowSince (length old)) (RowSince floor) rows (λ row since. since-before old floor row low since) fresh;
+      rises = rises-lower RowSince row_seen row-since-lower floor (length old) rows low rises;
     }

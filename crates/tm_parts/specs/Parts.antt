@@ -21,7 +21,7 @@ use Rattle.tm_joint.specs.Played.{LinesMade, DeskDid}
 use Rattle.tm_deal.specs.PlayedTree.{PlayedTree}
 use Rattle.tm_deal.specs.TreeToPlay.{TreeToPlay}
 use Rattle.tm_deal.specs.Seats.{scene_of, Begins, FitsFrom}
-use Rattle.tm_deal.specs.Rows.{EachIsPlayed, RowSince, rows_own, makers_all}
+use Rattle.tm_deal.specs.Rows.{EachIsPlayed, RowsRise, rows_own, makers_all}
 use Rattle.tm_parts.specs.declared.part.Part.{Part}
 
 -- Plans
@@ -114,12 +114,13 @@ ClaimedBy makers list own =
     (who : Maker → Option ℕ) (i : ℕ) → AllByRecursion (λ maker. who maker ≡ Some i) makers
     → Claims who i list own
 
--- a worker has played its trees, and none of its looks is older than that version
+-- a worker has played its trees, and none of its looks is older than that version, or than what the
+-- trees before have seen
 pub record WorkerDid (start : Start) (floor : ℕ) (trees : List TreeToPlay) (done : Deed PlayedTree) : Type 0 where
   pub each : EachIsPlayed start start.desk done.known trees done.rows
   pub own_is : done.own ≡ rows_own done.rows
   pub claims : ClaimedBy (makers_all trees) done.known done.own
-  pub fresh : AllByRecursion (RowSince floor) done.rows
+  pub rises : RowsRise floor done.rows
 
 -- an editor has made all its lines
 pub record EditorDid (number : ℕ) (lines : List (FileKind × Text)) (known : List Made) (own : List ℕ) : Type 0 where

@@ -1,20 +1,22 @@
 -- The trees of a worker, one after another.
-use Rattle.std.proofs.Common.{◌≡◌, ℕ, List, [], ◌∷◌, ◌++◌, length, Bool, refl, sym, ap, ◌∙◌, subst, append_assoc, append-nil}
+use Rattle.std.proofs.Common.{◌≡◌, ◌≤◌, ℕ, List, [], ◌∷◌, ◌++◌, length, Bool, refl, sym, ap, ◌∙◌, subst, append_assoc, append-nil}
+use Rattle.std.specs.Prelude.{Some, flat_map}
+use Rattle.std.specs.List.{AllByRecursion}
 use Rattle.std.proofs.lemmas.Grind.{flat_map-append}
 use Rattle.tm_types.specs.declared.step.Made.{Made}
 use Rattle.tm_types.specs.declared.step.Maker.{Maker}
 use Rattle.tm_types.specs.declared.step.Start.{Start}
-use Rattle.tm_legal.proofs.Histories.{All-push}
-use Rattle.tm_legal.proofs.Walks.{All-map}
+use Rattle.tm_rules.specs.Words.{DomainName}
+use Rattle.tm_rules.specs.Policy.{live_domain}
 use Rattle.tm_joint.specs.Played.{Row, row_own}
 use Rattle.tm_joint.proofs.Later.{row-later}
 use Rattle.tm_seat.specs.declared.tree.TreeToPlay.{TreeToPlay}
 use Rattle.tm_seat.specs.declared.tree.PlayedTree.{PlayedTree}
 use Rattle.tm_seat.specs.Seats.{scene_of, FitsFrom, Begins, MadeBy}
-use Rattle.tm_seat.specs.Playing.{LooksSince}
-use Rattle.tm_seat.specs.Rows.{RowIsPlayed, EachIsPlayed, RowSince, Shift, IsWorking, WorksOn, rows_own, row_of, tree_makers, makers_all}
+use Rattle.tm_seat.specs.Rows.{RowIsPlayed, EachIsPlayed, RowSince, Shift, IsWorking, WorksOn, rows_own, row_of, row_seen, tree_makers, makers_all}
 use Rattle.tm_seat.proofs.Opening.{begins-further}
-use Rattle.tm_seat.proofs.Claiming.{by-both, by-nobody, since-later}
+use Rattle.tm_seat.proofs.Claiming.{by-both, by-nobody}
+use Rattle.tm_seat.proofs.Rising.{begun-within, row-sees, row-since-lower, within-push, rises-push}
 
 -- a row that was played stays so
 pub row-stays : (start : Start) (tree : TreeToPlay) (supervised : Bool) (xs ys : List Made) (row : Row) → Begins xs ys → RowIsPlayed start tree supervised xs row → RowIsPlayed start tree supervised ys row
@@ -42,12 +44,13 @@ worker-starts start supervised list own fitted =
       each = tt;
       made = sym (append-nil own);
       makers = by-nobody [] list list own own ([], sym (append-nil list)) refl;
-      fresh = tt;
+      seen = tt;
+      rises = tt;
     }
 
 -- a tree more
-pub worker-plays : (start : Start) (supervised : Bool) (xs ys : List Made) (own own' : List ℕ) (rows : List PlayedTree) (tree : TreeToPlay) (row : PlayedTree) (more : List PlayedTree) → more ≡ rows ++ row ∷ [] → FitsFrom start ys → Begins xs ys → row.number ≡ tree.number → RowIsPlayed start tree supervised ys (row_of row) → own' ≡ own ++ row_own (row_of row) → MadeBy (tree_makers tree) xs own ys own' → RowSince (length xs) row → WorksOn start supervised xs own rows tree ys own' more
-worker-plays start supervised xs ys own own' rows tree row more pushed fitted begins number is noted by since shift done h =
+pub worker-plays : (start : Start) (supervised : Bool) (xs ys : List Made) (own own' : List ℕ) (rows : List PlayedTree) (tree : TreeToPlay) (row : PlayedTree) (more : List PlayedTree) → more ≡ rows ++ row ∷ [] → FitsFrom start ys → Begins xs ys → row.number ≡ tree.number → RowIsPlayed start tree supervised ys (row_of row) → own' ≡ own ++ row_own (row_of row) → MadeBy (tree_makers tree) xs own ys own' → RowSince (length xs) row → (name : DomainName) × (live_domain start.policy name ≡ Some tree.home) → WorksOn start supervised xs own rows tree ys own' more
+worker-plays start supervised xs ys own own' rows tree row more pushed fitted begins number is noted by since home shift done h =
     rw pushed (record {
       fitted = fitted;
       begins = begins-further shift.known xs ys h.begins begins;
@@ -55,8 +58,8 @@ worker-plays start supervised xs ys own own' rows tree row more pushed fitted be
       made = noted ∙ ap (λ (ns : List ℕ). ns ++ row_own (row_of row)) h.made ∙ append_assoc shift.before (rows_own rows) (row_own (row_of row)) ∙ ap (λ (ns : List ℕ). shift.before ++ ns) (sym (flat_map-append (λ (r : PlayedTree). row_own (row_of r)) rows (row ∷ []) ∙ ap (λ (ns : List ℕ). rows_own rows ++ ns) (append-nil (row_own (row_of row)))));
       makers = subst (λ (makers : List Maker). MadeBy makers shift.known shift.before ys own') (sym (flat_map-append tree_makers done (tree ∷ []) ∙ ap (λ (ms : List Maker). makers_all done ++ ms) (append-nil (tree_makers tree))))
           (by-both (makers_all done) (tree_makers tree) shift.known xs ys shift.before own own' h.makers by);
-      fresh = All-push (RowSince (length shift.known)) rows row h.fresh
-          (All-map (LooksSince (length xs)) (LooksSince (length shift.known)) row.takes (λ k older. since-later shift.known xs k h.begins older) since);
+      seen = within-push RowSince row_seen row-since-lower xs ys rows row begins h.seen (row-sees start tree supervised ys row home is);
+      rises = rises-push RowSince row_seen row-since-lower (length shift.known) (length xs) rows row (begun-within shift.known xs h.begins) h.seen since h.rises;
     })
 
 -- a call that keeps it keeps it for an equal opening

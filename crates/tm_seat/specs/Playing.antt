@@ -1,5 +1,5 @@
 -- Takes, trees and editors on their way from a seat, in every scene with its opening.
-use Rattle.std.specs.Prelude.{◌≡◌, ◌≤◌, ℕ, List, ◌∷◌, [], ◌++◌, length, map, true, Option, Some}
+use Rattle.std.specs.Prelude.{◌≡◌, ⊤, ◌≤◌, ℕ, List, ◌∷◌, [], ◌++◌, length, map, true, Option, Some}
 use Rattle.std.specs.List.{list_all, AllByRecursion}
 use Rattle.tm_types.specs.declared.request.Item.{Item}
 use Rattle.tm_types.specs.declared.request.Request.{Request}
@@ -14,7 +14,7 @@ use Rattle.tm_rules.specs.Words.{DomainName, Trace}
 use Rattle.tm_rules.specs.Policy.{live_domain}
 use Rattle.tm_rules.specs.Requests.{item_is_request}
 use Rattle.tm_take.specs.Tomoyo.{tomoyo_grammar}
-use Rattle.tm_legal.specs.Run.{Situation, Situations}
+use Rattle.tm_legal.specs.Run.{Situation, Situations, raised}
 use Rattle.tm_legal.specs.Legal.{own_numbers}
 use Rattle.tm_legal.specs.Cases.{IsLegalTake}
 use Rattle.tm_legal.specs.Play.{InProgress}
@@ -64,6 +64,11 @@ TakeIsLegal start known list now request take =
 -- none of its looks is older than that version
 abbrev pub LooksSince : ℕ → Take → Type 0
 LooksSince version take = AllByRecursion (λ (look : Look). version ≤ look.version) take.looks
+
+-- each of these is no older than the floor, which each raises by the versions that it has seen
+abbrev pub Rises : {A : Type 0} → (ℕ → A → Type 0) → (A → List ℕ) → ℕ → List A → Type 0
+Rises Since sees floor [] = ⊤
+Rises Since sees floor (first ∷ rest) = Since floor first × Rises Since sees (raised floor (sees first)) rest
 
 -- Trees
 

@@ -1,5 +1,5 @@
 -- Trees and workers that have played from a seat, in every scene with its opening.
-use Rattle.std.specs.Prelude.{◌≡◌, ⊤, ◌≤◌, ◌<◌, ℕ, List, ◌∷◌, [], ◌++◌, length, map, flat_map, Bool, true, false, Option, Some, None, is_some}
+use Rattle.std.specs.Prelude.{◌≡◌, ⊤, ◌≤◌, ◌<◌, ℕ, List, ◌∷◌, [], ◌++◌, length, map, flat_map, Bool, true, false, Option, Some, None, is_some, option_to_list}
 use Rattle.std.specs.List.{list_all, AllByRecursion}
 use Rattle.tm_types.specs.declared.request.Tree.{Tree}
 use Rattle.tm_types.specs.declared.step.Book.{Book}
@@ -13,11 +13,11 @@ use Rattle.tm_rules.specs.Policy.{live_domain}
 use Rattle.tm_rules.specs.Requests.{item_is_request}
 use Rattle.tm_take.specs.Tomoyo.{tomoyo_grammar}
 use Rattle.tm_legal.specs.Run.{do_pids}
-use Rattle.tm_joint.specs.Played.{Row, row_own, RowHolds}
+use Rattle.tm_joint.specs.Played.{Row, row_own, seen_by, RowHolds}
 use Rattle.tm_seat.specs.declared.tree.PlayedTree.{PlayedTree}
 use Rattle.tm_seat.specs.declared.tree.TreeToPlay.{TreeToPlay}
 use Rattle.tm_seat.specs.Seats.{scene_of, FitsFrom, Begins, IsMade, MadeBy}
-use Rattle.tm_seat.specs.Playing.{LooksSince}
+use Rattle.tm_seat.specs.Playing.{LooksSince, Rises}
 
 -- a tree that can be played: its number is one of the opening's trees, it starts in a live domain
 -- of the opening, and its requests can be asked
@@ -58,6 +58,14 @@ tree_makers tree = Maker.Tree tree.number ∷ map (λ pid. Maker.Process pid) (d
 abbrev pub RowSince : ℕ → PlayedTree → Type 0
 RowSince version played = AllByRecursion (LooksSince version) played.takes
 
+-- the versions that a row has seen: those of its takes, and its End
+abbrev pub row_seen : PlayedTree → List ℕ
+row_seen played = seen_by played.takes ++ option_to_list played.end
+
+-- no look of a row is older than the floor, or than what the rows before it have seen
+abbrev pub RowsRise : ℕ → List PlayedTree → Type 0
+RowsRise floor rows = Rises RowSince row_seen floor rows
+
 -- Workers
 
 -- each tree was played, in order
@@ -90,7 +98,8 @@ pub record IsWorking (start : Start) (supervised : Bool) (shift : Shift) (list :
   pub each : EachIsPlayed start supervised list done rows
   pub made : own ≡ shift.before ++ rows_own rows
   pub makers : MadeBy (makers_all done) shift.known shift.before list own
-  pub fresh : AllByRecursion (RowSince (length shift.known)) rows
+  pub seen : AllByRecursion (λ version. version ≤ length list) (flat_map row_seen rows)
+  pub rises : RowsRise (length shift.known) rows
 
 -- one tree more
 abbrev pub WorksOn : Start → Bool → List Made → List ℕ → List PlayedTree → TreeToPlay → List Made → List ℕ

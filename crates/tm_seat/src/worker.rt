@@ -5,7 +5,7 @@ ghost use Rattle.tm_types.specs.declared.step.Made.{Made};
 ghost use Rattle.tm_take.specs.Tomoyo.{tomoyo_grammar};
 ghost use Rattle.tm_legal.specs.Play.{IsOpened, IsNamed};
 ghost use Rattle.tm_seat.specs.Seats.{FitsFrom, Begins, MadeBy};
-ghost use Rattle.tm_seat.specs.Rows.{IsReady, EachIsPlayed, RowSince, WorksOn, rows_own, makers_all};
+ghost use Rattle.tm_seat.specs.Rows.{IsReady, EachIsPlayed, RowsRise, WorksOn, rows_own, makers_all};
 
 use crate::seat::Seat;
 use crate::tree::{PlayedTree, TreeToPlay, play_tree};
@@ -55,8 +55,7 @@ pub fn play_trees<S: Seat>(
     ensures own { IfOk result (λ rows. S.own seat.new ≡ S.own seat.old ++ rows_own rows.items) }
     ensures makers { IfOk result (λ rows. MadeBy (makers_all trees.items)
         (S.at seat.old) (S.own seat.old) (S.at seat.new) (S.own seat.new)) }
-    ensures fresh { IfOk result
-        (λ rows. AllByRecursion (RowSince (length (S.at seat.old))) rows.items) }
+    ensures rises { IfOk result (λ rows. RowsRise (length (S.at seat.old)) rows.items) }
     ensures opening { S.opening seat.new ≡ S.opening seat.old }
     ensures grows { Begins (S.at seat.old) (S.at seat.new) }
 {

@@ -29,11 +29,12 @@ use Rattle.tm_parts.proofs.Moving.{deed_at, DidStays}
 use Rattle.tm_parts.proofs.Shares.{owns, OthersFollow, Shares, shares-of, together-legal, together-attached}
 use Rattle.tm_steal_rows.specs.declared.played.Played.{Played}
 use Rattle.tm_steal_rows.specs.declared.played.PlayedTake.{PlayedTake}
-use Rattle.tm_steal_rows.specs.Playing.{Event, TakeIsPlayed, IsPlayed, all_own, own_of, maker_of, IsSince, events_of, IsTakeOf, IsOfProcess, ThiefDid, HandDid}
+use Rattle.tm_steal_rows.specs.Playing.{Event, TakeIsPlayed, IsPlayed, all_own, own_of, maker_of, IsSince, event_seen, events_of, IsTakeOf, IsOfProcess, ThiefDid, HandDid}
 use Rattle.tm_steal_rows.specs.Gathering.{IsOwned, EachOwned, all_given, takes_of, ends_of, homes_of, IsGathered}
 use Rattle.tm_steal_rows.specs.Records.{numbered}
 use Rattle.tm_steal_rows.specs.Stolen.{Stolen, StolenRunsAreLegal}
-use Rattle.tm_steal_rows.proofs.Stealing.{thief-later}
+use Rattle.tm_parts.proofs.Rising.{rises-since}
+use Rattle.tm_steal_rows.proofs.Stealing.{since-lower, thief-later}
 use Rattle.tm_steal_rows.proofs.Counting.{ends_own, parts-own, rows-own, rows-taken}
 use Rattle.tm_steal_rows.proofs.Gathered.{rows-hold}
 
@@ -148,7 +149,7 @@ module _ (H : Type 0) (start : Start) (trace : Trace) (book : Book) (hands : Lis
   played = all-of-given start trace floor list (IsPlayed start trace list) hands s.workers (λ done did. did.each) s.did
 
   since : AllByRecursion (IsSince floor) all
-  since = all-of-given start trace floor list (IsSince floor) hands s.workers (λ done did. did.fresh) s.did
+  since = all-of-given start trace floor list (IsSince floor) hands s.workers (λ done did. rises-since IsSince event_seen since-lower floor (events_of done.rows) did.rises) s.did
 
   -- a take at its place among them
   at-place : (Q : PlayedTake → Type 0) (k : ℕ) (one : PlayedTake) → AllByRecursion Q (takes_of all) → slice_get gathered.takes k ≡ Some one → Q one

@@ -1,7 +1,7 @@
 -- What a worker has played that takes processes from others: at its beginning, when others' steps
 -- follow, and when it plays something more.
 use Rattle.std.proofs.Common.{◌≡◌, ◌≤◌, ◌<◌, ◌+◌, ℕ, suc, List, [], ◌∷◌, ◌++◌, length, map, take, refl, sym, ap, ◌∙◌, subst, arith, append_assoc, append-nil}
-use Rattle.std.specs.Prelude.{Some, IsSome}
+use Rattle.std.specs.Prelude.{Some, IsSome, flat_map}
 use Rattle.std.specs.List.{AllByRecursion}
 use Rattle.std.proofs.lemmas.Bool.{lt-ltb, le-leb}
 use Rattle.std.proofs.lemmas.Grind.{flat_map-append}
@@ -33,13 +33,14 @@ use Rattle.tm_parts.specs.Seats.{scene_of, state_of, Begins, IsMade, MadeBy}
 use Rattle.tm_parts.specs.Playing.{TakeIsLegal, LooksSince}
 use Rattle.tm_parts.specs.Rows.{Shift}
 use Rattle.tm_parts.proofs.Opening.{begins-further}
+use Rattle.tm_parts.proofs.Rising.{looks-since-lower, legal-sees, made-within, within-later, begun-within, within-push, rises-push, rises-lower}
 use Rattle.tm_parts.specs.Parts.{Deed, deed}
 use Rattle.tm_parts.proofs.Moving.{claimed-later, deed_at}
 use Rattle.tm_steal_rows.specs.declared.played.Played.{Played}
 use Rattle.tm_steal_rows.specs.declared.played.PlayedTake.{PlayedTake}
 use Rattle.tm_steal_rows.specs.declared.records.RecordPlace.{RecordPlace}
 use Rattle.tm_steal_rows.specs.Records.{request_at}
-use Rattle.tm_steal_rows.specs.Playing.{Event, IsPlayed, own_of, all_own, maker_of, IsSince, IsStealing, StealsOn, ends_from, events_in, events_of, IsOfProcess, ThiefDid}
+use Rattle.tm_steal_rows.specs.Playing.{Event, IsPlayed, own_of, all_own, maker_of, IsSince, event_seen, IsStealing, StealsOn, ends_from, events_in, events_of, IsOfProcess, ThiefDid}
 
 -- What was played
 
@@ -70,12 +71,15 @@ pub all-later : (start : Start) (trace : Trace) (xs ys : List Made) (all : List 
 all-later start trace xs ys all begins h =
     rw begins.1 (All-map (IsPlayed start trace xs) (IsPlayed start trace (xs ++ begins.0)) all (played-later start trace xs begins.0) h)
 
--- what is no older than a longer list is no older than one that it goes on from
-since-later : (xs ys : List Made) (played : Event) → Begins xs ys → IsSince (length ys) played → IsSince (length xs) played
-since-later xs ys (Event.Take played) begins h =
-    let long : length xs ≤ length ys = rw begins.1 (let all = length-append xs begins.0 in omega arith) in
-    All-map (λ (look : Look). length ys ≤ look.version) (λ (look : Look). length xs ≤ look.version) played.take.looks (λ look le. omega (arith, long, le)) h
-since-later xs ys (Event.End tree number) begins h = tt
+-- what is no older than a version is no older than one before it
+pub since-lower : (low high : ℕ) (event : Event) → low ≤ high → IsSince high event → IsSince low event
+since-lower low high (Event.Take played) le h = looks-since-lower low high played.take le h
+since-lower low high (Event.End tree number) le h = tt
+
+-- all that it has seen is of the list
+event-sees : (start : Start) (trace : Trace) (list : List Made) (event : Event) → IsPlayed start trace list event → AllByRecursion (λ version. version ≤ length list) (event_seen event)
+event-sees start trace list (Event.Take played) h = legal-sees start h.known list (situation_of played.stood) h.request played.take h.legal
+event-sees start trace list (Event.End tree number) h = (made-within list number (Step.End tree) h, tt)
 
 -- A worker
 
@@ -87,7 +91,8 @@ stealing-starts start trace list own =
       each = tt;
       made = sym (append-nil own);
       makers = λ who i all claims. claims;
-      fresh = tt;
+      seen = tt;
+      rises = tt;
     }
 
 -- when others' steps follow
@@ -98,7 +103,8 @@ stealing-later start trace shift xs ys own all begins h =
       each = all-later start trace xs ys all begins h.each;
       made = h.made;
       makers = λ who i belong claims. rw begins.1 (claims-later who i xs begins.0 own (h.makers who i belong claims));
-      fresh = h.fresh;
+      seen = within-later xs ys (flat_map event_seen all) begins h.seen;
+      rises = h.rises;
     }
 
 module _ (start : Start) (trace : Trace) where
@@ -116,7 +122,8 @@ module _ (start : Start) (trace : Trace) where
             let both : AllByRecursion (λ maker. who maker ≡ Some i) (map maker_of all ++ maker_of played ∷ []) = subst (λ (makers : List Maker). AllByRecursion (λ maker. who maker ≡ Some i) makers) (map-append maker_of all (played ∷ [])) belong in
             by who i (All-right (λ maker. who maker ≡ Some i) (map maker_of all) (maker_of played ∷ []) both)
             (h.makers who i (All-left (λ maker. who maker ≡ Some i) (map maker_of all) (maker_of played ∷ []) both) claims);
-        fresh = All-push (IsSince (length shift.known)) all played h.fresh (since-later shift.known xs played h.begins since);
+        seen = within-push IsSince event_seen since-lower xs ys all played begins h.seen (event-sees start trace ys played is);
+        rises = rises-push IsSince event_seen since-lower (length shift.known) (length xs) all played (begun-within shift.known xs h.begins) h.seen since h.rises;
       }
 
   -- a take
@@ -212,13 +219,9 @@ thief-did start trace shift floor list own all none low h whose =
       each = h.each;
       own_is = h.made ∙ ap (λ (ns : List ℕ). ns ++ all_own (events_of all)) none;
       claims = λ who i belong. h.makers who i belong (rw none (tt, tt));
-      fresh = All-map (IsSince (length shift.known)) (IsSince floor) (events_of all) older h.fresh;
+      rises = rises-lower IsSince event_seen since-lower floor (length shift.known) (events_of all) low h.rises;
       whose = whose;
     }
-  where
-    older : (played : Event) → IsSince (length shift.known) played → IsSince floor played
-    older (Event.Take played) since = All-map (λ (look : Look). length shift.known ≤ look.version) (λ (look : Look). floor ≤ look.version) played.take.looks (λ look le. omega (arith, low, le)) since
-    older (Event.End tree number) since = tt
 
 -- what it has done stays so when others' steps follow
 pub thief-later : (start : Start) (trace : Trace) (floor : ℕ) (done : Deed Played) (list : List Made) → Begins done.known list → ThiefDid start trace floor done → ThiefDid start trace floor (deed_at list done)
@@ -227,6 +230,6 @@ thief-later start trace floor done list begins h =
       each = all-later start trace done.known list (events_of done.rows) begins h.each;
       own_is = h.own_is;
       claims = claimed-later (map maker_of (events_of done.rows)) done.known list done.own begins h.claims;
-      fresh = h.fresh;
+      rises = h.rises;
       whose = h.whose;
     }

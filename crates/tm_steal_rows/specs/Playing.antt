@@ -1,6 +1,6 @@
 -- What a worker plays of a trace: takes of `do` lines, whichever processes it has taken from
 -- others, and the trees' Ends.
-use Rattle.std.specs.Prelude.{◌≡◌, ⊤, ℕ, suc, List, [], ◌∷◌, ◌++◌, length, map, flat_map, Some}
+use Rattle.std.specs.Prelude.{◌≡◌, ⊤, ◌≤◌, ℕ, suc, List, [], ◌∷◌, ◌++◌, length, map, flat_map, Some}
 use Rattle.std.specs.List.{AllByRecursion}
 use Rattle.tm_types.specs.declared.request.Request.{Request}
 use Rattle.tm_types.specs.declared.step.Made.{Made}
@@ -8,11 +8,12 @@ use Rattle.tm_types.specs.declared.step.Maker.{Maker}
 use Rattle.tm_types.specs.declared.step.Start.{Start}
 use Rattle.tm_types.specs.declared.step.Step.{Step}
 use Rattle.tm_rules.specs.Words.{Trace}
+use Rattle.tm_legal.specs.Run.{seen}
 use Rattle.tm_legal.specs.Legal.{own_numbers}
 use Rattle.tm_made.specs.Made.{made_step}
 use Rattle.tm_verify_notes.specs.Situations.{situation_of}
 use Rattle.tm_parts.specs.Seats.{Begins, MadeBy}
-use Rattle.tm_parts.specs.Playing.{TakeIsLegal, LooksSince}
+use Rattle.tm_parts.specs.Playing.{TakeIsLegal, LooksSince, Rises}
 use Rattle.tm_parts.specs.Rows.{Shift}
 use Rattle.tm_parts.specs.Parts.{Deed, ClaimedBy}
 use Rattle.tm_steal_rows.specs.declared.played.Played.{Played}
@@ -60,6 +61,15 @@ abbrev pub IsSince : ℕ → Event → Type 0
 IsSince version (Event.Take played) = LooksSince version played.take
 IsSince version (Event.End tree number) = ⊤
 
+-- the versions that it has seen
+abbrev pub event_seen : Event → List ℕ
+event_seen (Event.Take played) = flat_map seen played.take.looks
+event_seen (Event.End tree number) = number ∷ []
+
+-- no look of these is older than the floor, or than what those before it have seen
+abbrev pub EventsRise : ℕ → List Event → Type 0
+EventsRise floor all = Rises IsSince event_seen floor all
+
 -- the events of a process, or that of an End
 abbrev pub events_in : Played → List Event
 events_in (Played.Process process) = map Event.Take process.takes.items
@@ -87,7 +97,8 @@ pub record IsStealing (start : Start) (trace : Trace) (shift : Shift) (list : Li
   pub each : AllByRecursion (IsPlayed start trace list) all
   pub made : own ≡ shift.before ++ all_own all
   pub makers : MadeBy (map maker_of all) shift.known shift.before list own
-  pub fresh : AllByRecursion (IsSince (length shift.known)) all
+  pub seen : AllByRecursion (λ version. version ≤ length list) (flat_map event_seen all)
+  pub rises : EventsRise (length shift.known) all
 
 -- these more
 abbrev pub StealsOn : Start → Trace → List Made → List ℕ → List Made → List ℕ → List Event → Type 0
@@ -101,12 +112,12 @@ ends_from t [] = []
 ends_from t (number ∷ numbers) = Event.End t number ∷ ends_from (suc t) numbers
 
 -- a worker has played these, each take is its process's, and none of its looks is older than that
--- version
+-- version, or than what those before have seen
 pub record ThiefDid (start : Start) (trace : Trace) (floor : ℕ) (done : Deed Played) : Type 0 where
   pub each : AllByRecursion (IsPlayed start trace done.known) (events_of done.rows)
   pub own_is : done.own ≡ all_own (events_of done.rows)
   pub claims : ClaimedBy (map maker_of (events_of done.rows)) done.known done.own
-  pub fresh : AllByRecursion (IsSince floor) (events_of done.rows)
+  pub rises : EventsRise floor (events_of done.rows)
   pub whose : AllByRecursion IsOfProcess done.rows
 
 -- the same, whichever hand it has been given

@@ -14,10 +14,15 @@ use Rattle.tomoyo.specs.declared.learn.Learned.{Learned}
 use Rattle.tomoyo.specs.declared.sort.Sorting.{Sorting}
 use Rattle.tomoyo.specs.Sort.{part_store, sort_outcome}
 use Rattle.tm_call.specs.declared.words.Command.{Command}
-use Rattle.tm_call.specs.Fetches.{Texts}
+use Rattle.tm_call.specs.declared.status.OutName.{OutName}
+use Rattle.tm_call.specs.declared.fetches.Want.{Want}
+use Rattle.tm_io.specs.Files.{Files}
+use Rattle.tm_io.specs.Notes.{Noted}
+use Rattle.tm_call.specs.Fetches.{Texts, AllGiven, FetchStops}
 use Rattle.tm_call.specs.Stores.{names_of, is_named}
 use Rattle.tm_call.specs.Calls.{Names, StoresOf}
-use Rattle.tomoyo.specs.Call.{run_files, rerun_files, stored_by, step_stores, rerun_stores, learn_stores, Allows, StoresWithRerun, StoresBy}
+use Rattle.tomoyo.specs.Call.{run_files, rerun_files, wants_of, stored_by, step_stores, rerun_stores, learn_stores, Refuses, Allows, StoresOutcome, StoresBy}
+use Rattle.tomoyo.proofs.Refusals.{refusal-kind}
 
 -- the names of the stores of a run and of its rerun, or of the run alone where the rerun is left
 -- out
@@ -137,30 +142,57 @@ unnamed-by (Command.ReplayRerun workers) names name is e = with-rerun-unnamed na
 
 -- Calls
 
-stores-with-rerun : (names : List FileName) (status : Status) (a b : Names) → AreWithRerun names → StoresOf names status a b → StoresWithRerun status a b
-stores-with-rerun names status a b (inl is) h = inl (subst (λ (ns : List FileName). StoresOf ns status a b) is h)
-stores-with-rerun names status a b (inr is) h = inr (subst (λ (ns : List FileName). StoresOf ns status a b) is h)
+-- the stores of an outcome that is allowed are those of the command
+pub stores-made : (command : Command) (files : Files) (texts : Texts) (outcome : Outcome) (status : Status) (a b : Names) → AllGiven files (wants_of command) texts → Allows command texts outcome → StoresOf (names_of outcome.stores) status a b → StoresBy command files status a b
+stores-made command files texts outcome status a b given allowed h = go status h
+  where
+    made : (s : Status) → StoresOf (names_of outcome.stores) s a b → StoresOutcome command files s a b
+    made s stores = record { texts = texts; given = given; outcome = outcome; allowed = allowed; stores = stores }
 
--- the stores of an outcome are those of the command
-pub stores-by : (command : Command) (names : List FileName) (status : Status) (a b : Names) → AreStored command names → StoresOf names status a b → StoresBy command status a b
-stores-by Command.Step names status a b is h = subst (λ (ns : List FileName). StoresOf ns status a b) is h
-stores-by Command.Print names status a b is h = subst (λ (ns : List FileName). StoresOf ns status a b) is h
-stores-by Command.Verify names status a b is h = subst (λ (ns : List FileName). StoresOf ns status a b) is h
-stores-by (Command.Gen seed size) names status a b is h = subst (λ (ns : List FileName). StoresOf ns status a b) is h
-stores-by Command.Sort names status a b (rules, is) h = (rules, subst (λ (ns : List FileName). StoresOf ns status a b) is h)
-stores-by Command.Learn names status a b is h = stores-with-rerun names status a b is h
-stores-by (Command.Replay workers) names status a b is h = subst (λ (ns : List FileName). StoresOf ns status a b) is h
-stores-by (Command.ReplaySteal workers) names status a b is h = subst (λ (ns : List FileName). StoresOf ns status a b) is h
-stores-by (Command.ReplayRerun workers) names status a b is h = stores-with-rerun names status a b is h
+    go : (s : Status) → StoresOf (names_of outcome.stores) s a b → StoresBy command files s a b
+    go Status.Done stores = made Status.Done stores
+    go (Status.BadWords place) stores = stores
+    go (Status.ReadFault name) stores = stores
+    go (Status.Absent name) stores = stores
+    go (Status.TooLong name) stores = stores
+    go (Status.BadPolicy file line reply) stores = stores
+    go (Status.UndefinedProfile domain) stores = stores
+    go (Status.BadTrace line kind) stores = stores
+    go (Status.BadScript name line kind) stores = stores
+    go (Status.TooMany what) stores = stores
+    go (Status.BadRules line kind) stores = stores
+    go (Status.BadAudit line) stores = stores
+    go (Status.BadRun line) stores = stores
+    go (Status.WriteFault name) stores = made (Status.WriteFault name) stores
+    go Status.OutOfMemory stores = inr (made Status.OutOfMemory stores)
 
--- the stores of a call that ends before them, whatever the files are
-pub stores-whichever : (command : Command) (status : Status) (a b : Names) → ((files : List FileName) → StoresOf files status a b) → StoresBy command status a b
-stores-whichever Command.Step status a b h = h (stored_by Command.Step)
-stores-whichever Command.Print status a b h = h (stored_by Command.Print)
-stores-whichever Command.Verify status a b h = h (stored_by Command.Verify)
-stores-whichever (Command.Gen seed size) status a b h = h (stored_by (Command.Gen seed size))
-stores-whichever Command.Sort status a b h = ([], h (map FileName.AuditPart (named_numbers [])))
-stores-whichever Command.Learn status a b h = inl (h (stored_by Command.Learn))
-stores-whichever (Command.Replay workers) status a b h = h (stored_by (Command.Replay workers))
-stores-whichever (Command.ReplaySteal workers) status a b h = h (stored_by (Command.ReplaySteal workers))
-stores-whichever (Command.ReplayRerun workers) status a b h = inl (h (stored_by (Command.ReplayRerun workers)))
+-- a call that ends before its stores has none, whichever status it may have then
+stores-none : (command : Command) (files : Files) (status : Status) (a b : Names) → ¬ (status ≡ Status.Done) → ((name : OutName) → ¬ (status ≡ Status.WriteFault name)) → Noted [] a b → StoresBy command files status a b
+stores-none command files Status.Done a b done write none = absurd (done refl)
+stores-none command files (Status.BadWords place) a b done write none = none
+stores-none command files (Status.ReadFault name) a b done write none = none
+stores-none command files (Status.Absent name) a b done write none = none
+stores-none command files (Status.TooLong name) a b done write none = none
+stores-none command files (Status.BadPolicy file line reply) a b done write none = none
+stores-none command files (Status.UndefinedProfile domain) a b done write none = none
+stores-none command files (Status.BadTrace line kind) a b done write none = none
+stores-none command files (Status.BadScript name line kind) a b done write none = none
+stores-none command files (Status.TooMany what) a b done write none = none
+stores-none command files (Status.BadRules line kind) a b done write none = none
+stores-none command files (Status.BadAudit line) a b done write none = none
+stores-none command files (Status.BadRun line) a b done write none = none
+stores-none command files (Status.WriteFault name) a b done write none = absurd (write name refl)
+stores-none command files Status.OutOfMemory a b done write none = inl none
+
+-- where a fetch ends the call
+pub stores-not-fetched : (command : Command) (files : Files) (wants : List Want) (rose : Type 0) (status : Status) (a b : Names) → FetchStops files wants rose status → Noted [] a b → StoresBy command files status a b
+stores-not-fetched command files wants rose status a b stops none =
+    stores-none command files status a b (λ is. (subst (FetchStops files wants rose) is stops).cause) (λ name is. (subst (FetchStops files wants rose) is stops).cause) none
+
+-- where what was read is refused
+pub stores-refused : (command : Command) (files : Files) (texts : Texts) (status : Status) (a b : Names) → Refuses command texts status → Noted [] a b → StoresBy command files status a b
+stores-refused command files texts status a b refused none =
+    stores-none command files status a b
+    (λ is. refusal-kind command texts Status.Done (subst (Refuses command texts) is refused))
+    (λ name is. refusal-kind command texts (Status.WriteFault name) (subst (Refuses command texts) is refused))
+    none

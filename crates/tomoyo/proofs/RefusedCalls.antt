@@ -1,12 +1,12 @@
--- The order of fetches and stores where what was read is refused.
-use Rattle.std.proofs.Common.{List, []}
+-- The order of fetches where what was read is refused.
+use Rattle.std.proofs.Common.{List}
 use Rattle.tm_io.specs.declared.names.FileName.{FileName}
 use Rattle.tm_io.specs.Notes.{Noted}
 use Rattle.tm_call.specs.declared.status.Status.{Status}
 use Rattle.tm_call.specs.declared.words.Command.{Command}
 use Rattle.tm_call.specs.Fetches.{Texts}
-use Rattle.tm_call.specs.Calls.{Names, FetchesOf, StoresOf}
-use Rattle.tm_call.proofs.Calls.{first-all, first-none}
+use Rattle.tm_call.specs.Calls.{Names, FetchesOf}
+use Rattle.tm_call.proofs.Calls.{first-all}
 use Rattle.tomoyo.specs.Call.{Refuses}
 use Rattle.tomoyo.proofs.Refusals.{refusal-kind}
 
@@ -27,20 +27,3 @@ fetches-refused command files texts (Status.BadAudit line) a b refused all = all
 fetches-refused command files texts (Status.BadRun line) a b refused all = all
 fetches-refused command files texts (Status.WriteFault name) a b refused all = all
 fetches-refused command files texts Status.OutOfMemory a b refused all = first-all files a b all
-
-pub stores-refused : (command : Command) (files : List FileName) (texts : Texts) (status : Status) (a b : Names) → Refuses command texts status → Noted [] a b → StoresOf files status a b
-stores-refused command files texts Status.Done a b refused none = absurd (refusal-kind command texts Status.Done refused)
-stores-refused command files texts (Status.BadWords place) a b refused none = none
-stores-refused command files texts (Status.ReadFault name) a b refused none = none
-stores-refused command files texts (Status.Absent name) a b refused none = none
-stores-refused command files texts (Status.TooLong name) a b refused none = none
-stores-refused command files texts (Status.BadPolicy file line reply) a b refused none = none
-stores-refused command files texts (Status.UndefinedProfile domain) a b refused none = none
-stores-refused command files texts (Status.BadTrace line kind) a b refused none = none
-stores-refused command files texts (Status.BadScript name line kind) a b refused none = none
-stores-refused command files texts (Status.TooMany what) a b refused none = none
-stores-refused command files texts (Status.BadRules line kind) a b refused none = none
-stores-refused command files texts (Status.BadAudit line) a b refused none = none
-stores-refused command files texts (Status.BadRun line) a b refused none = none
-stores-refused command files texts (Status.WriteFault name) a b refused none = absurd (refusal-kind command texts (Status.WriteFault name) refused)
-stores-refused command files texts Status.OutOfMemory a b refused none = first-none files a b none

@@ -24,7 +24,7 @@ use Rattle.tomoyo.specs.declared.learn.Learned.{Learned}
 use Rattle.tomoyo.specs.declared.way.Way.{Way}
 use Rattle.tm_call.specs.declared.words.Command.{Command}
 use Rattle.tm_call.specs.Fetches.{want, Texts, AllGiven, FetchStops, TellsAll, told, told_texts, or_else, first_unread}
-use Rattle.tm_call.specs.Stores.{is_named}
+use Rattle.tm_call.specs.Stores.{names_of, is_named}
 use Rattle.tm_io.specs.Notes.{Noted}
 use Rattle.tm_call.specs.Calls.{Names, wanted, FetchesOf, StoresOf}
 use Rattle.tm_call.specs.Ends.{Outside, Untouched, Ends}
@@ -301,27 +301,27 @@ abbrev pub FetchesInOrder : Result Command ℕ → Status → Names → Names �
 FetchesInOrder (Err place) status old new = Noted [] old new
 FetchesInOrder (Ok command) status old new = FetchesOf (read_by command) status old new
 
--- the stores of a run and of its rerun, or of the run alone where the rerun is left out
-abbrev pub StoresWithRerun : Status → Names → Names → Type 0
-StoresWithRerun status old new = StoresOf (run_files ++ rerun_files) status old new ⊎ StoresOf run_files status old new
+-- the stores of an outcome that a command allows for what was read, by the status
+pub record StoresOutcome (command : Command) (files : Files) (status : Status) (old new : Names) : Type 0 where
+  pub texts : Texts
+  pub given : AllGiven files (wants_of command) texts
+  pub outcome : Outcome
+  pub allowed : Allows command texts outcome
+  pub stores : StoresOf (names_of outcome.stores) status old new
 
--- the stores of a command; those of `sort` are the parts that some rules name, by rising number
-abbrev pub StoresBy : Command → Status → Names → Names → Type 0
-StoresBy Command.Step status old new = StoresOf (stored_by Command.Step) status old new
-StoresBy Command.Print status old new = StoresOf (stored_by Command.Print) status old new
-StoresBy Command.Learn status old new = StoresWithRerun status old new
-StoresBy Command.Verify status old new = StoresOf (stored_by Command.Verify) status old new
-StoresBy Command.Sort status old new = (rules : List Rule) × StoresOf (map FileName.AuditPart (named_numbers rules)) status old new
-StoresBy (Command.Gen seed size) status old new = StoresOf (stored_by (Command.Gen seed size)) status old new
-StoresBy (Command.Replay workers) status old new = StoresOf (stored_by (Command.Replay workers)) status old new
-StoresBy (Command.ReplaySteal workers) status old new = StoresOf (stored_by (Command.ReplaySteal workers)) status old new
-StoresBy (Command.ReplayRerun workers) status old new = StoresWithRerun status old new
+-- the stores of a command: those of such an outcome where it is carried out, and else none; want of
+-- memory comes before it or meanwhile
+abbrev pub StoresBy : Command → Files → Status → Names → Names → Type 0
+StoresBy command files Status.Done old new = StoresOutcome command files Status.Done old new
+StoresBy command files (Status.WriteFault name) old new = StoresOutcome command files (Status.WriteFault name) old new
+StoresBy command files Status.OutOfMemory old new = Noted [] old new ⊎ StoresOutcome command files Status.OutOfMemory old new
+StoresBy command files _ old new = Noted [] old new
 
--- the files are stored in their order, each once, and nothing after the store that fails; at faulty
--- words nothing is stored
-abbrev pub StoresInOrder : Result Command ℕ → Status → Names → Names → Type 0
-StoresInOrder (Err place) status old new = Noted [] old new
-StoresInOrder (Ok command) status old new = StoresBy command status old new
+-- the files of the outcome are stored in their order, each once, and nothing after the store that
+-- fails; at faulty words nothing is stored
+abbrev pub StoresInOrder : Result Command ℕ → Files → Status → Names → Names → Type 0
+StoresInOrder (Err place) files status old new = Noted [] old new
+StoresInOrder (Ok command) files status old new = StoresBy command files status old new
 
 -- nothing is stored before all is fetched
 abbrev pub StoresLast : Result Command ℕ → Names → Names → Names → Names → Type 0

@@ -110,7 +110,7 @@ fn perform<S: Shelf, K: Sink, M: Fn(Command, FileList) -> Result<Outcome, Status
         (outside (S.file shelf.old) (S.faults shelf.old) (K.written out.old) (K.faults out.old))
         (outside (S.file shelf.new) (S.faults shelf.new) (K.written out.new) (K.faults out.new)) result }
     ensures fetches { FetchesOf (read_by command) result (S.fetched shelf.old) (S.fetched shelf.new) }
-    ensures stores { StoresBy command result (S.stored shelf.old) (S.stored shelf.new) }
+    ensures stores { StoresBy command (S.file shelf.old) result (S.stored shelf.old) (S.stored shelf.new) }
     ensures stores_last { Noted [] (S.stored shelf.old) (S.stored shelf.new)
         ⊎ Noted (read_by command) (S.fetched shelf.old) (S.fetched shelf.new) }
 {
@@ -151,7 +151,7 @@ fn answer<S: Shelf, K: Sink, M: Fn(Command, FileList) -> Result<Outcome, Status>
         (outside (S.file shelf.new) (S.faults shelf.new) (K.written out.new) (K.faults out.new)) result }
     ensures fetches { FetchesInOrder read result
         (S.fetched shelf.old) (S.fetched shelf.new) }
-    ensures stores { StoresInOrder read result
+    ensures stores { StoresInOrder read (S.file shelf.old) result
         (S.stored shelf.old) (S.stored shelf.new) }
     ensures stores_last { StoresLast read
         (S.fetched shelf.old) (S.fetched shelf.new) (S.stored shelf.old) (S.stored shelf.new) }
@@ -215,7 +215,7 @@ pub fn run_alone<S: Shelf, K: Sink>(
         (outside (S.file shelf.new) (S.faults shelf.new) (K.written out.new) (K.faults out.new)) result }
     ensures fetches { FetchesInOrder (read_words (map string_bytes words.now)) result
         (S.fetched shelf.old) (S.fetched shelf.new) }
-    ensures stores { StoresInOrder (read_words (map string_bytes words.now)) result
+    ensures stores { StoresInOrder (read_words (map string_bytes words.now)) (S.file shelf.old) result
         (S.stored shelf.old) (S.stored shelf.new) }
     ensures stores_last { StoresLast (read_words (map string_bytes words.now))
         (S.fetched shelf.old) (S.fetched shelf.new) (S.stored shelf.old) (S.stored shelf.new) }
@@ -264,7 +264,7 @@ pub fn run<S: Shelf, K: Sink, W: Threads + Wait + Sync, G: Gate>(
         (outside (S.file shelf.new) (S.faults shelf.new) (K.written out.new) (K.faults out.new)) result }
     ensures fetches { FetchesInOrder (run_words (map string_bytes words.now)) result
         (S.fetched shelf.old) (S.fetched shelf.new) }
-    ensures stores { StoresInOrder (run_words (map string_bytes words.now)) result
+    ensures stores { StoresInOrder (run_words (map string_bytes words.now)) (S.file shelf.old) result
         (S.stored shelf.old) (S.stored shelf.new) }
     ensures stores_last { StoresLast (run_words (map string_bytes words.now))
         (S.fetched shelf.old) (S.fetched shelf.new) (S.stored shelf.old) (S.stored shelf.new) }
