@@ -11,8 +11,8 @@ use Rattle.tm_publish.specs.declared.front.Front.{Front}
 use Rattle.tm_publish.specs.declared.pass.Pass.{Pass}
 use Rattle.tm_publish.specs.Words.{home, known, made_of, front_list, IsFresh}
 use Rattle.tm_serve.specs.Serving as serving
-use Rattle.tm_parts.specs.declared.part.Part.{Part}
-use Rattle.tm_parts.specs.Parts.{coming, IsWorking, PassIsReady}
+use Rattle.tm_seat.specs.declared.part.Part.{Part}
+use Rattle.tm_seat.specs.Parts.{coming, IsWorking, PassIsReady}
 use Rattle.tm_replay.specs.Jobs.{StartsFrom, JobStarts, told_of, IsFrontOf}
 use Rattle.tm_replay.specs.Beginnings.{AreGiven}
 

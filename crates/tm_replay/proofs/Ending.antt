@@ -12,8 +12,8 @@ use Rattle.tm_seat.specs.Seats.{Begins}
 use Rattle.tm_seat.proofs.Opening.{begins-further}
 use Rattle.tm_machine.specs.Machine.{Course}
 use Rattle.tm_machine.specs.Office.{list_of}
-use Rattle.tm_parts.specs.declared.part.Part.{Part}
-use Rattle.tm_parts.specs.Parts.{Deed, desk_parts}
+use Rattle.tm_seat.specs.declared.part.Part.{Part}
+use Rattle.tm_seat.specs.Parts.{Deed, desk_parts}
 use Rattle.tm_replay.specs.Jobs.{deeds_of, ArePlayed}
 use Rattle.tm_replay.specs.Replays.{AreAllPlayed}
 use Rattle.tm_replay.proofs.Given.{some-is}

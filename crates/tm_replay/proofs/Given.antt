@@ -9,9 +9,9 @@ use Rattle.tm_types.specs.declared.step.Start.{Start}
 use Rattle.tm_publish.specs.declared.pass.Pass.{Pass}
 use Rattle.tm_publish.specs.Words.{home, known, HasSeen, made_of}
 use Rattle.tm_seat.specs.Seats.{Begins}
-use Rattle.tm_parts.specs.declared.part.Part.{Part}
-use Rattle.tm_parts.specs.Parts.{deed, desk_parts, Deed, CanBegin, IsWorking, PartWaits, PassIsReady, PartIsReady, PartIsDone, EachPart}
-use Rattle.tm_parts.proofs.Lists.{All-of, get-map, get-mapped, length-mapped}
+use Rattle.tm_seat.specs.declared.part.Part.{Part}
+use Rattle.tm_seat.specs.Parts.{deed, desk_parts, Deed, CanBegin, IsWorking, PartWaits, PassIsReady, PartIsReady, PartIsDone, EachPart}
+use Rattle.tm_seat.proofs.Lists.{All-of, get-map, get-mapped, length-mapped}
 use Rattle.tm_replay.specs.Seats.{home_of}
 use Rattle.tm_replay.specs.Jobs.{IsJob, JobIsDone, JobStarts, deeds_of, EachIsDone}
 use Rattle.tm_replay.proofs.Passes.{home-is}

@@ -30,8 +30,8 @@ use Rattle.tm_seat.specs.Seats.{scene_of, Begins, MadeBy}
 use Rattle.tm_serve.specs.Serving.{AnswersFrom, AllWasDone}
 use Rattle.tm_serve.proofs.Answering.{get_within, numbered_later}
 use Rattle.tm_serve.proofs.Did.{desk_did, first_in, over_in, answer_in}
-use Rattle.tm_parts.specs.Parts.{coming, ClaimedBy, HasCome, EditorDid, SupervisorDid}
-use Rattle.tm_parts.proofs.Working.{claimed}
+use Rattle.tm_seat.specs.Parts.{coming, ClaimedBy, HasCome, EditorDid, SupervisorDid}
+use Rattle.tm_seat.proofs.Working.{claimed}
 use Rattle.tm_replay.specs.Seats.{no_start, home_of}
 use Rattle.tm_replay.specs.Jobs.{GoesBack}
 use Rattle.tm_replay.proofs.Passes.{home-there}

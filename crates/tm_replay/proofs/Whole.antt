@@ -32,11 +32,11 @@ use Rattle.tm_seat.specs.declared.tree.PlayedTree.{PlayedTree}
 use Rattle.tm_seat.specs.declared.tree.TreeToPlay.{TreeToPlay}
 use Rattle.tm_seat.specs.Seats.{FitsFrom}
 use Rattle.tm_seat.specs.Rows.{row_of}
-use Rattle.tm_parts.specs.Dealing.{hand_of}
-use Rattle.tm_parts.specs.declared.part.Part.{Part}
-use Rattle.tm_parts.specs.Parts.{coming, trees_from, editor_parts, working_parts, desk_parts, CanBegin, IsWorking, PartWaits, PartIsDone, EachPart, Deed, PlayedTogether}
-use Rattle.tm_parts.specs.Replayed.{scene_of, AreDealt, Replayed, run_of, ReplayedRunsAreLegal}
-use Rattle.tm_parts.proofs.Lists.{All-at, get-map, get-mapped}
+use Rattle.tm_seat.specs.Dealing.{hand_of}
+use Rattle.tm_seat.specs.declared.part.Part.{Part}
+use Rattle.tm_seat.specs.Parts.{coming, trees_from, editor_parts, working_parts, desk_parts, CanBegin, IsWorking, PartWaits, PartIsDone, EachPart, Deed, PlayedTogether}
+use Rattle.tm_seat.specs.Replayed.{scene_of, AreDealt, Replayed, run_of, ReplayedRunsAreLegal}
+use Rattle.tm_seat.proofs.Lists.{All-at, get-map, get-mapped}
 use Rattle.tm_replay.specs.Jobs.{IsJob, JobIsDone, StartsFrom, JobStarts, HasComing, EachIsDone, ArePlayed}
 use Rattle.tm_replay.specs.Beginnings.{HaveBegun}
 use Rattle.tm_replay.specs.Replays.{AreAllPlayed}

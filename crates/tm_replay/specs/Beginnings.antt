@@ -6,8 +6,8 @@ use Rattle.tm_types.specs.declared.step.Start.{Start}
 use Rattle.tm_publish.specs.declared.front.Front.{Front}
 use Rattle.tm_publish.specs.declared.pass.Pass.{Pass}
 use Rattle.tm_publish.specs.Words.{IsFresh}
-use Rattle.tm_parts.specs.declared.part.Part.{Part}
-use Rattle.tm_parts.specs.Parts.{IsWorking, desk_parts}
+use Rattle.tm_seat.specs.declared.part.Part.{Part}
+use Rattle.tm_seat.specs.Parts.{IsWorking, desk_parts}
 use Rattle.tm_replay.specs.Jobs.{JobStarts, told_of, IsFrontOf, HasComing}
 
 module _ {L O H : Type 0} {n : _} {l : _} {o : _} {J : Type 0} (part_of : J → Option (Part H)) (pass_of : J → Option (Pass L O Start Made n l o)) where

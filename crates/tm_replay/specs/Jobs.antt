@@ -10,8 +10,8 @@ use Rattle.tm_publish.specs.declared.front.Front.{Front}
 use Rattle.tm_publish.specs.declared.pass.Pass.{Pass}
 use Rattle.tm_publish.specs.Words.{home, known, HasSeen, made_of, front_home, front_list}
 use Rattle.tm_seat.specs.Seats.{Begins}
-use Rattle.tm_parts.specs.declared.part.Part.{Part}
-use Rattle.tm_parts.specs.Parts.{coming, deed, Deed, CanBegin, PartIsReady, PassIsReady, PartIsDone, EachPart}
+use Rattle.tm_seat.specs.declared.part.Part.{Part}
+use Rattle.tm_seat.specs.Parts.{coming, deed, Deed, CanBegin, PartIsReady, PassIsReady, PartIsDone, EachPart}
 use Rattle.tm_replay.specs.Seats.{home_of}
 
 -- where a supervisor stands, its coming is in the list

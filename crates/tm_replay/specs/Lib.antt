@@ -4,9 +4,9 @@ pub mod Beginnings
 pub mod Replays
 pub use Rattle.tm_machine.specs.Machine
 pub use Rattle.tm_machine.specs.Office
-pub use Rattle.tm_parts.specs.Parts
+pub use Rattle.tm_seat.specs.Parts
 pub use Rattle.tm_seat.specs.declared.tree.PlayedTree
-pub use Rattle.tm_parts.specs.Replayed
+pub use Rattle.tm_seat.specs.Replayed
 pub use Rattle.tm_seat.specs.Rows
 pub use Rattle.tm_core.specs.Scenes
 pub use Rattle.tm_seat.specs.Seats as SeatSeats

@@ -7,8 +7,8 @@ use Rattle.tm_types.specs.declared.step.Start.{Start}
 use Rattle.tm_machine.specs.Machine.{Course}
 use Rattle.tm_machine.specs.Office.{list_of}
 use Rattle.tm_seat.specs.Seats.{Begins}
-use Rattle.tm_parts.specs.declared.part.Part.{Part}
-use Rattle.tm_parts.specs.Parts.{Deed, PartIsDone, EachPart, desk_parts}
+use Rattle.tm_seat.specs.declared.part.Part.{Part}
+use Rattle.tm_seat.specs.Parts.{Deed, PartIsDone, EachPart, desk_parts}
 use Rattle.tm_replay.specs.Jobs.{HasComing}
 
 -- every part has come to its deed, each of them and the supervisor's coming are in the machine's

@@ -2,7 +2,7 @@
 ghost use Rattle.std.specs.Prelude.{◌≡◌, ◌<◌, ◌≤◌, [], length, Some, None, IfOk, OnOk};
 ghost use Rattle.tm_desk.specs.Desks.{desk_book, IsDesk};
 ghost use Rattle.tm_publish.specs.Words.{known, made_of};
-ghost use Rattle.tm_parts.specs.Parts.{deed, CanBegin, HasCome, EditorDid, SupervisorDid};
+ghost use Rattle.tm_seat.specs.Parts.{deed, CanBegin, HasCome, EditorDid, SupervisorDid};
 ghost use Rattle.tm_replay.specs.Seats.{home_of};
 ghost use Rattle.tm_replay.specs.Jobs.{IsGiven, IsJob, GoesBack, IsPlayedOut, JobIsDone};
 
@@ -16,10 +16,9 @@ use tm_list::{NoMemory, Seq};
 use tm_machine::Machine;
 use tm_machine::rep::Rep;
 use tm_office::Office;
-use tm_parts::{Part, Work};
 use tm_publish::front::Named;
 use tm_publish::pass::Pass;
-use tm_seat::{Seat, play_editor};
+use tm_seat::{Part, Seat, Work, play_editor};
 use tm_serve::serve;
 use tm_types::step::{FileKind, Query};
 use tm_word::Text;

@@ -5,8 +5,8 @@ ghost use Rattle.tm_types.specs.declared.step.Made.{Made};
 ghost use Rattle.tm_types.specs.declared.step.Start.{Start};
 ghost use Rattle.tm_desk.specs.Desks.{desk_book, IsDesk};
 ghost use Rattle.tm_publish.specs.Words.{IsFresh};
-ghost use Rattle.tm_parts.specs.Parts.{IsWorking};
-ghost use Rattle.tm_parts.specs.declared.part.Part.{Part};
+ghost use Rattle.tm_seat.specs.Parts.{IsWorking};
+ghost use Rattle.tm_seat.specs.declared.part.Part.{Part};
 ghost use Rattle.tm_replay.specs.Jobs.{IsJob, JobIsDone, JobStarts, told_of, IsFrontOf, StartsFrom};
 ghost use Rattle.tm_replay.specs.Beginnings.{AreGiven, HaveBegun};
 
@@ -22,9 +22,9 @@ use tm_engine::gate::Gate;
 use tm_list::{NoMemory, Seq};
 use tm_machine::Machine;
 use tm_machine::rep::Rep;
-use tm_parts::{Part, Work};
 use tm_publish::front::{Front, Named};
 use tm_publish::pass::Pass;
+use tm_seat::{Part, Work};
 use tm_serve::begin;
 use tm_types::step::Query;
 

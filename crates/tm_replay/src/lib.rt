@@ -1,5 +1,5 @@
 //! A trace played by threads: workers, editors and a supervisor at one engine, each from a seat.
-//! Stands on tm_seat for what each does, on tm_engine for versions, on tm_parts for legal runs.
+//! Stands on tm_seat for what each does and what all come to, and on tm_engine for versions.
 //! Promises that whatever the threads' order was, the run is a legal one.
 #![tactic(auto)]
 
@@ -17,5 +17,4 @@ pub use run::{play_parts, replay_all, replay_run, takes_of};
 pub use tm_core::take;
 pub use tm_machine as machine;
 pub use tm_machine::rep;
-pub use tm_parts as parts;
 pub use tm_seat as seat;

@@ -15,8 +15,8 @@ ghost use Rattle.tm_joint.specs.Joint.{takes_in};
 ghost use Rattle.tm_machine.specs.Machine.{history_of};
 ghost use Rattle.tm_machine.specs.Office.{list_of};
 ghost use Rattle.tm_seat.specs.Rows.{row_of};
-ghost use Rattle.tm_parts.specs.Parts.{tree_to_play, trees_from, CanBegin, IsWorking, PartWaits, PlayedTogether, desk_parts};
-ghost use Rattle.tm_parts.specs.Replayed.{Replayed};
+ghost use Rattle.tm_seat.specs.Parts.{tree_to_play, trees_from, CanBegin, IsWorking, PartWaits, PlayedTogether, desk_parts};
+ghost use Rattle.tm_seat.specs.Replayed.{Replayed};
 ghost use Rattle.tm_replay.specs.Jobs.{ArePlayed};
 ghost use Rattle.tm_replay.specs.Replays.{AreAllPlayed};
 
@@ -32,12 +32,12 @@ use tm_engine::open::open_engine;
 use tm_list::{Copied, NoMemory, Seq};
 use tm_machine::Machine;
 use tm_machine::rep::Rep;
-use tm_parts::deal::{deal, gather};
-use tm_parts::{Part, Trees, Work, replayed_runs_are_legal, working_parts};
 use tm_publish::blank::Blank;
 use tm_publish::front::Named;
 use tm_publish::pass::Pass;
-use tm_seat::{PlayedTree, TreeToPlay};
+use tm_seat::{
+    Part, PlayedTree, TreeToPlay, Trees, Work, deal, gather, replayed_runs_are_legal, working_parts,
+};
 use tm_types::policy::Policy;
 use tm_types::request::{Trace, Tree};
 use tm_types::step::{Query, Run, Start, Take};

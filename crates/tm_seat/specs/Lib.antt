@@ -2,6 +2,9 @@ pub mod Seats
 pub mod Playing
 pub mod Rows
 pub mod Editing
+pub mod Dealing
+pub mod Parts
+pub mod Replayed
 pub use Rattle.tm_joint.specs.Played
 pub use Rattle.tm_take.specs.Tomoyo
 pub use Rattle.tm_take.specs.Trees

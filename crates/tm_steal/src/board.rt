@@ -3,7 +3,9 @@ ghost use Rattle.std.specs.Prelude.{◌≡◌, ◌<◌, length, IfOk};
 
 use crate::processes::{TreeProcesses, processes_of};
 use crossbeam_deque::{Steal, Stealer, Worker};
+use crossbeam_utils::sync::EventCount;
 use std::alloc::{AllocError, Global};
+use std::sync::Wait;
 use std::sync::atomic::{AtomicU64, Ordering};
 use std::thread::Threads;
 use tm_list::NoMemory;
@@ -29,8 +31,9 @@ pub(crate) struct Hand {
 }
 
 /// What all workers share: the trace with the processes of each tree, how many trees and how many
-/// processes it has, a handle to steal from each worker, how many processes have ended, and whether
-/// somebody has given up.
+/// processes it has, a handle to steal from each worker, how many processes have ended, whether
+/// somebody has given up, and what a worker waits for that finds no process: that there is one
+/// more, that all have ended, or that somebody has given up.
 #[derive(Drop)]
 pub(crate) struct Board<'a> {
     pub(crate) trace: &'a [Tree],
@@ -40,6 +43,7 @@ pub(crate) struct Board<'a> {
     pub(crate) stealers: Vec<Stealer<Job>>,
     pub(crate) ended: AtomicU64,
     pub(crate) given_up: AtomicU64,
+    pub(crate) news: EventCount,
 }
 
 impl Board<'_> {
@@ -48,9 +52,12 @@ impl Board<'_> {
         self.ended.load(Ordering::SeqCst) >= self.processes
     }
 
-    /// A process more has ended.
+    /// A process more has ended. Who waits is told where it was the last one.
     pub(crate) fn end_one(&self) {
         self.ended.fetch_add(1, Ordering::SeqCst);
+        if self.all_ended() {
+            self.news.notify_all();
+        }
     }
 
     /// Whether somebody has given up.
@@ -61,34 +68,63 @@ impl Board<'_> {
     /// Tells the others that somebody has given up.
     pub(crate) fn give_up(&self) {
         self.given_up.store(1, Ordering::SeqCst);
+        self.news.notify_all();
     }
 
-    /// A process that another worker has waiting, if one is found.
-    pub(crate) fn steal(&self) -> Option<Job> {
+    // A process that another worker has waiting, if one is found; whether to try again, if one may
+    // have been missed.
+    fn steal(&self) -> Steal<Job> {
+        let mut found = Steal::Empty;
         for stealer in self.stealers.as_slice() {
-            if let Steal::Success(job) = stealer.steal() {
-                return Some(job);
+            match stealer.steal() {
+                Steal::Success(job) => return Steal::Success(job),
+                Steal::Retry => found = Steal::Retry,
+                Steal::Empty => {}
             }
         }
-        None
+        found
+    }
+
+    // A process of another worker. Where none is waiting it waits for news; what has come since it
+    // was announced to wait is news too.
+    fn steal_or_wait<W: Wait>(&self, rt: &W) -> Option<Job> {
+        let waiting = self.news.prepare_wait();
+        match self.steal() {
+            Steal::Success(job) => Some(job),
+            Steal::Retry => None,
+            Steal::Empty => {
+                if !self.all_ended() && !self.is_given_up() {
+                    waiting.wait(rt);
+                }
+                None
+            }
+        }
     }
 }
 
 impl Hand {
-    /// The next process: the worker's own first one, or one of another.
-    pub(crate) fn next_job(&mut self, board: &Board<'_>) -> Option<Job> {
+    /// The next process: the worker's own first one, or one of another. Where there is none it waits
+    /// until there may be one, or all have ended, or somebody has given up.
+    pub(crate) fn next_job<W: Wait>(&mut self, rt: &W, board: &Board<'_>) -> Option<Job> {
         match self.own.pop() {
             Some(job) => Some(job),
-            None => board.steal(),
+            None => board.steal_or_wait(rt),
         }
     }
 
-    /// A process more that can be played.
-    pub(crate) fn add(&mut self, job: Job) -> Result<(), NoMemory> {
+    // A process more that can be played.
+    fn put(&mut self, job: Job) -> Result<(), NoMemory> {
         match self.own.push(job) {
             Ok(()) => Ok(()),
             Err(_) => Err(AllocError),
         }
+    }
+
+    /// A process more that can be played, by a worker that waits for one too.
+    pub(crate) fn add(&mut self, board: &Board<'_>, job: Job) -> Result<(), NoMemory> {
+        self.put(job)?;
+        board.news.notify_one();
+        Ok(())
     }
 }
 
@@ -152,7 +188,7 @@ fn deal_firsts(
             process: 0,
             now: first_now(tree.pid, *home),
         };
-        hands[place % workers].add(job)?;
+        hands[place % workers].put(job)?;
         place += 1;
     }
     Ok(())
@@ -188,6 +224,7 @@ pub(crate) fn board_of<'a, W: Threads + Sync>(
         stealers,
         ended: AtomicU64::new(0),
         given_up: AtomicU64::new(0),
+        news: EventCount::new(),
     };
     Ok((board, hands))
 }

@@ -12,10 +12,8 @@ use crate::board::{Board, Hand, Job};
 use crate::processes::{Process, TreeProcesses};
 use std::alloc::{AllocError, Global};
 use std::sync::Wait;
-use std::thread;
 use tm_list::{Copied, NoMemory};
-use tm_replay::parts::Work;
-use tm_replay::seat::Seat;
+use tm_replay::seat::{Seat, Work};
 use tm_replay::take::ProcessSituation;
 use tm_steal_rows::{
     Played, PlayedProcess, PlayedTake, RecordPlace, end_trees, play_at, record_at,
@@ -120,11 +118,12 @@ fn pass_record<S: Seat>(
             domain,
         }),
         Item::Fork(_, pid) => {
-            hand.add(Job {
+            let child = Job {
                 tree,
                 process: child,
                 now: child_of(now, *pid),
-            })?;
+            };
+            hand.add(board, child)?;
             Ok(now)
         }
         Item::Do(_, request) => {
@@ -208,14 +207,15 @@ fn play_process<S: Seat>(
     Ok(())
 }
 
-// The next process, if there is one: whether there was.
-fn play_next<S: Seat>(
+// The next process, if there is one, now or when this has waited for it.
+fn play_next<S: Seat, W: Wait>(
     board: &Board<'_>,
+    rt: &W,
     seat: &mut S,
     alloc: Global,
     hand: &mut Hand,
     played: &mut Vec<Played>,
-) -> Result<bool, NoMemory>
+) -> Result<(), NoMemory>
     requires can { CanBegin (S.opening seat.old) }
     requires board { IsBoard (S.opening seat.old) board.now }
     ensures steals { OnOk result (GoesOn (S.opening seat.old) board.now.trace.now
@@ -223,14 +223,11 @@ fn play_next<S: Seat>(
     ensures opening { S.opening seat.new ≡ S.opening seat.old }
     ensures grows { Begins (S.at seat.old) (S.at seat.new) }
 {
-    match hand.next_job(board) {
-        Some(job) => {
-            play_process(board, seat, alloc, hand, job, played)?;
-            board.end_one();
-            Ok(true)
-        }
-        None => Ok(false),
+    if let Some(job) = hand.next_job(rt, board) {
+        play_process(board, seat, alloc, hand, job, played)?;
+        board.end_one();
     }
+    Ok(())
 }
 
 // Processes, until all have ended, or somebody has given up.
@@ -256,9 +253,7 @@ fn play_all<S: Seat, W: Wait>(
         if board.is_given_up() {
             return Err(AllocError);
         }
-        if !play_next(board, seat, alloc, hand, played)? {
-            thread::yield_now();
-        }
+        play_next(board, rt, seat, alloc, hand, played)?;
     }
     unreachable!()
 }

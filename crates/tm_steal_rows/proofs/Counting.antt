@@ -10,8 +10,8 @@ use Rattle.tm_legal.specs.Legal.{own_numbers, times}
 use Rattle.tm_legal.proofs.Laws.{times-append}
 use Rattle.tm_joint.specs.Joint.{takes_in}
 use Rattle.tm_joint.specs.Played.{row_own}
-use Rattle.tm_parts.specs.PlayedTree.{PlayedTree}
-use Rattle.tm_parts.specs.Rows.{row_of}
+use Rattle.tm_seat.specs.declared.tree.PlayedTree.{PlayedTree}
+use Rattle.tm_seat.specs.Rows.{row_of}
 use Rattle.tm_steal_rows.specs.declared.played.PlayedTake.{PlayedTake}
 use Rattle.tm_steal_rows.specs.Playing.{Event, all_own}
 use Rattle.tm_steal_rows.specs.Gathering.{takes_of, ends_of, takes_own, taken, TakesRow, RowsAreOf}

@@ -16,9 +16,9 @@ use Rattle.tm_legal.specs.Cases.{IsLegalTake}
 use Rattle.tm_made.specs.Made.{history_made, made_step}
 use Rattle.tm_joint.specs.Played.{RowHolds, EachRow}
 use Rattle.tm_joint.proofs.Rows.{All-left, All-right}
-use Rattle.tm_parts.specs.PlayedTree.{PlayedTree}
-use Rattle.tm_parts.specs.Seats.{scene_of}
-use Rattle.tm_parts.specs.Rows.{row_of}
+use Rattle.tm_seat.specs.declared.tree.PlayedTree.{PlayedTree}
+use Rattle.tm_seat.specs.Seats.{scene_of}
+use Rattle.tm_seat.specs.Rows.{row_of}
 use Rattle.tm_steal_rows.specs.declared.played.PlayedTake.{PlayedTake}
 use Rattle.tm_steal_rows.specs.declared.records.RecordPlace.{RecordPlace}
 use Rattle.tm_steal_rows.specs.Playing.{TakeIsPlayed}

@@ -19,21 +19,21 @@ use Rattle.tm_joint.specs.Joint.{takes_in}
 use Rattle.tm_joint.specs.Makers.{EachClaims}
 use Rattle.tm_joint.specs.Played.{row_own, RowHolds, EachRow}
 use Rattle.tm_joint.proofs.Rows.{All-flat}
-use Rattle.tm_parts.specs.PlayedTree.{PlayedTree}
-use Rattle.tm_parts.specs.Playing.{LooksSince}
-use Rattle.tm_parts.specs.Rows.{row_of}
-use Rattle.tm_parts.specs.Parts.{Deed, EachPart}
-use Rattle.tm_parts.specs.Replayed.{scene_of, run_of}
-use Rattle.tm_parts.proofs.Lists.{All-at, All-of, All-mapped}
-use Rattle.tm_parts.proofs.Moving.{deed_at, DidStays}
-use Rattle.tm_parts.proofs.Shares.{owns, OthersFollow, Shares, shares-of, together-legal, together-attached}
+use Rattle.tm_seat.specs.declared.tree.PlayedTree.{PlayedTree}
+use Rattle.tm_seat.specs.Playing.{LooksSince}
+use Rattle.tm_seat.specs.Rows.{row_of}
+use Rattle.tm_seat.specs.Parts.{Deed, EachPart}
+use Rattle.tm_seat.specs.Replayed.{scene_of, run_of}
+use Rattle.tm_seat.proofs.Lists.{All-at, All-of, All-mapped}
+use Rattle.tm_seat.proofs.Moving.{deed_at, DidStays}
+use Rattle.tm_seat.proofs.Shares.{owns, OthersFollow, Shares, shares-of, together-legal, together-attached}
 use Rattle.tm_steal_rows.specs.declared.played.Played.{Played}
 use Rattle.tm_steal_rows.specs.declared.played.PlayedTake.{PlayedTake}
 use Rattle.tm_steal_rows.specs.Playing.{Event, TakeIsPlayed, IsPlayed, all_own, own_of, maker_of, IsSince, event_seen, events_of, IsTakeOf, IsOfProcess, ThiefDid, HandDid}
 use Rattle.tm_steal_rows.specs.Gathering.{IsOwned, EachOwned, all_given, takes_of, ends_of, homes_of, IsGathered}
 use Rattle.tm_steal_rows.specs.Records.{numbered}
 use Rattle.tm_steal_rows.specs.Stolen.{Stolen, StolenRunsAreLegal}
-use Rattle.tm_parts.proofs.Rising.{rises-since}
+use Rattle.tm_seat.proofs.Rising.{rises-since}
 use Rattle.tm_steal_rows.proofs.Stealing.{since-lower, thief-later}
 use Rattle.tm_steal_rows.proofs.Counting.{ends_own, parts-own, rows-own, rows-taken}
 use Rattle.tm_steal_rows.proofs.Gathered.{rows-hold}

@@ -12,7 +12,7 @@ use Rattle.tm_rules.specs.Requests.{is_request, item_is_request}
 use Rattle.tm_rules.specs.Words.{Trace}
 use Rattle.tm_legal.specs.Run.{Case, Situations, with_situation, with_ids, forked, after_take, tree_cases}
 use Rattle.tm_verify_notes.specs.Tomoyo.{tomoyo_grammar}
-use Rattle.tm_parts.proofs.Lists.{All-at}
+use Rattle.tm_seat.proofs.Lists.{All-at}
 use Rattle.tm_steal_rows.specs.declared.records.RecordPlace.{RecordPlace}
 use Rattle.tm_steal_rows.specs.Records.{numbered, request_in, request_at, places_in, RecordsCanBeAsked}
 

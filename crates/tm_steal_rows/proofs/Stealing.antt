@@ -29,13 +29,13 @@ use Rattle.tm_joint.proofs.Later.{claims-later, claims-push, made_step-later, ma
 use Rattle.tm_joint.proofs.Rows.{All-left, All-right}
 use Rattle.tm_verify_notes.specs.ProcessSituation.{ProcessSituation}
 use Rattle.tm_verify_notes.specs.Situations.{situation_of}
-use Rattle.tm_parts.specs.Seats.{scene_of, state_of, Begins, IsMade, MadeBy}
-use Rattle.tm_parts.specs.Playing.{TakeIsLegal, LooksSince}
-use Rattle.tm_parts.specs.Rows.{Shift}
-use Rattle.tm_parts.proofs.Opening.{begins-further}
-use Rattle.tm_parts.proofs.Rising.{looks-since-lower, legal-sees, made-within, within-later, begun-within, within-push, rises-push, rises-lower}
-use Rattle.tm_parts.specs.Parts.{Deed, deed}
-use Rattle.tm_parts.proofs.Moving.{claimed-later, deed_at}
+use Rattle.tm_seat.specs.Seats.{scene_of, state_of, Begins, IsMade, MadeBy}
+use Rattle.tm_seat.specs.Playing.{TakeIsLegal, LooksSince}
+use Rattle.tm_seat.specs.Rows.{Shift}
+use Rattle.tm_seat.proofs.Opening.{begins-further}
+use Rattle.tm_seat.proofs.Rising.{looks-since-lower, legal-sees, made-within, within-later, begun-within, within-push, rises-push, rises-lower}
+use Rattle.tm_seat.specs.Parts.{Deed, deed}
+use Rattle.tm_seat.proofs.Moving.{claimed-later, deed_at}
 use Rattle.tm_steal_rows.specs.declared.played.Played.{Played}
 use Rattle.tm_steal_rows.specs.declared.played.PlayedTake.{PlayedTake}
 use Rattle.tm_steal_rows.specs.declared.records.RecordPlace.{RecordPlace}

@@ -12,7 +12,7 @@ use Rattle.tm_rules.specs.Words.{Trace}
 use Rattle.tm_legal.specs.Run.{Situation, Situations, Case, tree_cases, do_pids}
 use Rattle.tm_legal.specs.Legal.{own_numbers, times}
 use Rattle.tm_joint.specs.Played.{seen_by}
-use Rattle.tm_parts.specs.PlayedTree.{PlayedTree}
+use Rattle.tm_seat.specs.declared.tree.PlayedTree.{PlayedTree}
 use Rattle.tm_verify_notes.specs.Cases.{first_stand}
 use Rattle.tm_steal_rows.specs.declared.played.Played.{Played}
 use Rattle.tm_steal_rows.specs.declared.played.PlayedTake.{PlayedTake}

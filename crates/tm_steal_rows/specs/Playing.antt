@@ -12,10 +12,10 @@ use Rattle.tm_legal.specs.Run.{seen}
 use Rattle.tm_legal.specs.Legal.{own_numbers}
 use Rattle.tm_made.specs.Made.{made_step}
 use Rattle.tm_verify_notes.specs.Situations.{situation_of}
-use Rattle.tm_parts.specs.Seats.{Begins, MadeBy}
-use Rattle.tm_parts.specs.Playing.{TakeIsLegal, LooksSince, Rises}
-use Rattle.tm_parts.specs.Rows.{Shift}
-use Rattle.tm_parts.specs.Parts.{Deed, ClaimedBy}
+use Rattle.tm_seat.specs.Seats.{Begins, MadeBy}
+use Rattle.tm_seat.specs.Playing.{TakeIsLegal, LooksSince, Rises}
+use Rattle.tm_seat.specs.Rows.{Shift}
+use Rattle.tm_seat.specs.Parts.{Deed, ClaimedBy}
 use Rattle.tm_steal_rows.specs.declared.played.Played.{Played}
 use Rattle.tm_steal_rows.specs.declared.played.PlayedTake.{PlayedTake}
 use Rattle.tm_steal_rows.specs.Records.{request_at}

@@ -6,9 +6,9 @@ use Rattle.tm_types.specs.declared.step.Start.{Start}
 use Rattle.tm_rules.specs.Words.{Trace}
 use Rattle.tm_legal.specs.Legal.{Legal, NoLookBeforeAttach}
 use Rattle.tm_legal.specs.Play.{CanPlay}
-use Rattle.tm_parts.specs.PlayedTree.{PlayedTree}
-use Rattle.tm_parts.specs.Parts.{PlayedTogether}
-use Rattle.tm_parts.specs.Replayed.{scene_of, run_of}
+use Rattle.tm_seat.specs.declared.tree.PlayedTree.{PlayedTree}
+use Rattle.tm_seat.specs.Parts.{PlayedTogether}
+use Rattle.tm_seat.specs.Replayed.{scene_of, run_of}
 use Rattle.tm_steal_rows.specs.declared.played.Played.{Played}
 use Rattle.tm_steal_rows.specs.Playing.{HandDid}
 use Rattle.tm_steal_rows.specs.Gathering.{homes_of, IsGathered}

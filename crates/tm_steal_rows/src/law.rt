@@ -3,9 +3,9 @@ ghost use Rattle.std.specs.Prelude.{◌≡◌, ◌≤◌, ℕ, [], List, length}
 ghost use Rattle.tm_types.specs.declared.step.Made.{Made};
 ghost use Rattle.tm_types.specs.declared.step.Start.{Start};
 ghost use Rattle.tm_rules.specs.Words.{Trace};
-ghost use Rattle.tm_parts.specs.Rows.{Shift};
-ghost use Rattle.tm_parts.specs.Seats.{Begins};
-ghost use Rattle.tm_parts.specs.Parts.{deed};
+ghost use Rattle.tm_seat.specs.Rows.{Shift};
+ghost use Rattle.tm_seat.specs.Seats.{Begins};
+ghost use Rattle.tm_seat.specs.Parts.{deed};
 ghost use Rattle.tm_steal_rows.specs.Records.{RecordsCanBeAsked};
 ghost use Rattle.std.specs.List.{AllByRecursion};
 ghost use Rattle.tm_steal_rows.specs.Playing.{IsStealing, StealsOn, ThiefDid, events_of, IsOfProcess};

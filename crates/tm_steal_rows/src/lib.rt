@@ -1,5 +1,5 @@
 //! What workers play of a trace whose processes they take from each other, and the rows that are
-//! gathered of it. Stands on tm_seat for takes, on tm_parts for runs, and on no engine.
+//! gathered of it. Stands on tm_seat for takes and for runs, and on no engine.
 //! Promises that what is gathered, each worker's part compared by value, is a legal run.
 #![tactic(auto)]
 

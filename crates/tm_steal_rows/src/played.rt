@@ -8,7 +8,7 @@ ghost use Rattle.tm_verify_notes.specs.Tomoyo.{tomoyo_grammar};
 ghost use Rattle.tm_legal.specs.Run.{seen, raised};
 ghost use Rattle.tm_legal.specs.Play.{IsOpened, IsNamed};
 ghost use Rattle.tm_legal.specs.Stages.{DomainIn};
-ghost use Rattle.tm_parts.specs.Seats.{state_of, FitsFrom, Begins};
+ghost use Rattle.tm_seat.specs.Seats.{state_of, FitsFrom, Begins};
 ghost use Rattle.std.specs.List.{AllByRecursion};
 ghost use Rattle.tm_steal_rows.specs.Playing.{Event, StealsOn, ends_from, events_of, IsOfProcess};
 
@@ -16,7 +16,7 @@ use crate::records::RecordPlace;
 use std::alloc::Global;
 use std::marker::Model;
 use tm_list::NoMemory;
-use tm_parts::seat::{Seat, play_take};
+use tm_seat::{Seat, play_take};
 use tm_types::request::Request;
 use tm_types::step::{Made, Maker, Settled, Step, Take};
 use tm_verify_notes::raised_by_looks;

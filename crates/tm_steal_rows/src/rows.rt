@@ -12,7 +12,7 @@ use std::alloc::{AllocError, Global};
 use std::collections::VecDeque;
 use std::thread::Threads;
 use tm_list::{NoMemory, Seq};
-use tm_parts::seat::PlayedTree;
+use tm_seat::PlayedTree;
 use tm_types::request::Tree;
 use tm_types::step::Take;
 use tm_verify_notes::raised_by_looks;

@@ -6,7 +6,7 @@ use Rattle.tm_trace.specs.Written.{IsTrace}
 use Rattle.tm_grammar.specs.Tomoyo.{tomoyo_grammar}
 use Rattle.tm_legal.specs.Play.{Player, CanPlay}
 use Rattle.tm_legal.specs.Replay.{alone}
-use Rattle.tm_parts.specs.Parts.{CanBegin}
+use Rattle.tm_seat.specs.Parts.{CanBegin}
 use Rattle.tm_legal.specs.Play as play
 use Rattle.tm_machine.specs.Machine.{Course, course_from}
 use Rattle.tm_core.specs.Scenes.{IsLed}

@@ -6,7 +6,7 @@ ghost use Rattle.tm_grammar.specs.Tomoyo.{tomoyo_grammar};
 ghost use Rattle.tm_legal.specs.Play.{IsOpened, IsNamed};
 ghost use Rattle.tm_seat.specs.Rows.{IsReady};
 ghost use Rattle.tm_seat.specs.Seats.{FitsFrom};
-ghost use Rattle.tm_parts.specs.Parts.{tree_to_play, trees_from};
+ghost use Rattle.tm_seat.specs.Parts.{tree_to_play, trees_from};
 ghost use Rattle.tm_tests_alone.specs.Opened.{CanBePlayed};
 
 use crate::opened::{Opened, files, open_machine};

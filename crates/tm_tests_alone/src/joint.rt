@@ -16,7 +16,7 @@ use tm_engine::gate::NoGate;
 use tm_indexed::Indexed;
 use tm_io::FileName;
 use tm_list::NoMemory;
-use tm_parts::Work;
+use tm_seat::Work;
 use tm_replay::{play_parts, replay_all};
 use tm_run::print_run;
 use tm_seat::Seat;

@@ -3,7 +3,7 @@ use Rattle.std.proofs.lemmas.Result.{IfOk-weaker}
 use Rattle.tm_types.specs.declared.step.Start.{Start}
 use Rattle.tm_publish.specs.Words.{known, made_of}
 use Rattle.tm_seat.proofs.Opening.{begins-further}
-use Rattle.tm_parts.specs.Parts.{deed}
+use Rattle.tm_seat.specs.Parts.{deed}
 use Rattle.tm_replay.specs.Seats.{home_of}
 use Rattle.tm_replay.proofs.Playing.{goes-back, begins-long}
 use Rattle.tm_replay.proofs.job.run_worker.Goals as goal

@@ -1,6 +1,6 @@
 use Rattle.std.proofs.Common.{List, subst}
 use Rattle.std.proofs.lemmas.Result.{IfOk-weaker}
-use Rattle.tm_parts.specs.declared.part.Part.{Part}
+use Rattle.tm_seat.specs.declared.part.Part.{Part}
 use Rattle.tm_replay.specs.Beginnings.{AreGiven}
 use Rattle.tm_replay.proofs.Beginning.{given-none, given-parts, given-starts}
 use Rattle.tm_replay.proofs.jobs.jobs_of.Goals as goal

@@ -4,8 +4,8 @@ use Rattle.tm_types.specs.declared.step.Reply.{Reply}
 use Rattle.tm_types.specs.declared.step.Start.{Start}
 use Rattle.tm_legal.proofs.Walks.{All-map}
 use Rattle.tm_desk.specs.Desks.{desk_book}
-use Rattle.tm_parts.specs.Parts.{IsWorking, PartWaits, desk_parts}
-use Rattle.tm_parts.proofs.Lists.{All-of}
+use Rattle.tm_seat.specs.Parts.{IsWorking, PartWaits, desk_parts}
+use Rattle.tm_seat.proofs.Lists.{All-of}
 use Rattle.tm_publish.specs.Words.{IsFresh}
 use Rattle.tm_replay.specs.Jobs.{ArePlayed}
 use Rattle.tm_replay.proofs.Given.{waits-working}

@@ -1,5 +1,5 @@
 use Rattle.tm_desk.specs.Desks.{desk_book}
-use Rattle.tm_parts.specs.Parts.{PartWaits, IsWorking}
+use Rattle.tm_seat.specs.Parts.{PartWaits, IsWorking}
 use Rattle.tm_legal.proofs.Walks.{All-map}
 use Rattle.tm_replay.proofs.Given.{waits-working}
 use Rattle.tm_replay.proofs.Playing.{if-ok}

@@ -1,9 +1,9 @@
 use Rattle.std.proofs.Common.{ap, sym, ◌∙◌, subst}
 use Rattle.tm_types.specs.declared.step.Start.{Start}
 use Rattle.tm_legal.specs.Steps.{State}
-use Rattle.tm_parts.specs.Dealing.{IsGathered}
-use Rattle.tm_parts.specs.Parts.{trees_from}
-use Rattle.tm_parts.proofs.Plans.{hands-ready}
+use Rattle.tm_seat.specs.Dealing.{IsGathered}
+use Rattle.tm_seat.specs.Parts.{trees_from}
+use Rattle.tm_seat.proofs.Plans.{hands-ready}
 use Rattle.tm_replay.proofs.Whole.{dealt-hands}
 use Rattle.tm_replay.proofs.run.play_trace.Goals as goal
 

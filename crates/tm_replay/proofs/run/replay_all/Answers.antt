@@ -1,7 +1,7 @@
 use Rattle.std.proofs.Common.{subst}
 use Rattle.tm_desk.specs.Desks.{desk_book}
 use Rattle.tm_machine.specs.Office.{list_of}
-use Rattle.tm_parts.specs.Replayed.{Replayed}
+use Rattle.tm_seat.specs.Replayed.{Replayed}
 use Rattle.tm_replay.proofs.Whole.{replayed-run}
 use Rattle.tm_replay.proofs.run.replay_all.Goals as goal
 

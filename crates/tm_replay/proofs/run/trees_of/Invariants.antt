@@ -1,5 +1,5 @@
 use Rattle.std.proofs.Common.{◌≡◌, length}
-use Rattle.tm_parts.specs.Parts.{trees_from}
+use Rattle.tm_seat.specs.Parts.{trees_from}
 use Rattle.tm_replay.proofs.run.trees_of.Given as goal
 
 abbrev pub invariant-loop-tree : goal.invariant-loop-tree

@@ -1,6 +1,6 @@
 use Rattle.std.proofs.Common.{rules, ◌≡◌, ◌++◌, ◌∷◌, ◌+◌, ◌∙◌, [], refl}
 use Rattle.tm_steal_rows.specs.declared.played.Played.{Played}
-use Rattle.tm_parts.proofs.Opening.{begins-further}
+use Rattle.tm_seat.proofs.Opening.{begins-further}
 use Rattle.tm_steal_rows.proofs.Stealing.{ended-more}
 use Rattle.tm_steal_rows.proofs.played.end_trees.Goals as goal
 

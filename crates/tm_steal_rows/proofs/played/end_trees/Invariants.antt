@@ -1,5 +1,5 @@
 use Rattle.std.proofs.Common.{◌≡◌}
-use Rattle.tm_parts.specs.Seats.{Begins}
+use Rattle.tm_seat.specs.Seats.{Begins}
 use Rattle.tm_steal_rows.proofs.Stealing.{Ended}
 use Rattle.tm_steal_rows.proofs.played.end_trees.Given as goal
 

@@ -1,5 +1,5 @@
 use Rattle.std.proofs.Common.{rules, ◌≡◌, ◌++◌, ◌∷◌, [], List, sym, subst}
-use Rattle.tm_parts.specs.PlayedTree.{PlayedTree}
+use Rattle.tm_seat.specs.declared.tree.PlayedTree.{PlayedTree}
 use Rattle.tm_steal_rows.specs.Gathering.{RowsAreOfParts}
 use Rattle.tm_steal_rows.proofs.RowSteps.{rows-push}
 use Rattle.tm_steal_rows.proofs.rows.all_rows.Goals as goal

@@ -10,8 +10,8 @@ use Rattle.tm_machine.specs.Office.{list_of}
 use Rattle.tm_seat.specs.Rows.{IsReady}
 use Rattle.tm_seat.specs.Seats.{FitsFrom}
 use Rattle.tm_seat.specs.declared.tree.TreeToPlay.{TreeToPlay}
-use Rattle.tm_parts.specs.Parts.{trees_from}
-use Rattle.tm_parts.proofs.Plans.{trees-ready}
+use Rattle.tm_seat.specs.Parts.{trees_from}
+use Rattle.tm_seat.proofs.Plans.{trees-ready}
 use Rattle.tm_tests_alone.proofs.alone.play_alone.Goals as goal
 
 pub play_all-played-requires-clause-fitted : goal.play_all-played-requires-clause-fitted

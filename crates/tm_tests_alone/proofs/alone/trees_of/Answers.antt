@@ -1,5 +1,5 @@
 use Rattle.std.proofs.Common.{◌∙◌, ap, ◌++◌, ◌∷◌, []}
-use Rattle.tm_parts.proofs.Plans.{trees-more}
+use Rattle.tm_seat.proofs.Plans.{trees-more}
 use Rattle.tm_tests_alone.proofs.alone.trees_of.Goals as goal
 
 pub loop-tree-preserved : goal.loop-tree-preserved

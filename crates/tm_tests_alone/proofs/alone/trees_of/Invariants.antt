@@ -1,5 +1,5 @@
 use Rattle.std.proofs.Common.{◌≡◌, length}
-use Rattle.tm_parts.specs.Parts.{trees_from}
+use Rattle.tm_seat.specs.Parts.{trees_from}
 use Rattle.tm_tests_alone.proofs.alone.trees_of.Given as goal
 
 abbrev pub invariant-loop-tree : goal.invariant-loop-tree

@@ -1,6 +1,0 @@
-use Rattle.std.proofs.Common.{◌≡◌, [], take}
-use Rattle.tm_deal.specs.Dealing.{queues_own}
-use Rattle.tm_deal.proofs.rows.all_are_empty.Given as goal
-
-abbrev pub invariant-loop-queue : goal.invariant-loop-queue
-invariant-loop-queue l = queues_own (take l.queue-index l.queues) ≡ []

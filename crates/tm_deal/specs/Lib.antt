@@ -1,9 +1,0 @@
-pub mod Dealing
-pub use Rattle.tm_seat.specs.declared.tree.PlayedTree
-pub use Rattle.tm_seat.specs.Playing
-pub use Rattle.tm_seat.specs.Rows
-pub use Rattle.tm_seat.specs.Seats
-pub use Rattle.tm_seat.specs.Tomoyo
-pub use Rattle.tm_seat.specs.declared.tree.TreeToPlay
-pub use Rattle.tm_seat.specs.Trees
-pub use Rattle.tm_seat.specs.Written

@@ -1,5 +1,0 @@
-use Rattle.tm_parts.proofs.Jointly.{replayed-legal}
-use Rattle.tm_parts.proofs.law.replayed_runs_are_legal.Goals as goal
-
-pub returns : goal.returns
-returns c = replayed-legal

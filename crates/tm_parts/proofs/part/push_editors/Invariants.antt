@@ -1,8 +1,0 @@
-use Rattle.std.proofs.Common.{◌≡◌, ◌++◌, length}
-use Rattle.tm_parts.specs.Parts.{editor_parts}
-use Rattle.tm_parts.proofs.part.push_editors.Given as goal
-
-abbrev pub invariant-loop-editor : goal.invariant-loop-editor
-invariant-loop-editor g l =
-    (l.parts.items ≡ l.initial.parts.items ++ editor_parts 1 l.yielded)
-    × (l.number ≡ length l.yielded)
