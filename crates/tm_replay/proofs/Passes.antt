@@ -1,11 +1,16 @@
 -- What a pass at an engine on a machine knows, as a seat says it.
-use Rattle.std.proofs.Common.{◌≡◌, ℕ, ◌+◌, List, [], ◌∷◌, ◌++◌, length, true, true≢false, refl, sym, ap, subst, arith}
+use Rattle.std.proofs.Common.{◌≡◌, ℕ, ◌+◌, List, [], ◌∷◌, ◌++◌, length, Bool, true, true≢false, refl, ◌∙◌, sym, ap, subst, arith}
 use Rattle.std.specs.Prelude.{Option, Some, None, IsSome, is_some, option_map, unwrap_or, slice_get, take}
+use Rattle.std.specs.Option.{option_and_then, IfSome}
 use mathlib.Core.List.{IsPrefix}
 use Rattle.tm_rules.specs.Requests.{is_request}
-use Rattle.tm_rules.specs.Policy.{domain_at}
+use Rattle.tm_rules.specs.Policy.{domain_at, profile_of}
+use Rattle.tm_rules.specs.Audit.{audit_text}
 use Rattle.tm_change_domains.specs.Standing.{Standing, StandsIn}
 use Rattle.tm_types.specs.declared.policy.Policy.{Policy}
+use Rattle.tm_types.specs.declared.policy.Profile.{Profile}
+use Rattle.tm_types.specs.declared.policy.Domain.{Domain}
+use Rattle.tm_types.specs.declared.verdict.Verdict.{Verdict}
 use Rattle.tm_types.specs.declared.request.Proc.{Proc}
 use Rattle.tm_types.specs.declared.request.Request.{Request}
 use Rattle.tm_types.specs.declared.step.Made.{Made}
@@ -18,18 +23,21 @@ use Rattle.tm_legal.specs.Run.{Situation}
 use Rattle.tm_legal.specs.Legal.{Scene, Replies}
 use Rattle.tm_legal.specs.Play.{IsOpened}
 use Rattle.tm_legal.specs.Stages.{DomainIn}
+use Rattle.tm_legal.specs.Verdict.{verdict, verdict_in}
 use Rattle.tm_made.specs.Made.{steps_made, told_from, start_in, EachFits}
 use Rattle.tm_made.proofs.Telling.{each-fitted, told-reply}
 use Rattle.tm_joint.specs.AtLists.{state_after}
 use Rattle.tm_joint.proofs.ListLaws.{looks-are-judged}
 use Rattle.tm_machine.specs.Office.{fits_at, fits_at_stays, reply_in}
 use Rattle.tm_core.specs.Judging.{verdict_at, judged}
+use Rattle.tm_core.specs.declared.judging.Judged.{Judged}
 use Rattle.tm_publish.specs.declared.event.Event.{Event}
 use Rattle.tm_publish.specs.declared.pass.Pass.{Pass}
 use Rattle.tm_publish.specs.History as history
 use Rattle.tm_publish.specs.declared.event.Event.TheVariants as event
 use Rattle.tm_publish.specs.Words.{home, known}
-use Rattle.tm_seat.specs.Seats.{scene_of, state_of, FitsFrom, Begins, IsMade}
+use Rattle.tm_seat.specs.declared.seat.Shown.{Shown}
+use Rattle.tm_seat.specs.Seats.{scene_of, state_of, ShowsAt, FitsFrom, Begins, IsMade}
 use Rattle.tm_seat.proofs.Opening.{some-trace, fits-scene, state-scene}
 use Rattle.tm_replay.specs.Seats.{no_start, home_of}
 
@@ -61,6 +69,10 @@ module _ {L O : Type 0} {n : _} {l : _} {o : _} where
       there (event.Opened p k ∷ log) is = refl
       there (event.Made s k ∷ log) is = absurd (true≢false (sym is))
 
+  -- the same pass's opening
+  pub home-same : (old new : Pass L O Start Made n l o) → home new ≡ home old → home_of new ≡ home_of old
+  home-same old new same = ap (λ (found : Option Start). unwrap_or found no_start) same
+
   -- what a pass knows fits from its opening
   pub knows-fit : (old new : Pass L O Start Made n l o) → home new ≡ home old → ((p : Start) → home old ≡ Some p → EachFits tomoyo_grammar p (known new)) → FitsFrom (home_of new) (known new)
   knows-fit old new opened each =
@@ -88,6 +100,48 @@ looks-there start xs ys domain process request opened begins fitted there asked 
     let judged_last : IsSome (verdict_at (state_of start ys) domain process request) =
     subst (λ (l : List Made). IsSome (verdict_at (state_of start l) domain process request)) (sym begins.1) judged_at in
     some-map _ (verdict_at (state_of start ys) domain process request) judged_last
+
+-- where a verdict is found the domain is there with its profile
+verdict-there : (policy : Policy) (attached : Bool) (domain : ℕ) (process : Proc) (request : Request) (v : Verdict) → verdict tomoyo_grammar.is_path policy attached domain process request ≡ Some v → DomainIn policy domain
+unfolding verdict
+verdict-there policy attached domain process request v h = of-domain (domain_at policy domain) refl h
+  where
+    of-profile : (its : Domain) (found : Option Profile) → domain_at policy domain ≡ Some its → profile_of policy its ≡ found → option_and_then (verdict_in tomoyo_grammar.is_path policy attached process request its) found ≡ Some v → DomainIn policy domain
+    of-profile its None there profiled h = absurd cc
+    of-profile its (Some profile) there profiled h = record { domain = its; there = there; profile = profile; profiled = profiled }
+
+    of-domain : (found : Option Domain) → domain_at policy domain ≡ found → option_and_then (λ its. option_and_then (verdict_in tomoyo_grammar.is_path policy attached process request its) (profile_of policy its)) found ≡ Some v → DomainIn policy domain
+    of-domain None there h = absurd cc
+    of-domain (Some its) there h = of-profile its (profile_of policy its) there refl h
+
+-- what is judged at the state after a list is what a seat shows there
+pub shows-at : (start : Start) (list : List Made) (domain : ℕ) (process : Proc) (request : Request) (shown : Shown) (version : ℕ) → judged (state_of start list) domain process request ≡ Some (record { verdict = shown.verdict; audit = shown.audit }) → version ≡ length list → ShowsAt start list domain process request shown version
+shows-at start list domain process request shown version h at = go (verdict_at (state_of start list) domain process request) refl h
+  where
+    policy : Policy
+    policy = (state_of start list).policy
+
+    its : Verdict → Judged
+    its v = record { verdict = v; audit = audit_text tomoyo_grammar policy domain process request v }
+
+    go : (found : Option Verdict) → verdict_at (state_of start list) domain process request ≡ found → option_map its found ≡ Some (record { verdict = shown.verdict; audit = shown.audit }) → ShowsAt start list domain process request shown version
+    go None is none = absurd cc
+    go (Some v) is same =
+        let both : its v ≡ record { verdict = shown.verdict; audit = shown.audit } = cc in
+        let verdict_same : v ≡ shown.verdict = ap (λ (j : Judged). j.verdict) both in
+        let audit_same : audit_text tomoyo_grammar policy domain process request v ≡ shown.audit = ap (λ (j : Judged). j.audit) both in
+        record {
+          there = verdict-there policy (state_of start list).queries.attached domain process request v is;
+          version_is = at;
+          verdict_is = is ∙ ap Some verdict_same;
+          audit_is = sym audit_same ∙ ap (audit_text tomoyo_grammar policy domain process request) verdict_same;
+        }
+
+-- the same of what a look may show
+pub shows-ok : (start start' : Start) (list : List Made) (domain : ℕ) (process : Proc) (request : Request) (found : Option Judged) (version : ℕ) (shown : Option (Shown × ℕ)) → start' ≡ start → found ≡ judged (state_of start list) domain process request → version ≡ length list → IfSome shown (λ j. found ≡ Some (record { verdict = j.0.verdict; audit = j.0.audit })) → IfSome shown (λ j. j.1 ≡ version) → IfSome shown (λ j. ShowsAt start' list domain process request j.0 j.1)
+shows-ok start start' list domain process request found version None same is at shown version_is = tt
+shows-ok start start' list domain process request found version (Some (shown, number)) same is at shown_is version_is =
+    subst (λ (s : Start). ShowsAt s list domain process request shown number) (sym same) (shows-at start list domain process request shown number (sym is ∙ shown_is) (version_is ∙ at))
 
 -- where a look stands, its domain is there with its profile
 pub stands-there : (policy : Policy) (domain : ℕ) (standing : Standing) → standing.number ≡ domain → StandsIn policy standing → DomainIn policy domain

@@ -1,5 +1,5 @@
 //! A seat at an engine.
-use crate::looks::{arrive_at, look_at};
+use crate::looks::{arrive_at, look_at, look_if_there};
 use crate::moves::{hear_at, settle_at};
 use std::alloc::Global;
 use std::sync::Wait;
@@ -51,6 +51,24 @@ impl<'a, W: Wait, L: Named, R: Rep, T: Sheet<L, Machine<R>>, G: Gate> Seat
         request: &Request,
     ) -> Result<(Shown, u64), NoMemory> {
         look_at(
+            self.rt,
+            alloc,
+            self.engine,
+            &mut self.pass,
+            domain,
+            process,
+            request,
+        )
+    }
+
+    fn judge_if_there(
+        &mut self,
+        alloc: Global,
+        domain: u32,
+        process: &Proc,
+        request: &Request,
+    ) -> Result<Option<(Shown, u64)>, NoMemory> {
+        look_if_there(
             self.rt,
             alloc,
             self.engine,

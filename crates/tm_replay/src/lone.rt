@@ -1,7 +1,7 @@
 //! A machine alone, as a seat.
 ghost use Rattle.std.specs.Prelude.{◌≡◌, [], IfOk};
 
-use crate::looks::{is_there, judge_at, shown};
+use crate::looks::{is_there, judge_at, shown, shown_if_there};
 use std::alloc::{AllocError, Global};
 use tm_list::NoMemory;
 use tm_machine::Machine;
@@ -56,6 +56,20 @@ impl<R: Rep> Seat for Lone<R> {
         self.machine.versions();
         match judge_at(alloc, &self.machine, domain, process, request) {
             Ok(found) => Ok((shown(found), self.machine.version())),
+            Err(fault) => Err(fault),
+        }
+    }
+
+    fn judge_if_there(
+        &mut self,
+        alloc: Global,
+        domain: u32,
+        process: &Proc,
+        request: &Request,
+    ) -> Result<Option<(Shown, u64)>, NoMemory> {
+        self.machine.versions();
+        match judge_at(alloc, &self.machine, domain, process, request) {
+            Ok(found) => Ok(shown_if_there(found, self.machine.version())),
             Err(fault) => Err(fault),
         }
     }

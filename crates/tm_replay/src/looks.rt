@@ -10,7 +10,7 @@ ghost use Rattle.tm_made.specs.Made.{EachFits};
 ghost use Rattle.tm_machine.specs.Office.{list_of};
 ghost use Rattle.tm_core.specs.Judging.{judged};
 ghost use Rattle.tm_publish.specs.Words.{home, known, HasSeen, made_of};
-ghost use Rattle.tm_seat.specs.Seats.{state_of, verdict_at, audit_at, FitsFrom, Begins};
+ghost use Rattle.tm_seat.specs.Seats.{state_of, verdict_at, audit_at, ShowsAt, FitsFrom, Begins};
 ghost use Rattle.tm_replay.specs.Seats.{home_of, IsLookAt};
 
 use std::alloc::Global;
@@ -196,6 +196,16 @@ fn look<L: Named, R: Rep, T: Sheet<L, Machine<R>>, W: Wait>(
     unreachable!()
 }
 
+// What a look shows with its version, if the domain is there.
+pub(crate) fn shown_if_there(found: Option<Judged>, version: u64) -> Option<(Shown, u64)>
+    ensures shown { IfSome result (λ j.
+        found ≡ Some (record { verdict = j.0.verdict; audit = j.0.audit })) }
+    ensures version { IfSome result (λ j. j.1 ≡ version) }
+{
+    let Judged { verdict, audit } = found?;
+    Some((Shown { verdict, audit }, version))
+}
+
 // What a look shows, where the domain is there.
 pub(crate) fn shown(found: Option<Judged>) -> Shown
     requires { IsSome found }
@@ -243,6 +253,37 @@ pub(crate) fn look_at<L: Named, R: Rep, T: Sheet<L, Machine<R>>, W: Wait>(
     pass.seen();
     match looked {
         Ok((found, version)) => Ok((shown(found), version)),
+        Err(fault) => Err(fault),
+    }
+}
+
+/// Judges a request as `look_at` does, where the domain of this number may not be there with its
+/// profile: None where it isn't.
+///
+/// Errors: want of memory.
+pub(crate) fn look_if_there<L: Named, R: Rep, T: Sheet<L, Machine<R>>, W: Wait>(
+    rt: &W,
+    alloc: Global,
+    engine: &EngineOf<L, Machine<R>, T>,
+    pass: &mut Pass<L, Machine<R>>,
+    domain: u32,
+    process: &Proc,
+    request: &Request,
+) -> Result<Option<(Shown, u64)>, NoMemory>
+    requires named { IsNamed tomoyo_grammar.is_path (home_of pass.old).policy }
+    requires asked { is_request tomoyo_grammar.is_path request.now ≡ true }
+    ensures fitted { IfOk result (λ found. FitsFrom (home_of pass.new) (known pass.new)) }
+    ensures shows { IfOk result (λ found. IfSome found (λ j. ShowsAt (home_of pass.new)
+        (known pass.new) domain process.now request.now j.0 j.1)) }
+    ensures opening { home pass.new ≡ home pass.old }
+    ensures grows { Begins (known pass.old) (known pass.new) }
+    ensures own { made_of pass.new ≡ made_of pass.old }
+{
+    pass.seen();
+    let looked = look(rt, alloc, engine, pass, domain, process, request);
+    pass.seen();
+    match looked {
+        Ok((found, version)) => Ok(shown_if_there(found, version)),
         Err(fault) => Err(fault),
     }
 }

@@ -7,7 +7,7 @@ use Rattle.tm_types.specs.declared.step.Take.{Take}
 use Rattle.tm_take.specs.declared.requests.PendingLook.{PendingLook}
 use Rattle.tm_take.specs.declared.situations.ProcessSituation.{ProcessSituation}
 use Rattle.tm_take.specs.Situations.{situation_of}
-use Rattle.tm_take.specs.Taking.{rest_of, TakesOut, LooksAgain}
+use Rattle.tm_take.specs.Taking.{rest_of, begun_with, TakesOut, LooksAgain}
 use Rattle.tm_rules.specs.Queries.{answer_of}
 use Rattle.tm_rules.specs.Requests.{is_request}
 use Rattle.tm_types.specs.declared.request.Request.{Request}
@@ -21,15 +21,15 @@ use Rattle.tm_types.specs.declared.step.Step.{Step}
 use Rattle.tm_take.specs.Tomoyo.{tomoyo_grammar}
 use Rattle.tm_legal.specs.Steps.{State, apply}
 use Rattle.tm_legal.specs.Run.{Situation}
-use Rattle.tm_legal.specs.Legal.{own_numbers}
 use Rattle.tm_legal.specs.Play.{InProgress, Stage, IsOpened, after_step, after_answer, taken}
 use Rattle.tm_legal.specs.Stages.{DomainIn}
 use Rattle.tm_made.specs.Made.{history_made}
 use Rattle.tm_joint.specs.UnderWay.{JudgedBy, begun_at, own_so_far}
 use Rattle.tm_joint.proofs.TakeLaws.{own-makes, own-hears, own-looks-again, own-ends}
 use Rattle.tm_joint.proofs.Later.{looks-above}
-use Rattle.tm_seat.specs.Seats.{scene_of, state_of, FitsFrom, Begins, IsMade}
-use Rattle.tm_seat.specs.Playing.{Errand, IsPlaying, PlaysOn, TakeIsLegal, LooksSince}
+use Rattle.tm_seat.specs.declared.seat.Shown.{Shown}
+use Rattle.tm_seat.specs.Seats.{scene_of, state_of, ShowsAt, FitsFrom, Begins, IsMade}
+use Rattle.tm_seat.specs.Playing.{Errand, IsPlaying, PlaysOn, HasEnded}
 use Rattle.tm_seat.proofs.Opening.{some-trace, begins-further, state-scene, first-law, fit-law, step-law, hear-law, again-law, again-there, end-law}
 use Rattle.tm_seat.proofs.Claiming.{by-later, by-nobody, by-step}
 
@@ -64,14 +64,6 @@ answer-line b version Answered.No = record { now = refl; domain = refl; request 
 answer-line b version Answered.Retry = record { now = refl; domain = refl; request = refl }
 answer-line b version Answered.Detached = record { now = refl; domain = refl; request = refl }
 
--- what a take that has ended comes to
-pub record Ended (start : Start) (errand : Errand) (list : List Made) (own : List ℕ) (k : Take) : Type 0 where
-  pub legal : TakeIsLegal start errand.known list errand.now errand.request k
-  pub there : DomainIn (state_of start list).policy k.after
-  pub made : own ≡ errand.before ++ own_numbers (k ∷ [])
-  pub fresh : LooksSince (length errand.known) k
-  pub pid : k.pid ≡ errand.now.process.pid
-
 module _ (start : Start) (opened : IsOpened start.policy) where
   -- the first look
   begins-playing : (start' : Start) (xs zs : List Made) (own own' : List ℕ) (now : Situation) (d : ℕ) (request : Request) (b : InProgress) → now.domain ≡ Some d → DomainIn (state_of start xs).policy d → is_request tomoyo_grammar.is_path request ≡ true → start' ≡ start → Begins xs zs → own' ≡ own → FitsFrom start' zs → (v : Verdict) × JudgedBy tomoyo_grammar (state_of start' zs) d now request v × (b ≡ begun_at tomoyo_grammar (length zs) (state_of start' zs) now d request 0 [] v) → IsPlaying start (record { now = now; domain = d; request = request; known = xs; before = own }) zs own' b
@@ -91,6 +83,13 @@ module _ (start : Start) (opened : IsOpened start.policy) where
         domain = rw began refl;
         request = rw began refl;
       }
+
+  -- the first look in a domain that turns out to be there
+  pub found-playing : (start' : Start) (list : List Made) (own own' : List ℕ) (now : ProcessSituation) (d : ℕ) (request : Request) (pending : PendingLook) (shown : Shown) (version : ℕ) (b : InProgress) → pending ≡ record { now = now; request = request; retry = 0; looked = [] } → now.domain ≡ Some d → is_request tomoyo_grammar.is_path request ≡ true → start' ≡ start → own' ≡ own → FitsFrom start' list → ShowsAt start' list d now.process request shown version → b ≡ begun_with tomoyo_grammar version (situation_of pending.now) d pending.request pending.retry pending.looked shown.verdict shown.audit → IsPlaying start (record { now = situation_of now; domain = d; request = request; known = list; before = own }) list own' b
+  found-playing start' list own own' now d request pending shown version b first domain asked same none fitted shows is =
+      let began : b ≡ begun_with tomoyo_grammar version (situation_of now) d request 0 [] shown.verdict shown.audit = subst (λ (p : PendingLook). b ≡ begun_with tomoyo_grammar version (situation_of p.now) d p.request p.retry p.looked shown.verdict shown.audit) first is in
+      let begun : b ≡ begun_at tomoyo_grammar (length list) (state_of start' list) (situation_of now) d request 0 [] shown.verdict = began ∙ rw (shows.version_is, shows.audit_is) refl in
+      begins-playing start' list list own own' (situation_of now) d request b domain (subst (λ (s : Start). DomainIn (state_of s list).policy d) same shows.there) asked same ([], sym (append-nil list)) none fitted (shown.verdict, shows.verdict_is, begun)
 
   -- an own step fits
   pub playing-fits : (errand : Errand) (list : List Made) (own : List ℕ) (b : InProgress) (step : Step) (rest : List Step) → IsPlaying start errand list own b → b.stage ≡ Stage.Owing (step ∷ rest) → IsSome (apply tomoyo_grammar (state_of start list) step).reply
@@ -166,17 +165,19 @@ module _ (start : Start) (opened : IsOpened start.policy) where
       }
 
   -- the end
-  playing-ends : (errand : Errand) (list : List Made) (own : List ℕ) (b : InProgress) (k : Take) → IsPlaying start errand list own b → errand.now.domain ≡ Some errand.domain → b.stage ≡ Stage.Owing [] → k ≡ taken tomoyo_grammar b → Ended start errand list own k
+  playing-ends : (errand : Errand) (list : List Made) (own : List ℕ) (b : InProgress) (k : Take) → IsPlaying start errand list own b → errand.now.domain ≡ Some errand.domain → b.stage ≡ Stage.Owing [] → k ≡ taken tomoyo_grammar b → HasEnded start errand list own k
   playing-ends errand list own b k h domain is ended =
       let some = some-trace start.trees in
       let one = end-law start opened some.0 None some.1 list 0 (record b.now { floor = length errand.known }) b is refl refl (h.under_way some.0 None (length errand.known) some.1 (le_refl (length errand.known))) in
       record {
+        fitted = h.fitted;
         legal = λ trace book t walked trees process stands low.
             let whose : walked.process ≡ b.now.process = process ∙ ap (λ (s : Situation). s.process) (sym h.now) in
             let where_ : walked.domain ≡ b.now.domain = stands ∙ ap (λ (s : Situation). s.domain) (sym h.now) in
             rw (ended, ← h.request) (end-law start opened trace book trees list t walked b is whose where_ (h.under_way trace book walked.floor trees low)).0;
         there = rw (ended, ← state-scene start opened some.0 None some.1 list) one.1;
         made = h.made ∙ rw ended (ap (λ (ns : List ℕ). errand.before ++ ns) (sym (own-ends tomoyo_grammar b)));
+        makers = h.makers;
         fresh = rw ended (looks-above (history_made (scene_of start some.0 None) list) (length errand.known) (length errand.known) (taken tomoyo_grammar b).looks (le_refl (length errand.known)) one.0.rises);
         pid = rw ended (ap (λ (s : Situation). s.process.pid) h.now);
       }
@@ -202,10 +203,18 @@ module _ (start : Start) (opened : IsOpened start.policy) {E : Type 0} where
   again-ok start' xs zs own own' b (Ok b') pending d same begins none fitted is domain again looked = playing-again start opened start' xs zs own own' b b' pending d same begins none fitted is domain again looked
   again-ok start' xs zs own own' b (Err e) pending d same begins none fitted is domain again looked = tt
 
-  -- one fact of a take that has ended
-  pub ends-ok : (P : Take → Type 0) (errand : Errand) (list : List Made) (own : List ℕ) (b : InProgress) (r : Result Take E) → ((k : Take) → Ended start errand list own k → P k) → IsPlaying start errand list own b → errand.now.domain ≡ Some errand.domain → b.stage ≡ Stage.Owing [] → IfOk r (λ k. k ≡ taken tomoyo_grammar b) → IfOk r P
-  ends-ok P errand list own b (Ok k) one h domain is ended = one k (playing-ends start opened errand list own b k h domain is ended)
-  ends-ok P errand list own b (Err e) one h domain is ended = tt
+  -- the end, of whatever the take was for
+  pub ends-ok : (xs list : List Made) (before own : List ℕ) (first b : InProgress) (r : Result Take E) → PlaysOn start xs before first list own b → b.stage ≡ Stage.Owing [] → IfOk r (λ k. k ≡ taken tomoyo_grammar b) → IfOk r (λ k. (errand : Errand) → errand.now.domain ≡ Some errand.domain → IsPlaying start errand xs before first → HasEnded start errand list own k)
+  ends-ok xs list before own first b (Ok k) plays is ended = λ errand domain h. playing-ends start opened errand list own b k (plays errand h) domain is ended
+  ends-ok xs list before own first b (Err e) plays is ended = tt
+
+-- a take that has ended for an equal opening
+pub ended-same : (start start' : Start) (errand : Errand) (xs list : List Made) (before own : List ℕ) (first : InProgress) (k : Take) → start' ≡ start → errand.now.domain ≡ Some errand.domain → IsPlaying start errand xs before first → ((errand : Errand) → errand.now.domain ≡ Some errand.domain → IsPlaying start' errand xs before first → HasEnded start' errand list own k) → HasEnded start errand list own k
+ended-same start start' errand xs list before own first k same domain h ended = subst (λ (s : Start). HasEnded s errand list own k) same (ended errand domain (subst (λ (s : Start). IsPlaying s errand xs before first) (sym same) h))
+
+pub ended-ok : {E : Type 0} (start start' : Start) (errand : Errand) (xs list : List Made) (before own : List ℕ) (first : InProgress) (r : Result Take E) → start' ≡ start → errand.now.domain ≡ Some errand.domain → IsPlaying start errand xs before first → IfOk r (λ k. (errand : Errand) → errand.now.domain ≡ Some errand.domain → IsPlaying start' errand xs before first → HasEnded start' errand list own k) → IfOk r (λ k. HasEnded start errand list own k)
+ended-ok start start' errand xs list before own first (Ok k) same domain h ended = ended-same start start' errand xs list before own first k same domain h ended
+ended-ok start start' errand xs list before own first (Err e) same domain h ended = tt
 
 -- a call that keeps it keeps it for an equal opening
 pub carries : (start start' : Start) (errand : Errand) (xs zs : List Made) (own own' : List ℕ) (b b' : InProgress) → start' ≡ start → PlaysOn start' xs own b zs own' b' → IsPlaying start errand xs own b → IsPlaying start errand zs own' b'

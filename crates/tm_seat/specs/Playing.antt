@@ -18,10 +18,11 @@ use Rattle.tm_legal.specs.Run.{Situation, Situations, raised}
 use Rattle.tm_legal.specs.Legal.{own_numbers}
 use Rattle.tm_legal.specs.Cases.{IsLegalTake}
 use Rattle.tm_legal.specs.Play.{InProgress}
+use Rattle.tm_legal.specs.Stages.{DomainIn}
 use Rattle.tm_made.specs.Made.{history_made}
 use Rattle.tm_joint.specs.UnderWay.{own_so_far}
 use Rattle.tm_joint.specs.AtLists.{UnderWayAt, WalkedAt}
-use Rattle.tm_seat.specs.Seats.{scene_of, FitsFrom, Begins, MadeBy}
+use Rattle.tm_seat.specs.Seats.{scene_of, state_of, FitsFrom, Begins, MadeBy}
 
 -- Takes
 
@@ -64,6 +65,16 @@ TakeIsLegal start known list now request take =
 -- none of its looks is older than that version
 abbrev pub LooksSince : ℕ → Take → Type 0
 LooksSince version take = AllByRecursion (λ (look : Look). version ≤ look.version) take.looks
+
+-- a take that has ended, by what its seat knows and has made then
+pub record HasEnded (start : Start) (errand : Errand) (list : List Made) (own : List ℕ) (take : Take) : Type 0 where
+  pub fitted : FitsFrom start list
+  pub legal : TakeIsLegal start errand.known list errand.now errand.request take
+  pub there : DomainIn (state_of start list).policy take.after
+  pub made : own ≡ errand.before ++ own_numbers (take ∷ [])
+  pub makers : MadeBy (Maker.Process errand.now.process.pid ∷ []) errand.known errand.before list own
+  pub fresh : LooksSince (length errand.known) take
+  pub pid : take.pid ≡ errand.now.process.pid
 
 -- each of these is no older than the floor, which each raises by the versions that it has seen
 abbrev pub Rises : {A : Type 0} → (ℕ → A → Type 0) → (A → List ℕ) → ℕ → List A → Type 0

@@ -1,5 +1,5 @@
 -- What a seat knows, and what is made from it.
-use Rattle.std.specs.Prelude.{◌≡◌, ℕ, List, [], ◌∷◌, ◌++◌, Option, Some}
+use Rattle.std.specs.Prelude.{◌≡◌, ℕ, List, [], ◌∷◌, ◌++◌, length, Option, Some}
 use Rattle.std.specs.List.{AllByRecursion}
 use Rattle.tm_word.specs.Words.{Text}
 use Rattle.tm_types.specs.declared.request.Proc.{Proc}
@@ -16,8 +16,10 @@ use Rattle.tm_take.specs.Tomoyo.{tomoyo_grammar}
 use Rattle.tm_legal.specs.Verdict.{verdict}
 use Rattle.tm_legal.specs.Steps.{State, opening, apply}
 use Rattle.tm_legal.specs.Legal.{Scene, Replies}
+use Rattle.tm_legal.specs.Stages.{DomainIn}
 use Rattle.tm_made.specs.Made.{steps_made, told_from, state_made}
 use Rattle.tm_joint.specs.Makers.{Claims}
+use Rattle.tm_seat.specs.declared.seat.Shown.{Shown}
 
 -- a scene with that opening
 abbrev pub scene_of : Start → Trace → Option Book → Scene
@@ -45,6 +47,15 @@ verdict_at s domain process request =
 -- its audit text, for that verdict
 abbrev pub audit_at : State → ℕ → Proc → Request → Verdict → Option Text
 audit_at s domain process request v = audit_text tomoyo_grammar s.policy domain process request v
+
+-- what a look shows of a request in a domain that is there with its profile, at the version after
+-- these steps
+pub record ShowsAt (start : Start) (list : List Made) (domain : ℕ) (process : Proc) (request : Request) (shown : Shown)
+    (version : ℕ) : Type 0 where
+  pub there : DomainIn (state_of start list).policy domain
+  pub version_is : version ≡ length list
+  pub verdict_is : verdict_at (state_of start list) domain process request ≡ Some shown.verdict
+  pub audit_is : shown.audit ≡ audit_at (state_of start list) domain process request shown.verdict
 
 -- a step was made last, after others' steps, and has its reply at that place
 abbrev pub IsMade : Start → List Made → Made → List Made → Reply → Type 0

@@ -20,7 +20,7 @@ pub use law::replayed_runs_are_legal;
 pub use part::{Part, working_parts};
 pub use rows::gather;
 pub use seat::{Seat, Shown};
-pub use take::play_take;
+pub use take::{play_if_there, play_take};
 pub use tree::{PlayedTree, TreeToPlay, play_tree};
 pub use work::{Trees, Work};
 pub use worker::play_trees;

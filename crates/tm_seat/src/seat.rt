@@ -17,7 +17,7 @@ pub struct Shown {
 /// A place from which one activity looks, makes steps and hears answers, while others make steps
 /// too. It knows a list of steps, and each call that is Ok knows one that goes on from it.
 pub trait Seat {
-    ghost use Rattle.std.specs.Prelude.{◌≡◌, ◌++◌, ◌∷◌, [], ℕ, true, List, length, Some, IsSome, IsTrue, IfOk, OnErr};
+    ghost use Rattle.std.specs.Prelude.{◌≡◌, ◌++◌, ◌∷◌, [], ℕ, true, List, length, Some, IsSome, IsTrue, IfOk, IfSome, OnErr};
     ghost use Rattle.tm_types.specs.declared.step.Start.{Start};
     ghost use Rattle.tm_types.specs.declared.step.Made.{Made};
     ghost use Rattle.tm_rules.specs.Queries.{answer_of};
@@ -26,7 +26,7 @@ pub trait Seat {
     ghost use Rattle.tm_legal.specs.Steps.{apply};
     ghost use Rattle.tm_legal.specs.Play.{IsOpened, IsNamed};
     ghost use Rattle.tm_legal.specs.Stages.{DomainIn};
-    ghost use Rattle.tm_seat.specs.Seats.{state_of, verdict_at, audit_at, FitsFrom, Begins, IsMade};
+    ghost use Rattle.tm_seat.specs.Seats.{state_of, verdict_at, audit_at, ShowsAt, FitsFrom, Begins, IsMade};
 
     // what was there at version 0
     ghost opening: { Self → Start };
@@ -79,6 +79,26 @@ pub trait Seat {
         ensures audit { IfOk result
             (λ j. j.0.audit ≡ audit_at (state_of (opening self.new) (at self.new))
             domain process.now request.now j.0.verdict) }
+        ensures opening { opening self.new ≡ opening self.old }
+        ensures grows { Begins (at self.old) (at self.new) }
+        ensures own { own self.new ≡ own self.old };
+
+    /// Judges a request as `judge` does, where the domain of this number may not be there with its
+    /// profile: None where it isn't.
+    ///
+    /// Errors: want of memory.
+    fn judge_if_there(
+        &mut self,
+        alloc: Global,
+        domain: u32,
+        process: &Proc,
+        request: &Request,
+    ) -> Result<Option<(Shown, u64)>, NoMemory>
+        requires named { IsNamed tomoyo_grammar.is_path (opening self.old).policy }
+        requires asked { is_request tomoyo_grammar.is_path request.now ≡ true }
+        ensures fitted { IfOk result (λ found. FitsFrom (opening self.new) (at self.new)) }
+        ensures shows { IfOk result (λ found. IfSome found (λ j. ShowsAt (opening self.new)
+            (at self.new) domain process.now request.now j.0 j.1)) }
         ensures opening { opening self.new ≡ opening self.old }
         ensures grows { Begins (at self.old) (at self.new) }
         ensures own { own self.new ≡ own self.old };

@@ -1,17 +1,16 @@
 //! A take from its first look to its end.
-ghost use Rattle.std.specs.Prelude.{◌≡◌, ◌++◌, ◌∷◌, [], ℕ, true, List, length, Some, IfOk};
+ghost use Rattle.std.specs.Prelude.{◌≡◌, ◌∷◌, ℕ, true, List, length, Some, IfOk, IfSome};
 ghost use Rattle.tm_rules.specs.Requests.{is_request};
+ghost use Rattle.tm_types.specs.declared.step.Made.{Made};
 ghost use Rattle.tm_types.specs.declared.step.Step.{Step};
-ghost use Rattle.tm_types.specs.declared.step.Maker.{Maker};
 ghost use Rattle.tm_types.specs.declared.verdict.Verdict.{Verdict};
 ghost use Rattle.tm_take.specs.Tomoyo.{tomoyo_grammar};
-ghost use Rattle.tm_legal.specs.Legal.{own_numbers};
 ghost use Rattle.tm_legal.specs.Play.{Stage, IsOpened, IsNamed, taken};
 ghost use Rattle.tm_legal.specs.Stages.{DomainIn};
 ghost use Rattle.tm_take.specs.Situations.{situation_of};
 ghost use Rattle.tm_joint.specs.UnderWay.{JudgedBy, begun_at};
-ghost use Rattle.tm_seat.specs.Seats.{state_of, FitsFrom, Begins, MadeBy};
-ghost use Rattle.tm_seat.specs.Playing.{Errand, IsPlaying, PlaysOn, TakeIsLegal, LooksSince};
+ghost use Rattle.tm_seat.specs.Seats.{state_of, FitsFrom, Begins};
+ghost use Rattle.tm_seat.specs.Playing.{Errand, IsPlaying, PlaysOn, HasEnded};
 
 use crate::seat::{Seat, Shown};
 use std::alloc::{AllocError, Global};
@@ -175,6 +174,37 @@ fn end(attempt: RequestInProgress, played: &mut Vec<Request>) -> Result<Take, No
     }
 }
 
+// A take that has begun, on to its end: each step that the verdict asks for, the wait for an answer,
+// and another look after a retry, until nothing is owed.
+fn play_on<S: Seat>(
+    seat: &mut S,
+    alloc: Global,
+    attempt: RequestInProgress,
+    played: &mut Vec<Request>,
+) -> Result<Take, NoMemory>
+    requires opened { IsOpened (S.opening seat.old).policy }
+    requires named { IsNamed tomoyo_grammar.is_path (S.opening seat.old).policy }
+    requires playing { (errand : Errand)
+        × IsPlaying (S.opening seat.old) errand (S.at seat.old) (S.own seat.old) attempt }
+    ensures ended { IfOk result (λ take. (errand : Errand) → errand.now.domain ≡ Some errand.domain
+        → IsPlaying (S.opening seat.old) errand (S.at seat.old) (S.own seat.old) attempt
+        → HasEnded (S.opening seat.old) errand (S.at seat.new) (S.own seat.new) take) }
+    ensures opening { S.opening seat.new ≡ S.opening seat.old }
+    ensures grows { Begins (S.at seat.old) (S.at seat.new) }
+{
+    let mut attempt = attempt;
+    for _ in 0..u64::MAX {
+        match attempt.next_event() {
+            NextEvent::End => return end(attempt, played),
+            NextEvent::OwnStep => attempt = own_step(seat, alloc, attempt)?,
+            NextEvent::Answer(serial) => attempt = hear(seat, alloc, attempt, serial)?,
+            NextEvent::Look => attempt = look_again(seat, alloc, attempt)?,
+        }
+    }
+    drop(attempt);
+    Err(AllocError)
+}
+
 /// Plays a request of a process in the domain of this number: a look, then each step that the
 /// verdict asks for, the wait for an answer, and another look after a retry, until nothing is owed.
 /// The request is put behind those that were played, for whoever made them to free them.
@@ -193,29 +223,100 @@ pub fn play_take<S: Seat>(
     requires asked { is_request tomoyo_grammar.is_path request ≡ true }
     requires stands { now.domain ≡ Some domain }
     requires there { DomainIn (state_of (S.opening seat.old) (S.at seat.old)).policy domain }
-    ensures fitted { IfOk result (λ take. FitsFrom (S.opening seat.old) (S.at seat.new)) }
-    ensures legal { IfOk result (λ take. TakeIsLegal (S.opening seat.old)
-        (S.at seat.old) (S.at seat.new) (situation_of now) request take) }
-    ensures there { IfOk result
-        (λ take. DomainIn (state_of (S.opening seat.old) (S.at seat.new)).policy take.after) }
-    ensures own { IfOk result
-        (λ take. S.own seat.new ≡ S.own seat.old ++ own_numbers (take ∷ [])) }
-    ensures makers { IfOk result (λ take. MadeBy (Maker.Process now.process.pid ∷ [])
-        (S.at seat.old) (S.own seat.old) (S.at seat.new) (S.own seat.new)) }
-    ensures fresh { IfOk result (λ take. LooksSince (length (S.at seat.old)) take) }
-    ensures pid { IfOk result (λ take. take.pid ≡ now.process.pid) }
+    ensures ended { IfOk result (λ take. HasEnded (S.opening seat.old)
+        (record {
+          now = situation_of now;
+          domain = domain;
+          request = request;
+          known = S.at seat.old;
+          before = S.own seat.old;
+        })
+        (S.at seat.new) (S.own seat.new) take) }
     ensures opening { S.opening seat.new ≡ S.opening seat.old }
     ensures grows { Begins (S.at seat.old) (S.at seat.new) }
 {
-    let mut attempt = first_look(seat, alloc, now, domain, request)?;
-    for _ in 0..u64::MAX {
-        match attempt.next_event() {
-            NextEvent::End => return end(attempt, played),
-            NextEvent::OwnStep => attempt = own_step(seat, alloc, attempt)?,
-            NextEvent::Answer(serial) => attempt = hear(seat, alloc, attempt, serial)?,
-            NextEvent::Look => attempt = look_again(seat, alloc, attempt)?,
+    let attempt = first_look(seat, alloc, now, domain, request)?;
+    play_on(seat, alloc, attempt, played)
+}
+
+// The first look of a take of a process whose domain may not be there, with its version: None where
+// it isn't.
+fn look_if_there<S: Seat>(
+    seat: &mut S,
+    alloc: Global,
+    now: ProcessSituation,
+    domain: u32,
+    request: Request,
+) -> Result<Option<(RequestInProgress, u64)>, NoMemory>
+    requires opened { IsOpened (S.opening seat.old).policy }
+    requires named { IsNamed tomoyo_grammar.is_path (S.opening seat.old).policy }
+    requires asked { is_request tomoyo_grammar.is_path request ≡ true }
+    requires stands { now.domain ≡ Some domain }
+    ensures version { IfOk result (λ found. IfSome found (λ b. b.1 ≡ length (S.at seat.new))) }
+    ensures playing { IfOk result (λ found. IfSome found (λ b. IsPlaying (S.opening seat.old)
+        (record {
+          now = situation_of now;
+          domain = domain;
+          request = request;
+          known = S.at seat.new;
+          before = S.own seat.old;
+        })
+        (S.at seat.new) (S.own seat.new) b.0)) }
+    ensures opening { S.opening seat.new ≡ S.opening seat.old }
+    ensures grows { Begins (S.at seat.old) (S.at seat.new) }
+{
+    match seat.judge_if_there(alloc, domain, &now.process, &request) {
+        Ok(Some((shown, version))) => {
+            let Shown { verdict, audit } = shown;
+            let pending = PendingLook::first(alloc, now, request);
+            let attempt = begin(alloc, version, domain, pending, verdict, audit)?;
+            Ok(Some((attempt, version)))
+        }
+        Ok(None) => {
+            drop(request);
+            Ok(None)
+        }
+        Err(fault) => {
+            drop(request);
+            Err(fault)
         }
     }
-    drop(attempt);
-    Err(AllocError)
+}
+
+/// Plays a request as `play_take` does, of a process whose domain may not be there with its profile:
+/// None where it isn't at the first look. With the take comes the version of that look.
+///
+/// Errors: want of memory, or that no answer can come any more.
+pub fn play_if_there<S: Seat>(
+    seat: &mut S,
+    alloc: Global,
+    now: ProcessSituation,
+    domain: u32,
+    request: Request,
+    played: &mut Vec<Request>,
+) -> Result<Option<(Take, u64)>, NoMemory>
+    requires opened { IsOpened (S.opening seat.old).policy }
+    requires named { IsNamed tomoyo_grammar.is_path (S.opening seat.old).policy }
+    requires asked { is_request tomoyo_grammar.is_path request ≡ true }
+    requires stands { now.domain ≡ Some domain }
+    ensures ended { IfOk result (λ found. IfSome found (λ ended. (known : List Made)
+        × (ended.1 ≡ length known) × Begins (S.at seat.old) known × HasEnded (S.opening seat.old)
+        (record {
+          now = situation_of now;
+          domain = domain;
+          request = request;
+          known = known;
+          before = S.own seat.old;
+        })
+        (S.at seat.new) (S.own seat.new) ended.0)) }
+    ensures opening { S.opening seat.new ≡ S.opening seat.old }
+    ensures grows { Begins (S.at seat.old) (S.at seat.new) }
+{
+    match look_if_there(seat, alloc, now, domain, request)? {
+        Some((attempt, version)) => {
+            let take = play_on(seat, alloc, attempt, played)?;
+            Ok(Some((take, version)))
+        }
+        None => Ok(None),
+    }
 }

@@ -15,7 +15,7 @@ use Rattle.tm_steal_rows.specs.declared.played.Played.{Played}
 use Rattle.tm_steal_rows.specs.declared.played.PlayedProcess.{PlayedProcess}
 use Rattle.tm_steal_rows.specs.declared.played.PlayedTake.{PlayedTake}
 use Rattle.tm_steal_rows.specs.Playing.{Event, IsStealing, StealsOn, events_of, IsTakeOf, IsOfProcess}
-use Rattle.tm_steal_rows.proofs.Stealing.{stealing-later, events-more}
+use Rattle.tm_steal_rows.proofs.Stealing.{events-more}
 use Rattle.tm_steal.specs.Boards.{GoesOn, GoesOnWith}
 
 -- what holds holds for each hand
@@ -50,17 +50,16 @@ module _ (start : Start) (trace : Trace) where
       let then : GoesOnWith start trace pid at' own' takes' at'' own'' takes'' = subst (λ (s : Start). GoesOnWith s trace pid at' own' takes' at'' own'' takes'') same (subst (λ n. GoesOnWith start' trace n at' own' takes' at'' own'' takes'') its next) in
       record { steals = λ shift all h. then.steals shift all (first.steals shift all h); whose = λ h. then.whose (first.whose h) }
 
-  -- others' steps, and then a take more
-  pub with-more : (start' : Start) (pid : ℕ) (at mid at' : List Made) (own own-mid own' : List ℕ) (takes takes' : List PlayedTake) (one : PlayedTake) → start' ≡ start → own-mid ≡ own → Begins at mid → StealsOn start' trace mid own-mid at' own' (Event.Take one ∷ []) → takes' ≡ takes ++ one ∷ [] → one.stood.process.pid ≡ pid → GoesOnWith start trace pid at own takes at' own' takes'
-  with-more start' pid at mid at' own own-mid own' takes takes' one same kept begins steals is its =
-      let steals-here : StealsOn start trace mid own at' own' (Event.Take one ∷ []) = subst (λ (ns : List ℕ). StealsOn start trace mid ns at' own' (Event.Take one ∷ [])) kept (subst (λ (s : Start). StealsOn s trace mid own-mid at' own' (Event.Take one ∷ [])) same steals) in
+  -- a take more
+  pub with-more : (pid : ℕ) (at at' : List Made) (own own' : List ℕ) (takes takes' : List PlayedTake) (one : PlayedTake) → StealsOn start trace at own at' own' (Event.Take one ∷ []) → takes' ≡ takes ++ one ∷ [] → one.stood.process.pid ≡ pid → GoesOnWith start trace pid at own takes at' own' takes'
+  with-more pid at at' own own' takes takes' one steals is its =
       record {
         steals = λ shift all h.
             let together : all ++ map Event.Take takes' ≡ (all ++ map Event.Take takes) ++ Event.Take one ∷ [] =
             ap (λ (l : List PlayedTake). all ++ map Event.Take l) is
             ∙ ap (λ (l : List Event). all ++ l) (map-append Event.Take takes (one ∷ []))
             ∙ sym (append_assoc all (map Event.Take takes) (Event.Take one ∷ [])) in
-            subst (IsStealing start trace shift at' own') (sym together) (steals-here shift (all ++ map Event.Take takes) (stealing-later start trace shift at mid own (all ++ map Event.Take takes) begins h));
+            subst (IsStealing start trace shift at' own') (sym together) (steals shift (all ++ map Event.Take takes) h);
         whose = λ h. rw is (All-push (IsTakeOf pid) takes one h its);
       }
 

@@ -60,12 +60,10 @@ fn play_request<S: Seat>(
     let Some(domain) = now.domain else {
         return Err(AllocError);
     };
-    let (there, since) = seat.arrive(domain);
-    if !there {
-        return Err(AllocError);
-    }
     let request = request_of(board, alloc, place, request)?;
-    let taken = play_at(seat, alloc, place, now, domain, request, since, spent)?;
+    let Some(taken) = play_at(seat, alloc, place, now, domain, request, spent)? else {
+        return Err(AllocError);
+    };
     let after = taken.take.after();
     takes.push(taken)?;
     Ok(after)

@@ -30,7 +30,7 @@ use Rattle.tm_joint.proofs.Rows.{All-left, All-right}
 use Rattle.tm_verify_notes.specs.ProcessSituation.{ProcessSituation}
 use Rattle.tm_verify_notes.specs.Situations.{situation_of}
 use Rattle.tm_seat.specs.Seats.{scene_of, state_of, Begins, IsMade, MadeBy}
-use Rattle.tm_seat.specs.Playing.{TakeIsLegal, LooksSince}
+use Rattle.tm_seat.specs.Playing.{TakeIsLegal, HasEnded}
 use Rattle.tm_seat.specs.Rows.{Shift}
 use Rattle.tm_seat.proofs.Opening.{begins-further}
 use Rattle.tm_seat.proofs.Rising.{looks-since-lower, legal-sees, made-within, within-later, begun-within, within-push, rises-push, rises-lower}
@@ -126,25 +126,25 @@ module _ (start : Start) (trace : Trace) where
         rises = rises-push IsSince event_seen since-lower (length shift.known) (length xs) all played (begun-within shift.known xs h.begins) h.seen since h.rises;
       }
 
-  -- a take
-  pub steals-take : (start' : Start) (xs xs' ys : List Made) (own before own' : List ℕ) (place : RecordPlace) (since : ℕ) (now : ProcessSituation) (request : Request) (take' : Take) → start' ≡ start → xs' ≡ xs → before ≡ own → Begins xs' ys → since ≤ length xs → request_at trace place ≡ Some request → TakeIsLegal start' xs' ys (situation_of now) request take' → own' ≡ before ++ own_numbers (take' ∷ []) → MadeBy (Maker.Process now.process.pid ∷ []) xs' before ys own' → LooksSince (length xs') take' → take'.pid ≡ now.process.pid → StealsOn start trace xs own ys own' (Event.Take (record { place = place; stood = now; since = since; take = take' }) ∷ [])
-  steals-take start' xs xs' ys own before own' place since now request take' same known first begins low asked legal noted by fresh pid =
-      let from : TakeIsLegal start xs ys (situation_of now) request take' = subst (λ (s : Start). TakeIsLegal s xs ys (situation_of now) request take') same (subst (λ (l : List Made). TakeIsLegal start' l ys (situation_of now) request take') known legal) in
-      let long : length (take since xs) ≡ since = length-take-le since xs low in
-      let mine : MadeBy (Maker.Process now.process.pid ∷ []) xs own ys own' = subst (λ (ns : List ℕ). MadeBy (Maker.Process now.process.pid ∷ []) xs ns ys own') first (subst (λ (l : List Made). MadeBy (Maker.Process now.process.pid ∷ []) l before ys own') known by) in
+  -- a take, by what was known at its first look
+  pub steals-take : (start' : Start) (xs xs' ys : List Made) (own before own' : List ℕ) (place : RecordPlace) (since domain : ℕ) (now : ProcessSituation) (request : Request) (take' : Take) (known : List Made) → start' ≡ start → xs' ≡ xs → before ≡ own → Begins xs' ys → since ≡ length known → Begins xs' known → request_at trace place ≡ Some request → HasEnded start' (record { now = situation_of now; domain = domain; request = request; known = known; before = before }) ys own' take' → StealsOn start trace xs own ys own' (Event.Take (record { place = place; stood = now; since = since; take = take' }) ∷ [])
+  steals-take start' xs xs' ys own before own' place since domain now request take' known same at first begins long more asked ended =
+      let older : Begins xs known = subst (λ (l : List Made). Begins l known) at more in
       steals-one xs ys own own' (Event.Take (record { place = place; stood = now; since = since; take = take' }))
-      (subst (λ (l : List Made). Begins l ys) known begins)
+      (subst (λ (l : List Made). Begins l ys) at begins)
       (record {
         request = request;
         asked = asked;
-        known = take since xs;
-        since = long;
-        legal = λ other book t walked trees process domain floor. from other book t walked trees process domain (omega (arith, floor, long, low));
-        pid = pid;
+        known = known;
+        since = sym long;
+        legal = subst (λ (s : Start). TakeIsLegal s known ys (situation_of now) request take') same ended.legal;
+        pid = ended.pid;
       })
-      (noted ∙ ap (λ (ns : List ℕ). ns ++ own_numbers (take' ∷ [])) first)
-      (λ who i belong claims. mine who i (subst (λ pid. who (Maker.Process pid) ≡ Some i) pid belong.0, tt) claims)
-      (subst (λ (l : List Made). LooksSince (length l) take') known fresh)
+      (ended.made ∙ ap (λ (ns : List ℕ). ns ++ own_numbers (take' ∷ [])) first)
+      (λ who i belong claims.
+      ended.makers who i (subst (λ pid. who (Maker.Process pid) ≡ Some i) ended.pid belong.0, tt)
+      (rw (first, older.1) (claims-later who i xs older.0 own claims)))
+      (looks-since-lower (length xs) (length known) take' (begun-within xs known older) ended.fresh)
 
   -- an End
   pub steals-end : (xs ys : List Made) (own own' : List ℕ) (tree number : ℕ) (made : Made) (reply : Reply) → made.maker ≡ Maker.Tree tree → made.step ≡ Step.End tree → IsMade start xs made ys reply → number ≡ length ys → own' ≡ own ++ number ∷ [] → StealsOn start trace xs own ys own' (Event.End tree number ∷ [])

@@ -1,5 +1,5 @@
 //! What a worker plays that takes processes from others.
-ghost use Rattle.std.specs.Prelude.{◌≡◌, ◌<◌, ◌≤◌, ◌++◌, ◌∷◌, [], ℕ, true, List, length, flat_map, if◌then◌else◌, Some, IfOk, OnOk};
+ghost use Rattle.std.specs.Prelude.{◌≡◌, ◌<◌, ◌≤◌, ◌++◌, ◌∷◌, [], ℕ, true, List, length, flat_map, if◌then◌else◌, Some, IfOk, IfSome, OnOk};
 ghost use Rattle.tm_types.specs.declared.step.Made.{Made};
 ghost use Rattle.tm_rules.specs.Requests.{is_request};
 ghost use Rattle.tm_rules.specs.Words.{Trace};
@@ -16,7 +16,7 @@ use crate::records::RecordPlace;
 use std::alloc::Global;
 use std::marker::Model;
 use tm_list::NoMemory;
-use tm_seat::{Seat, play_take};
+use tm_seat::{Seat, play_if_there};
 use tm_types::request::Request;
 use tm_types::step::{Made, Maker, Settled, Step, Take};
 use tm_verify_notes::raised_by_looks;
@@ -107,8 +107,9 @@ pub enum Played {
     End(u32, u64),
 }
 
-/// Plays the request at a place, whose process stands here, in the domain of this number, by a seat
-/// that knows at least so many steps. The request is dropped; `spent` is what it is put into for
+/// Plays the request at a place, whose process stands here, in the domain of this number: None where
+/// that isn't there with its profile at the first look. By that look the take knows at least as many
+/// steps as the look's version says. The request is dropped; `spent` is what it is put into for
 /// that, so that no list is made for it.
 ///
 /// Errors: want of memory, or that no answer can come any more.
@@ -119,36 +120,36 @@ pub fn play_at<S: Seat>(
     now: ProcessSituation,
     domain: u32,
     request: Request,
-    since: u64,
     spent: &mut Vec<Request>,
-) -> Result<PlayedTake, NoMemory>
+) -> Result<Option<PlayedTake>, NoMemory>
     requires opened { IsOpened (S.opening seat.old).policy }
     requires named { IsNamed tomoyo_grammar.is_path (S.opening seat.old).policy }
     requires asked { is_request tomoyo_grammar.is_path request ≡ true }
     requires stands { now.domain ≡ Some domain }
-    requires there { DomainIn (state_of (S.opening seat.old) (S.at seat.old)).policy domain }
-    requires since { since ≤ length (S.at seat.old) }
-    ensures steals { IfOk result (λ played. (trace : Trace)
+    ensures steals { IfOk result (λ found. IfSome found (λ played. (trace : Trace)
         → request_at trace place ≡ Some request
         → StealsOn (S.opening seat.old) trace (S.at seat.old) (S.own seat.old)
-        (S.at seat.new) (S.own seat.new) (Event.Take played ∷ [])) }
-    ensures placed { IfOk result (λ played.
-        (played.place ≡ place) × (played.stood ≡ now) × (played.since ≡ since)) }
-    ensures there { IfOk result (λ played.
-        DomainIn (state_of (S.opening seat.old) (S.at seat.new)).policy played.take.after) }
-    ensures fitted { IfOk result (λ played. FitsFrom (S.opening seat.old) (S.at seat.new)) }
+        (S.at seat.new) (S.own seat.new) (Event.Take played ∷ []))) }
+    ensures placed { IfOk result (λ found. IfSome found (λ played.
+        (played.place ≡ place) × (played.stood ≡ now))) }
+    ensures there { IfOk result (λ found. IfSome found (λ played.
+        DomainIn (state_of (S.opening seat.old) (S.at seat.new)).policy played.take.after)) }
+    ensures fitted { IfOk result (λ found. IfSome found (λ _.
+        FitsFrom (S.opening seat.old) (S.at seat.new))) }
     ensures opening { S.opening seat.new ≡ S.opening seat.old }
     ensures grows { Begins (S.at seat.old) (S.at seat.new) }
 {
     seat.begin(place.tree, place.item);
-    let take = play_take(seat, alloc, now, domain, request, spent)?;
+    let Some((take, since)) = play_if_there(seat, alloc, now, domain, request, spent)? else {
+        return Ok(None);
+    };
     spent.clear();
-    Ok(PlayedTake {
+    Ok(Some(PlayedTake {
         place,
         stood: now,
         since,
         take: SeenTake::new(take),
-    })
+    }))
 }
 
 // A tree's End.

@@ -31,5 +31,6 @@ unreachable-requires g c =
 pub returns-in-Ok-clause-tree : goal.returns-in-Ok-clause-tree
 returns-in-Ok-clause-tree g c left takes walk h =
     let done = c.in_ok-take-in-Some.ensures in
+    let ended = done.ended in
     tree-takes (g.S.Seat.opening c.args.seat.now) (g.S.Seat.at c.args.seat.now) (g.S.Seat.at c.play_take.new.seat) (g.S.Seat.own c.args.seat.now) (g.S.Seat.own c.play_take.new.seat) (situations c.args.known.now) (situations c.move_to.new.self) c.args.pid c.in-Some.domain c.at-now.result c.args.request c.in_ok-take-in-Some.take
-    c.requires.opened c.at-now.ensures c.in-Some.is done.grows done.fitted done.legal done.there done.own done.makers done.fresh done.pid c.in-Ok.ensures left takes walk h
+    c.requires.opened c.at-now.ensures c.in-Some.is done.grows ended.fitted ended.legal ended.there ended.made ended.makers ended.fresh ended.pid c.in-Ok.ensures left takes walk h
