@@ -76,7 +76,7 @@ def contract(crate, file, name):
     if os.path.isfile(path):
         with open(path, encoding="utf-8") as source:
             for line in source.read().split("\n"):
-                if found and line.strip() == "{":
+                if found and line.strip() in ("{", "{}"):
                     return [line[depth_of(found[0]):] for line in found]
                 if found or head.match(line):
                     found.append(line)
