@@ -1,15 +1,20 @@
-"""Quotes of definitions.
+"""Quotes of definitions and of contracts.
 
 Behind a line `<!-- definition: CRATE MODULE NAME -->` of the page stands, indented, what
 `crates/CRATE/specs/MODULE.antt` has of NAME: its type and its equations, or its fields, without
 `pub` and the words before it. A definition that has moved into a module of that name in another
-crate has that crate in its line again."""
+crate has that crate in its line again. Behind `<!-- contract: CRATE FILE NAME -->` stands what
+`crates/CRATE/src/FILE.rt` has of the function NAME without its body. Behind
+`<!-- clauses: CRATE FILE NAME -->` stands a table that is written by hand: its first two columns
+are the clauses of that function and the definition that each cites first, in order."""
 import os
 import re
 
 from pages import Fault, TOP
 
-MARK = re.compile(r"<!-- definition: (\S+) (\S+) (\S+) -->")
+MARK = re.compile(r"<!-- (definition|contract|clauses): (\S+) (\S+) (\S+) -->")
+CLAUSE = re.compile(r"\s*ensures (\w+) \{ (\w+)")
+ROW = re.compile(r"\| `(\w+)` \| `(\w+)` \|")
 
 
 def depth_of(line):
@@ -64,15 +69,53 @@ def definition(crate, module, name):
     return found[0]
 
 
+def contract(crate, file, name):
+    """The lines of a public function without its body: its head, and what it asks and ensures."""
+    path = os.path.join(TOP, "crates", crate, "src", file + ".rt")
+    head, found = re.compile(r"\s*pub fn %s\b" % re.escape(name)), []
+    if os.path.isfile(path):
+        with open(path, encoding="utf-8") as source:
+            for line in source.read().split("\n"):
+                if found and line.strip() in ("{", "{}"):
+                    return [line[depth_of(found[0]):] for line in found]
+                if found or head.match(line):
+                    found.append(line)
+    raise Fault("crate %s has no function %s in %s" % (crate, name, file))
+
+
+def check_clauses(names, rows):
+    """The first columns of a table are the clauses of a function."""
+    there = [match.groups() for match in map(CLAUSE.match, contract(*names)) if match]
+    told = [match.groups() for match in map(ROW.match, rows) if match]
+    if told != there:
+        raise Fault("the clauses of %s are %s" % (names[2], ", ".join("%s %s" % pair for pair in there)))
+
+
+def rows_behind(lines, at):
+    """The table behind a line, whose head has two lines."""
+    rows = []
+    for line in lines[at + 1:]:
+        if line.startswith("|"):
+            rows.append(line)
+        elif rows:
+            break
+    return rows[2:]
+
+
 def filled(page, _):
     """A page with each quote as the sources have it."""
-    out, is_quote = [], False
-    for line in page.split("\n"):
-        mark = MARK.fullmatch(line)
-        if mark:
-            crate, lines = definition(*mark.groups())
-            out += ["<!-- definition: %s %s %s -->" % (crate, *mark.groups()[1:]), ""]
-            out += [("    " + line).rstrip() for line in lines] + [""]
+    out, is_quote, lines = [], False, page.split("\n")
+    for at, line in enumerate(lines):
+        kind, *names = mark.groups() if (mark := MARK.fullmatch(line)) else [None]
+        if kind == "clauses":
+            check_clauses(names, rows_behind(lines, at))
+        if kind in ("definition", "contract"):
+            if kind == "definition":
+                names[0], quote = definition(*names)
+            else:
+                quote = contract(*names)
+            out += ["<!-- %s: %s %s %s -->" % (kind, *names), ""]
+            out += [("    " + line).rstrip() for line in quote] + [""]
             is_quote = True
         elif not is_quote or line.strip() and not line.startswith("    "):
             is_quote = False
