@@ -11,7 +11,7 @@ ghost use Rattle.tm_replay.specs.Jobs.{IsJob, JobIsDone, JobStarts, told_of, IsF
 ghost use Rattle.tm_replay.specs.Beginnings.{AreGiven, HaveBegun};
 
 use crate::job::{Job, run_job};
-use std::alloc::{AllocError, Global};
+use std::alloc::Global;
 use std::collections::VecDeque;
 use std::sync::Wait;
 use std::thread::Threads;
@@ -24,7 +24,7 @@ use tm_machine::Machine;
 use tm_machine::rep::Rep;
 use tm_publish::front::{Front, Named};
 use tm_publish::pass::Pass;
-use tm_seat::{Part, Work};
+use tm_seat::{Part, Work, lost};
 use tm_serve::begin;
 use tm_types::step::Query;
 
@@ -77,7 +77,7 @@ fn add_job<L: Named, R: Rep, H: Drop, D: Drop>(
         left.new.items jobs.new.items) }
 {
     let Some(pass) = take_first(left) else {
-        return Err(AllocError);
+        return Err(lost());
     };
     jobs.push(job_of(part, pass, front))?;
     Ok(())
@@ -93,7 +93,7 @@ fn all_given<L: Named, R: Rep, H: Drop, D: Drop>(
     if waiting.is_empty() {
         return Ok(jobs);
     }
-    Err(AllocError)
+    Err(lost())
 }
 
 // A job for each part, with the passes in their order, each of which is told of a front.
@@ -114,7 +114,7 @@ fn jobs_of<L: Named, R: Rep, H: Drop, D: Drop>(
     let mut jobs = Vec::new(alloc);
     for _ in 0..count {
         let Some(part) = take_first(&mut waiting) else {
-            return Err(AllocError);
+            return Err(lost());
         };
         add_job(part, &mut left, front, &mut jobs)?;
     }
@@ -179,7 +179,7 @@ pub(crate) fn begin_jobs<L: Named, R: Rep, W: Wait, H: Drop, D: Drop>(
             let mut passes = passes;
             match passes.pop() {
                 Some(pass) => begin_supervised(rt, alloc, engine, parts, passes, pass),
-                None => Err(AllocError),
+                None => Err(lost()),
             }
         }
     }
@@ -246,7 +246,7 @@ fn push_pass<L: Named, R: Rep>(
             passes.push(pass)?;
             Ok(())
         }
-        None => Err(AllocError),
+        None => Err(lost()),
     }
 }
 

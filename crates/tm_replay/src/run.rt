@@ -36,7 +36,8 @@ use tm_publish::blank::Blank;
 use tm_publish::front::Named;
 use tm_publish::pass::Pass;
 use tm_seat::{
-    Part, PlayedTree, TreeToPlay, Trees, Work, deal, gather, replayed_runs_are_legal, working_parts,
+    Part, PlayedTree, TreeToPlay, Trees, Work, deal, gather, lost, replayed_runs_are_legal,
+    working_parts,
 };
 use tm_types::policy::Policy;
 use tm_types::request::{Trace, Tree};
@@ -66,7 +67,7 @@ fn trees_of<R: Rep>(
     let mut number: u32 = 0;
     for tree in trace.into_vec() {
         let Some(next) = number.checked_add(1) else {
-            return Err(AllocError);
+            return Err(lost());
         };
         number = next;
         trees.push(tree_to_play(machine, number, tree))?;
@@ -244,7 +245,7 @@ fn play_trace<R: Rep + Send + Sync, F: Fn(&Query) -> u64 + Sync, W: Threads + Wa
     let hands = deal(alloc, to_play, workers)?;
     let (machine, queues) = play_parts(rt, alloc, machine, hands, desk, gate, &Trees)?;
     if queues.is_empty() {
-        return Err(AllocError);
+        return Err(lost());
     }
     let rows = gather(alloc, queues, trees)?;
     Ok((machine, rows))

@@ -6,6 +6,7 @@
 mod deals;
 mod editor;
 mod law;
+mod lost;
 mod part;
 mod rows;
 mod seat;
@@ -17,6 +18,7 @@ mod worker;
 pub use deals::deal;
 pub use editor::play_editor;
 pub use law::replayed_runs_are_legal;
+pub use lost::lost;
 pub use part::{Part, working_parts};
 pub use rows::gather;
 pub use seat::{Seat, Shown};

@@ -3,7 +3,8 @@ ghost use Rattle.std.specs.Prelude.{◌≡◌, ◌++◌, map, IfOk, OnOk};
 ghost use Rattle.tm_seat.specs.Parts.{editor_parts, working_parts};
 ghost use Rattle.tm_seat.specs.declared.part.Part.{Part};
 
-use std::alloc::{AllocError, Global};
+use crate::lost::lost;
+use std::alloc::Global;
 use tm_list::{NoMemory, Seq};
 use tm_types::step::{Editor, FileKind};
 use tm_word::Text;
@@ -34,7 +35,7 @@ fn push_editors<H: Drop>(parts: &mut Vec<Part<H>>, editors: Seq<Editor>) -> Resu
     let mut number: u32 = 0;
     for editor in editors.into_vec() {
         let Some(next) = number.checked_add(1) else {
-            return Err(AllocError);
+            return Err(lost());
         };
         number = next;
         parts.push(Part::Editor(number, editor.lines))?;

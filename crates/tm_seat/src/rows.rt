@@ -3,8 +3,9 @@ ghost use Rattle.std.specs.Prelude.{◌≡◌, ◌<◌, ◌∷◌, [], IfOk, IfS
 ghost use Rattle.tm_word.specs.Matching.{is_empty};
 ghost use Rattle.tm_seat.specs.Dealing.{queues_own, TakesFirst, IsGathered};
 
+use crate::lost::lost;
 use crate::tree::PlayedTree;
-use std::alloc::{AllocError, Global};
+use std::alloc::Global;
 use std::collections::VecDeque;
 use std::marker::Model;
 use tm_list::{NoMemory, Seq};
@@ -104,12 +105,12 @@ pub fn gather(
     let mut rows = Vec::new(alloc);
     for before in 0..count {
         let Some(row) = next_row(&mut queues, before as usize % workers, before + 1) else {
-            return Err(AllocError);
+            return Err(lost());
         };
         rows.push(row)?;
     }
     if !all_are_empty(queues.as_slice()) {
-        return Err(AllocError);
+        return Err(lost());
     }
     Ok(rows)
 }

@@ -9,6 +9,7 @@ use std::sync::Wait;
 use std::sync::atomic::{AtomicU64, Ordering};
 use std::thread::Threads;
 use tm_list::NoMemory;
+use tm_replay::seat::lost;
 use tm_replay::take::ProcessSituation;
 use tm_types::request::{Ids, Proc, Request, Tree};
 
@@ -176,12 +177,12 @@ fn deal_firsts(
 ) -> Result<(), NoMemory> {
     let workers = hands.len();
     if workers == 0 {
-        return Err(AllocError);
+        return Err(lost());
     }
     let mut place: usize = 0;
     for tree in trace {
         let Some(home) = homes.get(place) else {
-            return Err(AllocError);
+            return Err(lost());
         };
         let job = Job {
             tree: place,
@@ -210,7 +211,7 @@ pub(crate) fn board_of<'a, W: Threads + Sync>(
     ensures trees { IfOk result (λ r. r.0.trees ≡ length trace.now) }
 {
     let Ok(trees) = u32::try_from(trace.len()) else {
-        return Err(AllocError);
+        return Err(lost());
     };
     let (tree_processes, processes) = processes_of(rt, alloc, trace, workers)?;
     let mut hands = empty_hands(alloc, workers)?;

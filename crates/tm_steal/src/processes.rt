@@ -6,6 +6,7 @@ use std::collections::BTreeMap;
 use std::thread::Threads;
 use tm_beside::for_each_beside;
 use tm_list::NoMemory;
+use tm_replay::seat::lost;
 use tm_steal_rows::TreeRecords;
 use tm_types::request::{Item, Tree};
 
@@ -57,7 +58,7 @@ impl TreeProcesses {
     // A process more, whose place this pid has from now on.
     fn add(&mut self, pid: u32) -> Result<u32, NoMemory> {
         let Ok(place) = u32::try_from(self.all.len()) else {
-            return Err(AllocError);
+            return Err(lost());
         };
         self.all.push(Process {
             first: 0,
@@ -102,10 +103,10 @@ impl TreeProcesses {
         self.links.push(Link { next: 0, child })?;
         self.process_places.push(place)?;
         let Ok(number) = u32::try_from(self.links.len()) else {
-            return Err(AllocError);
+            return Err(lost());
         };
         let Some(process) = self.all.get_mut(place as usize) else {
-            return Err(AllocError);
+            return Err(lost());
         };
         let last = process.last;
         if last == 0 {

@@ -13,7 +13,7 @@ use crate::processes::{Process, TreeProcesses};
 use std::alloc::{AllocError, Global};
 use std::sync::Wait;
 use tm_list::{Copied, NoMemory};
-use tm_replay::seat::{Seat, Work};
+use tm_replay::seat::{Seat, Work, lost};
 use tm_replay::take::ProcessSituation;
 use tm_steal_rows::{
     Played, PlayedProcess, PlayedTake, RecordPlace, end_trees, play_at, record_at,
@@ -58,11 +58,11 @@ fn play_request<S: Seat>(
     ensures grows { Begins (S.at seat.old) (S.at seat.new) }
 {
     let Some(domain) = now.domain else {
-        return Err(AllocError);
+        return Err(lost());
     };
     let request = request_of(board, alloc, place, request)?;
     let Some(taken) = play_at(seat, alloc, place, now, domain, request, spent)? else {
-        return Err(AllocError);
+        return Err(lost());
     };
     let after = taken.take.after();
     takes.push(taken)?;
@@ -105,7 +105,7 @@ fn pass_record<S: Seat>(
 {
     let ProcessSituation { process, domain } = now;
     let Some(item) = record_at(board.trace, place) else {
-        return Err(AllocError);
+        return Err(lost());
     };
     match item {
         Item::Ids(_, ids) => Ok(ProcessSituation {
@@ -154,7 +154,7 @@ fn play_records<S: Seat>(
     ensures grows { Begins (S.at seat.old) (S.at seat.new) }
 {
     let Ok(before) = u32::try_from(job.tree) else {
-        return Err(AllocError);
+        return Err(lost());
     };
     let number = before.saturating_add(1);
     let mut now = job.now;
@@ -162,7 +162,7 @@ fn play_records<S: Seat>(
     let mut item = process.first;
     for _line in 0..process.records {
         let Some(link) = tree.link_of(item) else {
-            return Err(AllocError);
+            return Err(lost());
         };
         let place = RecordPlace { tree: number, item };
         let child = link.child;
@@ -191,10 +191,10 @@ fn play_process<S: Seat>(
     ensures grows { Begins (S.at seat.old) (S.at seat.new) }
 {
     let Some(tree) = board.tree_processes.get(job.tree) else {
-        return Err(AllocError);
+        return Err(lost());
     };
     let Some(process) = tree.all.get(job.process as usize) else {
-        return Err(AllocError);
+        return Err(lost());
     };
     let takes = play_records(board, seat, alloc, hand, job, tree, *process)?;
     played.push(Played::Process(PlayedProcess {

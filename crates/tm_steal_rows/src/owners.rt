@@ -6,9 +6,10 @@ ghost use Rattle.std.specs.BTreeMap.{get};
 ghost use Rattle.tm_steal_rows.specs.Gathering.{IsOwned, EachOwned, AreKept};
 
 use crate::played::Played;
-use std::alloc::{AllocError, Global};
+use std::alloc::Global;
 use std::collections::BTreeMap;
 use tm_list::{NoMemory, Seq};
+use tm_seat::lost;
 
 // A process is this worker's, where it isn't another's.
 fn own_process(owners: &mut BTreeMap<u32, u32>, worker: u32, pid: u32) -> Result<(), NoMemory>
@@ -20,7 +21,7 @@ fn own_process(owners: &mut BTreeMap<u32, u32>, worker: u32, pid: u32) -> Result
             if *other == worker {
                 return Ok(());
             }
-            Err(AllocError)
+            Err(lost())
         }
         None => {
             owners.insert(pid, worker)?;
@@ -40,7 +41,7 @@ fn own_one(owners: &mut BTreeMap<u32, u32>, worker: u32, played: &Played) -> Res
             if worker == 0 {
                 return Ok(());
             }
-            Err(AllocError)
+            Err(lost())
         }
     }
 }
@@ -68,7 +69,7 @@ pub(crate) fn check_owners(alloc: Global, given: &[Seq<Played>]) -> Result<(), N
     for all in given {
         own_all(&mut owners, worker, all.as_slice())?;
         let Some(next) = worker.checked_add(1) else {
-            return Err(AllocError);
+            return Err(lost());
         };
         worker = next;
     }

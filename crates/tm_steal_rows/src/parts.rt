@@ -5,11 +5,12 @@ ghost use Rattle.tm_steal_rows.specs.Gathering.{IsPartOf, PartsAreOf, IsWalked, 
 use crate::played::PlayedTake;
 use crate::queues::none_left;
 use crate::walk::walk_tree;
-use std::alloc::{AllocError, Global};
+use std::alloc::Global;
 use std::collections::VecDeque;
 use std::thread::Threads;
 use tm_beside::for_each_beside;
 use tm_list::NoMemory;
+use tm_seat::lost;
 use tm_types::request::Tree;
 use tm_types::step::Take;
 
@@ -56,7 +57,7 @@ fn next_queues(
     let mut first = Vec::with_capacity(alloc, count)?;
     for _process in 0..count {
         let Some(queue) = queues.pop_front() else {
-            return Err(AllocError);
+            return Err(lost());
         };
         first.push(queue)?;
     }
@@ -112,13 +113,13 @@ pub(crate) fn parts_of<'a>(
     let mut before: u32 = 0;
     for tree in trace {
         let Some(number) = before.checked_add(1) else {
-            return Err(AllocError);
+            return Err(lost());
         };
         let Some(home) = homes.pop_front() else {
-            return Err(AllocError);
+            return Err(lost());
         };
         let Some(its) = records.pop_front() else {
-            return Err(AllocError);
+            return Err(lost());
         };
         let part = part_of(alloc, number, tree, home, its, &mut queues)?;
         parts.push(part)?;
@@ -127,7 +128,7 @@ pub(crate) fn parts_of<'a>(
     if none_left(&queues) {
         return Ok(parts);
     }
-    Err(AllocError)
+    Err(lost())
 }
 
 impl TreePart<'_> {

@@ -4,9 +4,10 @@ ghost use Rattle.tm_steal_rows.specs.Playing.{events_in, events_of};
 ghost use Rattle.tm_steal_rows.specs.Gathering.{all_given, takes_of, ends_of, AreLaid, AreTheSame};
 
 use crate::played::{Played, PlayedProcess, PlayedTake};
-use std::alloc::{AllocError, Global};
+use std::alloc::Global;
 use std::collections::VecDeque;
 use tm_list::{NoMemory, Seq};
+use tm_seat::lost;
 
 /// The takes of each process of the trace, in their order, and all Ends, each with its tree's
 /// number.
@@ -43,12 +44,12 @@ fn fill(queues: &mut Vec<VecDeque<PlayedTake>>, process: PlayedProcess) -> Resul
     match queues.get(place) {
         Some(queue) => {
             if !none_left(queue) {
-                return Err(AllocError);
+                return Err(lost());
             }
             queues[place] = VecDeque::from(takes);
             Ok(())
         }
-        None => Err(AllocError),
+        None => Err(lost()),
     }
 }
 

@@ -12,7 +12,7 @@ use std::alloc::{AllocError, Global};
 use std::collections::VecDeque;
 use std::thread::Threads;
 use tm_list::{NoMemory, Seq};
-use tm_seat::PlayedTree;
+use tm_seat::{PlayedTree, lost};
 use tm_types::request::Tree;
 use tm_types::step::Take;
 use tm_verify_notes::raised_by_looks;
@@ -51,10 +51,10 @@ fn next_end(
         return Ok(None);
     }
     let Some((tree, end)) = ends.pop_front() else {
-        return Err(AllocError);
+        return Err(lost());
     };
     if tree != number {
-        return Err(AllocError);
+        return Err(lost());
     }
     Ok(Some(end))
 }
@@ -76,14 +76,14 @@ fn next_row(
         ..
     } = part;
     if !no_take_left(queues.as_slice()) {
-        return Err(AllocError);
+        return Err(lost());
     }
     let Some(takes) = takes else {
         return Err(AllocError);
     };
     let end = next_end(supervised, number, ends)?;
     if !stands_above(end, takes.as_slice()) {
-        return Err(AllocError);
+        return Err(lost());
     }
     Ok(PlayedTree {
         number,
@@ -112,7 +112,7 @@ fn all_rows(
     if none_left(&ends) {
         return Ok(rows);
     }
-    Err(AllocError)
+    Err(lost())
 }
 
 /// Gathers what the workers give back into a row for each tree of the trace, whose processes start

@@ -8,9 +8,10 @@ ghost use Rattle.tm_steal_rows.specs.declared.played.PlayedTake.{PlayedTake};
 use crate::played::PlayedTake;
 use crate::queues::{count_left, next_of};
 use crate::records::{RecordPlace, numbered};
-use std::alloc::{AllocError, Global};
+use std::alloc::Global;
 use std::collections::VecDeque;
 use tm_list::{NoMemory, Same};
+use tm_seat::lost;
 use tm_types::request::{Ids, Item, Proc};
 use tm_types::step::Take;
 use tm_verify_notes::{Stand, Stands};
@@ -70,15 +71,15 @@ fn next_take(
         (after_take (stands known.old pid) take))) }
 {
     let Some(played) = next_of(queues, process) else {
-        return Err(AllocError);
+        return Err(lost());
     };
     let stand = known.at(pid);
     if !same_place(played.place, place) || !stands_there(stand, &played) {
-        return Err(AllocError);
+        return Err(lost());
     }
     let take = played.take;
     if take.pid() != pid {
-        return Err(AllocError);
+        return Err(lost());
     }
     known.take_seen(pid, stand, take.after(), take.highest())?;
     Ok(take.into_take())
@@ -103,7 +104,7 @@ fn walk_record(
         Item::Fork(pid, child) => known.fork(*pid, *child),
         Item::Do(pid, _) => {
             let Some(process) = numbered(process_places, place.item) else {
-                return Err(AllocError);
+                return Err(lost());
             };
             let take = next_take(known, queues, *process, *pid, place)?;
             takes.push(take)?;
@@ -134,7 +135,7 @@ pub(crate) fn walk_tree(
     let mut before: u32 = 0;
     for item in records {
         let Some(number) = before.checked_add(1) else {
-            return Err(AllocError);
+            return Err(lost());
         };
         let place = RecordPlace { tree, item: number };
         walk_record(&mut known, queues, place, process_places, item, &mut takes)?;
