@@ -27,10 +27,10 @@ use tm_word::Word;
 
 /// A policy with an index: where the entries of each list stand by the literal that their first
 /// name argument is, by their stem, and by a text that equal lines share, how many permissions each
-/// domain has, and the live domains by their names. Time doesn't grow with the lines that a request
-/// or a line has nothing of this in common with, but for groups, ranges of addresses and patterns
-/// without a plain front. Contracts see the policy. Keys are hashed by the default hasher; no
-/// answer depends on it.
+/// domain has, and the live domains by their names. Lines that have nothing of this in common with a
+/// request or a line aren't looked at, but for groups, ranges of addresses and patterns without a
+/// plain front: what that saves is measured, and no clause says it. Contracts see the policy. Keys
+/// are hashed by the default hasher; no answer depends on it.
 #[derive(Drop)]
 pub struct Indexed {
     policy: Policy,

@@ -28,8 +28,7 @@ fn open(mut rep: Indexed) -> Result<Indexed, LoadFault>
     }
 }
 
-/// Loads the policy of these files with an index, and opens it, as `load` of tm_policy does: no
-/// line takes time that grows with the lines before it.
+/// Loads the policy of these files with an index, and opens it, as `load` of tm_policy does.
 ///
 /// Errors: those of `load`.
 #[tactic(auto, using(tm_policy::proofs::LoadLaws::load_in_two), unfolding(tm_rules::specs::Load::load))]
