@@ -20,10 +20,10 @@ each_found patterns text = list_all (λ pattern_. list_any (matches pattern_) (w
 abbrev pub header_matches : ListWords → Text → Bool
 header_matches list text = each_found list.patterns text
 
--- each header pattern matches some word of the first line, and the two lists match the words of the
--- other two
+-- the two lists match the words of the second and the third line, and each header pattern matches
+-- some word of the first
 unfoldable pub accepts : Rule → Record → Bool
-accepts rule item = header_matches rule.header item.header && (list_matches rule.domain item.domain && list_matches rule.line item.line)
+accepts rule item = list_matches rule.domain item.domain && (list_matches rule.line item.line && header_matches rule.header item.header)
 
 -- the part of the first rule that accepts, 0 where none does
 abbrev pub dest : List Rule → Record → ℕ

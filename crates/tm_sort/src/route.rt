@@ -46,15 +46,16 @@ fn header_matches(list: &ListWords, text: &[u8]) -> bool
     each_found(list.patterns.as_slice(), text)
 }
 
-/// Whether a rule accepts a record: each header pattern matches some word of the first line, and
-/// the two lists match the words of the second and the third. Takes no memory.
+/// Whether a rule accepts a record: the two lists match the words of the second and the third line,
+/// and each header pattern matches some word of the first, which has the most words and is looked
+/// at last. Takes no memory.
 #[tactic(auto, unfolding(crate::specs::Routes::accepts))]
 pub fn accepts(rule: &Rule, item: &Record) -> bool
     ensures { result ≡ accepts rule.now item.now }
 {
-    header_matches(&rule.header, item.header.bytes())
-        && list_matches(&rule.domain, item.domain.bytes())
+    list_matches(&rule.domain, item.domain.bytes())
         && list_matches(&rule.line, item.line.bytes())
+        && header_matches(&rule.header, item.header.bytes())
 }
 
 /// A rule beside a closure that answers as the rule accepts.
