@@ -2,14 +2,10 @@
 
 A crate stands in the row above the highest crate that it stands on, by crates.txt. Behind the line
 `<!-- crates by rows -->` of the page stand the rows, the highest first, and behind each crate those
-that it stands on, without those that another of them stands on already.
-
-The first block of the page is a map, written by hand: each crate stands there once, at the
-beginning of a line, below all that it stands on, and set in below one of them."""
+that it stands on, without those that another of them stands on already."""
 import os
-import re
 
-from pages import Fault, TOP
+from pages import TOP
 
 MARK = "<!-- crates by rows -->"
 HIGH, WIDE, GAP = 60, 132, 14
@@ -71,36 +67,12 @@ def listed():
 
 
 def filled(page, _):
-    """A page with the rows, whose map is right."""
+    """A page with the rows."""
     crates, lines = listed(), page.split("\n")
-    fault = misplaced(page, crates)
-    if fault:
-        raise Fault("in the map %s" % fault)
     begin = lines.index(MARK) + 1
     first = lines.index("```", begin)
     end = lines.index("```", first + 1)
     return "\n".join(lines[:begin] + [""] + drawn(crates) + lines[end + 1:])
-
-
-def misplaced(page, crates):
-    """What is wrong with the map, or None."""
-    lines = page.split("\n")
-    begin = lines.index("```") + 1
-    seen, outer = set(), []
-    for line in lines[begin:lines.index("```", begin)]:
-        indent, names = re.match(r"( *)(\w*(?:, \w+)*)", line).groups()
-        outer, names = outer[:len(indent)], names.split(", ")
-        for name in names:
-            if name not in crates.stands_on or name in seen:
-                return "%s is no crate, or stands there twice" % (name or line)
-            if not seen.issuperset(crates.stands_on[name]):
-                return "%s stands above what it stands on" % name
-            if len(outer) < len(indent) or outer and not crates.below(name) & set(outer[-1]):
-                return "%s isn't set in below what it stands on" % name
-        seen.update(names)
-        outer.append(names)
-    left = set(crates.stands_on) - seen
-    return "%s isn't there" % min(left) if left else None
 
 
 def picture():
