@@ -1,6 +1,6 @@
 -- The events of a take from a seat, from an opening.
 use Rattle.std.proofs.Common.{◌≡◌, le_refl, ℕ, suc, List, [], ◌∷◌, ◌++◌, length, true, refl, sym, ap, ◌∙◌, subst, arith, append_assoc, append-nil}
-use Rattle.std.specs.Prelude.{Some, None, IsSome, Result, Ok, Err, IfOk}
+use Rattle.std.specs.Prelude.{Option, Some, None, IsSome, Result, Ok, Err, IfOk, IfSome}
 use Rattle.tm_types.specs.declared.step.Held.{Held}
 use Rattle.tm_types.specs.declared.step.Look.{Look}
 use Rattle.tm_types.specs.declared.step.Take.{Take}
@@ -215,6 +215,10 @@ ended-same start start' errand xs list before own first k same domain h ended = 
 pub ended-ok : {E : Type 0} (start start' : Start) (errand : Errand) (xs list : List Made) (before own : List ℕ) (first : InProgress) (r : Result Take E) → start' ≡ start → errand.now.domain ≡ Some errand.domain → IsPlaying start errand xs before first → IfOk r (λ k. (errand : Errand) → errand.now.domain ≡ Some errand.domain → IsPlaying start' errand xs before first → HasEnded start' errand list own k) → IfOk r (λ k. HasEnded start errand list own k)
 ended-ok start start' errand xs list before own first (Ok k) same domain h ended = ended-same start start' errand xs list before own first k same domain h ended
 ended-ok start start' errand xs list before own first (Err e) same domain h ended = tt
+
+-- what holds of what was found
+pub found-so : {A : Type 0} (P : A → Type 0) (found : Option A) (x : A) → found ≡ Some x → IfSome found P → P x
+found-so P found x is h = subst (λ o. IfSome o P) is h
 
 -- a call that keeps it keeps it for an equal opening
 pub carries : (start start' : Start) (errand : Errand) (xs zs : List Made) (own own' : List ℕ) (b b' : InProgress) → start' ≡ start → PlaysOn start' xs own b zs own' b' → IsPlaying start errand xs own b → IsPlaying start errand zs own' b'

@@ -6,7 +6,7 @@
 mod deals;
 mod editor;
 mod law;
-mod lost;
+mod never;
 mod part;
 mod rows;
 mod seat;
@@ -18,7 +18,7 @@ mod worker;
 pub use deals::deal;
 pub use editor::play_editor;
 pub use law::replayed_runs_are_legal;
-pub use lost::lost;
+pub use never::lost;
 pub use part::{Part, working_parts};
 pub use rows::gather;
 pub use seat::{Seat, Shown};

@@ -3,7 +3,7 @@ ghost use Rattle.std.specs.Prelude.{◌≡◌, ◌++◌, map, IfOk, OnOk};
 ghost use Rattle.tm_seat.specs.Parts.{editor_parts, working_parts};
 ghost use Rattle.tm_seat.specs.declared.part.Part.{Part};
 
-use crate::lost::lost;
+use crate::never::lost;
 use std::alloc::Global;
 use tm_list::{NoMemory, Seq};
 use tm_types::step::{Editor, FileKind};

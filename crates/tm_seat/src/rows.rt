@@ -3,7 +3,7 @@ ghost use Rattle.std.specs.Prelude.{◌≡◌, ◌<◌, ◌∷◌, [], IfOk, IfS
 ghost use Rattle.tm_word.specs.Matching.{is_empty};
 ghost use Rattle.tm_seat.specs.Dealing.{queues_own, TakesFirst, IsGathered};
 
-use crate::lost::lost;
+use crate::never::lost;
 use crate::tree::PlayedTree;
 use std::alloc::Global;
 use std::collections::VecDeque;
