@@ -47,6 +47,16 @@ scan_fails P test sound full n (x ∷ xs) k e = by_test (test x) refl e (scan_fa
     by_test true is f more = inr (sound x is, more f)
     by_test false is f more = inl (sym (some_is n k f), λ p. let yes : test x ≡ true = full x p in absurd cc)
 
+-- and the first is found
+pub fails_scan : {A : Type 0} (P : A → Type 0) (test : A → Bool) → ((x : A) → test x ≡ true → P x) → ((x : A) → P x → test x ≡ true) → (n : ℕ) (xs : List A) (k : ℕ) → FirstFails P n xs k → first_failing test n xs ≡ Some k
+fails_scan P test sound full n [] k f = absurd f
+fails_scan P test sound full n (x ∷ xs) k (inl here) = by_test (test x) refl
+  where
+    by_test : (t : Bool) → test x ≡ t → (if t then first_failing test (suc n) xs else Some n) ≡ Some k
+    by_test true is = absurd (here.1 (sound x is))
+    by_test false is = ap some (sym here.0)
+fails_scan P test sound full n (x ∷ xs) k (inr later) = rw (full x later.0) (fails_scan P test sound full (suc n) xs k later.1)
+
 -- ---- with those before
 
 pub after_not_all : {A : Type 0} (P : List A → A → Type 0) (before xs : List A) (k : ℕ) → FirstFailsAfter P before xs k → AllAfter P before xs → ⊥
@@ -80,6 +90,15 @@ after_fails P test sound full before (x ∷ xs) k e = by_test (test before x) re
     by_test : (t : Bool) → test before x ≡ t → (if t then first_failing_after test (before ++ x ∷ []) xs else Some (suc (length before))) ≡ Some k → (first_failing_after test (before ++ x ∷ []) xs ≡ Some k → FirstFailsAfter P (before ++ x ∷ []) xs k) → FirstFailsAfter P before (x ∷ xs) k
     by_test true is f more = inr (sound before x is, more f)
     by_test false is f more = inl (sym (some_is (suc (length before)) k f), λ p. let yes : test before x ≡ true = full before x p in absurd cc)
+
+pub fails_after : {A : Type 0} (P : List A → A → Type 0) (test : List A → A → Bool) → ((before : List A) (x : A) → test before x ≡ true → P before x) → ((before : List A) (x : A) → P before x → test before x ≡ true) → (before xs : List A) (k : ℕ) → FirstFailsAfter P before xs k → first_failing_after test before xs ≡ Some k
+fails_after P test sound full before [] k f = absurd f
+fails_after P test sound full before (x ∷ xs) k (inl here) = by_test (test before x) refl
+  where
+    by_test : (t : Bool) → test before x ≡ t → (if t then first_failing_after test (before ++ x ∷ []) xs else Some (suc (length before))) ≡ Some k
+    by_test true is = absurd (here.1 (sound before x is))
+    by_test false is = ap some (sym here.0)
+fails_after P test sound full before (x ∷ xs) k (inr later) = rw (full before x later.0) (fails_after P test sound full (before ++ x ∷ []) xs k later.1)
 
 -- ---- P of each element is P wherever the list is cut
 
