@@ -1,5 +1,5 @@
 -- What the tests of the supervisor's steps compute is what may be done, and the least step at fault.
-use Rattle.std.proofs.Common.{◌≡◌, ◌<◌, ◌==◌, ℕ, suc, ◌+◌, Bool, true, false, ◌&&◌, ◌||◌, not, List, [], ◌∷◌, length, Option, Some, None, refl, sym, ap, ◌∙◌, subst, arith, inl, inr, ◌⊎◌, eqb-true}
+use Rattle.std.proofs.Common.{◌≡◌, ◌<◌, ◌==◌, ℕ, suc, ◌+◌, Bool, true, false, ◌&&◌, ◌||◌, not, List, [], ◌∷◌, length, take, Option, Some, None, refl, sym, ap, ◌∙◌, subst, arith, inl, inr, ◌⊎◌, eqb-true}
 use Rattle.std.specs.Prelude.{if◌then◌else◌, MatchOption, is_some}
 use Rattle.std.specs.Option.{option_or, IfSome}
 use Rattle.std.specs.List.{AllByRecursion}
@@ -10,6 +10,7 @@ use Rattle.tm_types.specs.declared.step.Step.{Step}
 use Rattle.tm_types.specs.declared.step.Reply.{Reply}
 use Rattle.tm_types.specs.declared.step.Query.{Query}
 use Rattle.tm_types.specs.declared.step.Book.{Book}
+use Rattle.tm_types.specs.declared.step.Take.{Take}
 use Rattle.tm_types.specs.declared.step.Run.{Run}
 use Rattle.tm_rules.specs.Queries.{first_query, numbered}
 use Rattle.tm_rules.specs.Book.{book_answer, code_of}
@@ -17,7 +18,7 @@ use Rattle.tm_legal.specs.Run.{History, places}
 use Rattle.tm_legal.specs.Legal.{Scene, is_attach, is_detach, is_answer, is_end, is_of_supervisor, seen_by_tree, SupervisorActs}
 use Rattle.tm_verify_laws.specs.First.{FirstFails, first_failing, AllAfter, FirstFailsAfter, first_failing_after}
 use Rattle.tm_verify_laws.specs.Desk.{state_after, HasSome, IsThere, AllEnded, MayAnswer, MayLeave, MayEnd, MayAct, IsAllowed, IsComplete, NeedsNoSupervisor, DeskHolds, DeskFails, has_some, is_there, trees_ended, has_room, is_stop, is_answered_so, may_leave, is_above, may_act, is_complete, desk_fault, EndsAreOfTrees}
-use Rattle.tm_verify_laws.proofs.FirstLaws.{some_is, scan_all, scan_none, scan_fails, fails_scan, after_all, after_none, after_fails, fails_after}
+use Rattle.tm_verify_laws.proofs.FirstLaws.{some_is, scan_all, scan_none, scan_fails, fails_scan, fails_front, after_all, after_none, after_fails, fails_after, after_front}
 use Rattle.tm_verify_laws.proofs.Splits.{not_false, not_true}
 use Rattle.tm_verify_laws.proofs.DeskLaws.{both, all, either, right_of, tree_ended, trees_all, below_all, all_below, stop_is, is_stop_of, none_is}
 use Rattle.tm_verify_laws.proofs.DeskBack.{answered_so, some_there, with_book, none_acts, acts_none}
@@ -251,6 +252,40 @@ pub fault_found : (scene : Scene) (run : Run) (o : Option ℕ) → o ≡ desk_fa
 fault_found scene run None e = none_holds scene run (sym e)
 fault_found scene run (Some k) e = fault_fails scene run k (sym e)
 
+-- ---- a run that begins in the same way
+
+abbrev with_takes : Run → List Take → Run
+with_takes run takes = record run { takes = takes }
+
+seen_same : (scene : Scene) (run other : Run) (t : ℕ) → run.takes ≡ other.takes → seen_by_tree scene run t ≡ seen_by_tree scene other t
+seen_same scene run other t e = ap (λ takes. seen_by_tree scene (with_takes run takes) t) e
+
+act_same : (scene : Scene) (run other : Run) (book : Book) (before : History) (step : Step) → run.takes ≡ other.takes → MayAct scene run book before step → MayAct scene other book before step
+act_same scene run other book before (Step.Learn d entry) e h = tt
+act_same scene run other book before (Step.Make d name) e h = tt
+act_same scene run other book before (Step.Fail d) e h = tt
+act_same scene run other book before (Step.Ask d retry line) e h = tt
+act_same scene run other book before (Step.Edit by file line) e h = tt
+act_same scene run other book before Step.Attach e h = h
+act_same scene run other book before (Step.Answer serial code) e h = h
+act_same scene run other book before Step.Detach e h = h
+act_same scene run other book before (Step.End t) e h =
+    record { once = h.once; above = subst (AllByRecursion (λ version. version < suc (length before))) (seen_same scene run other t e) h.above }
+
+fails_same_by : (scene : Scene) (o : Option Book) (run other : Run) (k : ℕ) → run.takes ≡ other.takes → take (suc k) run.steps ≡ take (suc k) other.steps → DeskFails (with_book scene o) run (suc k) → DeskFails (with_book scene o) other (suc k)
+fails_same_by scene None run other k e same f = fails_front NeedsNoSupervisor 1 (suc k) run.steps other.steps (suc k) (omega arith) same f
+fails_same_by scene (Some book) run other k e same (inl f) =
+    let own : Scene = with_book scene (Some book) in
+    inl
+    (after_front (IsAllowed own run book) (IsAllowed own other book)
+    (λ before pair h. act_same own run other book before pair.0 e h) (λ before pair h. act_same own other run book before pair.0 (sym e) h)
+    (suc k) [] run.steps other.steps (suc k) (omega arith) same f)
+fails_same_by scene (Some book) run other k e same (inr missing) = absurd (let none = missing.0 in omega (arith, none))
+
+-- fails at the same step
+pub fails_same : (scene : Scene) (run other : Run) (k : ℕ) → run.takes ≡ other.takes → take (suc k) run.steps ≡ take (suc k) other.steps → DeskFails scene run (suc k) → DeskFails scene other (suc k)
+fails_same scene run other k e same f = fails_same_by scene scene.book run other k e same f
+
 -- ---- the clause
 
 -- no step is at fault exactly where the clause holds
@@ -267,3 +302,7 @@ desk_not_both scene run k f h = let found = fails_fault scene run k f in let non
 -- there is one least
 pub desk_once : (scene : Scene) (run : Run) (k m : ℕ) → DeskFails scene run k → DeskFails scene run m → k ≡ m
 desk_once scene run k m f g = some_is k m (sym (fails_fault scene run k f) ∙ fails_fault scene run m g)
+
+-- and it stays one, whatever follows
+pub fault_stays : (scene : Scene) (run other : Run) (k : ℕ) → DeskFails scene run (suc k) → run.takes ≡ other.takes → take (suc k) run.steps ≡ take (suc k) other.steps → EndsAreOfTrees scene other.steps → SupervisorActs scene other → ⊥
+fault_stays scene run other k f e same trees h = desk_not_both scene other (suc k) (fails_same scene run other k e same f) (acts_hold scene other trees h)

@@ -1,5 +1,5 @@
 -- Where a list fails first, and scans that find it.
-use Rattle.std.proofs.Common.{◌≡◌, ℕ, suc, Bool, true, false, List, [], ◌∷◌, ◌++◌, length, Option, Some, None, refl, sym, ap, ◌∙◌, subst, inl, inr}
+use Rattle.std.proofs.Common.{◌≡◌, ◌≤◌, ◌<◌, ℕ, zero, suc, ◌+◌, Bool, true, false, List, [], ◌∷◌, ◌++◌, length, take, Option, Some, None, refl, sym, ap, ◌∙◌, subst, arith, inl, inr, length-append}
 use Rattle.std.specs.Prelude.{if◌then◌else◌}
 use Rattle.std.specs.List.{AllByRecursion}
 use Rattle.std.proofs.lemmas.List.{append_assoc, append-nil}
@@ -110,3 +110,40 @@ pub of_splits : {A : Type 0} (P : List A → A → Type 0) (rest before : List A
 of_splits P [] before holds = tt
 of_splits P (x ∷ rest) before holds =
     (subst (λ bs. P bs x) (append-nil before) (holds [] x rest refl), of_splits P rest (before ++ x ∷ []) (λ xs y ys e. subst (λ bs. P bs y) (sym (append_assoc before (x ∷ []) xs)) (holds (x ∷ xs) y ys (ap (λ zs. x ∷ zs) e))))
+
+-- ---- lists that begin in the same way fail at the same place
+
+fails_above : {A : Type 0} (P : A → Type 0) (n : ℕ) (xs : List A) (k : ℕ) → FirstFails P n xs k → n ≤ k
+fails_above P n [] k f = absurd f
+fails_above P n (x ∷ xs) k (inl here) = let e = here.0 in omega (arith, e)
+fails_above P n (x ∷ xs) k (inr later) = let le = fails_above P (suc n) xs k later.1 in omega (arith, le)
+
+pub fails_front : {A : Type 0} (P : A → Type 0) (n m : ℕ) (xs ys : List A) (k : ℕ) → k < n + m → take m xs ≡ take m ys → FirstFails P n xs k → FirstFails P n ys k
+fails_front P n m [] ys k lt e f = absurd f
+fails_front P n zero (x ∷ xs) ys k lt e f = let le = fails_above P n (x ∷ xs) k f in absurd (omega (arith, lt, le))
+fails_front P n (suc m) (x ∷ xs) [] k lt e f = absurd cc
+fails_front P n (suc m) (x ∷ xs) (y ∷ ys) k lt e (inl here) = let same : x ≡ y = cc in inl (here.0, λ p. here.1 (subst P (sym same) p))
+fails_front P n (suc m) (x ∷ xs) (y ∷ ys) k lt e (inr later) =
+    let same : x ≡ y = cc in
+    let rest : take m xs ≡ take m ys = cc in
+    inr (subst P same later.0, fails_front P (suc n) m xs ys k (omega (arith, lt)) rest later.1)
+
+after_above : {A : Type 0} (P : List A → A → Type 0) (before xs : List A) (k : ℕ) → FirstFailsAfter P before xs k → length before < k
+after_above P before [] k f = absurd f
+after_above P before (x ∷ xs) k (inl here) = let e = here.0 in omega (arith, e)
+after_above P before (x ∷ xs) k (inr later) =
+    let long = length-append before (x ∷ []) in
+    let lt = after_above P (before ++ x ∷ []) xs k later.1 in
+    omega (arith, long, lt)
+
+pub after_front : {A : Type 0} (P Q : List A → A → Type 0) → ((before : List A) (x : A) → P before x → Q before x) → ((before : List A) (x : A) → Q before x → P before x) → (m : ℕ) (before xs ys : List A) (k : ℕ) → k ≤ length before + m → take m xs ≡ take m ys → FirstFailsAfter P before xs k → FirstFailsAfter Q before ys k
+after_front P Q to from m before [] ys k le e f = absurd f
+after_front P Q to from zero before (x ∷ xs) ys k le e f = let lt = after_above P before (x ∷ xs) k f in absurd (omega (arith, le, lt))
+after_front P Q to from (suc m) before (x ∷ xs) [] k le e f = absurd cc
+after_front P Q to from (suc m) before (x ∷ xs) (y ∷ ys) k le e (inl here) = let same : x ≡ y = cc in inl (here.0, λ q. here.1 (subst (P before) (sym same) (from before y q)))
+after_front P Q to from (suc m) before (x ∷ xs) (y ∷ ys) k le e (inr later) =
+    let same : x ≡ y = cc in
+    let rest : take m xs ≡ take m ys = cc in
+    let long = length-append before (x ∷ []) in
+    let more = after_front P Q to from m (before ++ x ∷ []) xs ys k (omega (arith, le, long)) rest later.1 in
+    inr (subst (Q before) same (to before x later.0), subst (λ z. FirstFailsAfter Q (before ++ z ∷ []) ys k) same more)

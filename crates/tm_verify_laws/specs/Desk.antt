@@ -1,6 +1,6 @@
 -- With which step the supervisor's steps and the trees' ends can't go on any more: what may be done
 -- after the steps before, and the tests that compute it.
-use Rattle.std.specs.Prelude.{◌≡◌, ◌↔◌, ◌⊎◌, ◌<◌, ⊤, ℕ, suc, ◌==◌, ◌&&◌, ◌||◌, not, nat_lt, Bool, true, false, [], ◌∷◌, length, Option, Some, None, IsSome, is_some, if◌then◌else◌}
+use Rattle.std.specs.Prelude.{◌≡◌, ◌↔◌, ◌⊎◌, ◌<◌, ⊤, ℕ, suc, ◌==◌, ◌&&◌, ◌||◌, not, nat_lt, Bool, true, false, [], ◌∷◌, length, take, Option, Some, None, IsSome, is_some, if◌then◌else◌}
 use Rattle.std.specs.Option.{option_or, IfSome}
 use Rattle.std.specs.List.{AllByRecursion, list_all}
 use Rattle.tm_word.specs.Matching.{is_empty}
@@ -195,3 +195,11 @@ DeskFaultFinds =
     (scene : Scene) (run : Run)
     → ((desk_fault scene run ≡ None) ↔ DeskHolds scene run)
     × ((k : ℕ) → (desk_fault scene run ≡ Some k) ↔ DeskFails scene run k)
+
+-- no step after a step at fault mends it: where each reply is right, no run of these takes that
+-- begins with the same steps up to that one meets the clause
+abbrev pub DeskFaultStays : Type 0
+DeskFaultStays =
+    (scene : Scene) (run other : Run) (k : ℕ) → DeskFails scene run (suc k)
+    → run.takes ≡ other.takes → take (suc k) run.steps ≡ take (suc k) other.steps
+    → Replies scene.grammar (opening_of scene) other.steps → ¬ SupervisorActs scene other
