@@ -1,18 +1,18 @@
 -- A run of which a clause breaks first isn't legal, and there is one such clause and place.
-use Rattle.std.proofs.Common.{◌≡◌, ◌≤◌, ◌<◌, ℕ, zero, suc, List, [], ◌∷◌, length, map, Some, sym, ap, ◌∙◌, subst, arith, inl, inr, ◌⊎◌}
+use Rattle.std.proofs.Common.{◌≡◌, ◌≤◌, ◌<◌, ℕ, zero, suc, List, [], ◌∷◌, length, map, sym, ap, ◌∙◌, subst, arith, inl, inr, ◌⊎◌}
 use Rattle.std.specs.List.{AllByRecursion}
 use Rattle.std.proofs.lemmas.Bool.{cases_lt}
 use Rattle.tm_types.specs.declared.step.Take.{Take}
 use Rattle.tm_types.specs.declared.step.Run.{Run}
 use Rattle.tm_legal.specs.Run.{all_do_pids}
 use Rattle.tm_legal.specs.Legal.{Scene, Legal, cases_of, TakeHolds, TakeHears, StepsHavePlaces, SupervisorActs}
-use Rattle.tm_verify_laws.specs.Desk.{desk_fault}
+use Rattle.tm_verify_laws.specs.Desk.{DeskFails}
 use Rattle.tm_verify_laws.specs.Placed.{IsPlaced, PlacesFail}
 use Rattle.tm_verify_laws.specs.Broken.{PairsFail, TakeRises, TakeOwns, TakeEnds, Clause, Breaks, IsFirstBroken}
 use Rattle.tm_verify_laws.specs.declared.broken.Broken.{Broken}
 use Rattle.tm_verify_laws.proofs.FirstLaws.{fails_not_all, fails_once, after_not_all, after_once}
 use Rattle.tm_verify_laws.proofs.Stays.{ends_are_of_trees}
-use Rattle.tm_verify_laws.proofs.DeskBack.{acts_none}
+use Rattle.tm_verify_laws.proofs.DeskActs.{acts_hold, desk_not_both, desk_once}
 use Rattle.tm_verify_laws.proofs.PlacedLaws.{placed_of, lines_of}
 
 -- ---- takes and `do` lines
@@ -45,11 +45,10 @@ places_once scene run k m (inl f) (inr missing) = absurd (after_not_all (IsPlace
 places_once scene run k m (inr missing) (inl f) = absurd (after_not_all (IsPlaced scene run) [] run.steps m f missing.1)
 places_once scene run k m (inr missing) (inr also) = missing.0 ∙ sym also.0
 
-some_desk : (scene : Scene) (run : Run) (k : ℕ) → StepsHavePlaces scene run → desk_fault scene run ≡ Some k → SupervisorActs scene run → ⊥
-some_desk scene run k places e h = let none = acts_none scene run (ends_are_of_trees scene run.steps places.replies) h in absurd cc
+-- ---- the supervisor
 
-some_is : (k m : ℕ) → Some k ≡ Some m → k ≡ m
-some_is k m e = cc
+desk_fails_not : (scene : Scene) (run : Run) (k : ℕ) → StepsHavePlaces scene run → DeskFails scene run k → SupervisorActs scene run → ⊥
+desk_fails_not scene run k places f h = desk_not_both scene run k f (acts_hold scene run (ends_are_of_trees scene run.steps places.replies) h)
 
 -- ---- one clause
 
@@ -61,7 +60,7 @@ breaks_not scene run (suc (suc zero)) k earlier b h = fails_not_all (TakeRises r
 breaks_not scene run (suc (suc (suc zero))) k earlier b h = fails_not_all (TakeHolds scene run.steps) 1 (cases_of scene run) k b h
 breaks_not scene run (suc (suc (suc (suc zero)))) k earlier b h = fails_not_all (TakeOwns scene run) 1 (cases_of scene run) k b h
 breaks_not scene run (suc (suc (suc (suc (suc zero))))) k earlier b h = places_fail_not scene run k b h
-breaks_not scene run (suc (suc (suc (suc (suc (suc zero)))))) k earlier b h = some_desk scene run k (earlier (suc (suc (suc (suc (suc zero))))) (omega arith)) b h
+breaks_not scene run (suc (suc (suc (suc (suc (suc zero)))))) k earlier b h = desk_fails_not scene run k (earlier (suc (suc (suc (suc (suc zero))))) (omega arith)) b h
 breaks_not scene run (suc (suc (suc (suc (suc (suc (suc zero))))))) k earlier b h = fails_not_all (TakeHears scene run.steps) 1 run.takes k b h
 breaks_not scene run (suc (suc (suc (suc (suc (suc (suc (suc zero)))))))) k earlier b h = fails_not_all (TakeEnds scene run) 1 (cases_of scene run) k b h
 breaks_not scene run (suc (suc (suc (suc (suc (suc (suc (suc (suc n))))))))) k earlier b h = b
@@ -74,7 +73,7 @@ breaks_once scene run (suc (suc zero)) k m f g = fails_once (TakeRises run) 1 (c
 breaks_once scene run (suc (suc (suc zero))) k m f g = fails_once (TakeHolds scene run.steps) 1 (cases_of scene run) k m f g
 breaks_once scene run (suc (suc (suc (suc zero)))) k m f g = fails_once (TakeOwns scene run) 1 (cases_of scene run) k m f g
 breaks_once scene run (suc (suc (suc (suc (suc zero))))) k m f g = places_once scene run k m f g
-breaks_once scene run (suc (suc (suc (suc (suc (suc zero)))))) k m f g = some_is k m (sym f ∙ g)
+breaks_once scene run (suc (suc (suc (suc (suc (suc zero)))))) k m f g = desk_once scene run k m f g
 breaks_once scene run (suc (suc (suc (suc (suc (suc (suc zero))))))) k m f g = fails_once (TakeHears scene run.steps) 1 run.takes k m f g
 breaks_once scene run (suc (suc (suc (suc (suc (suc (suc (suc zero)))))))) k m f g = fails_once (TakeEnds scene run) 1 (cases_of scene run) k m f g
 breaks_once scene run (suc (suc (suc (suc (suc (suc (suc (suc (suc n))))))))) k m f g = absurd f

@@ -26,10 +26,10 @@ some_of test before a e = rw e refl
 none_of : (test : Step → Bool) (before : History) → places test before ≡ [] → has_some test before ≡ false
 none_of test before e = rw e refl
 
-answered_so : (book : Book) (o : Option Query) (query : Query) (serial code : ℕ) → o ≡ Some query → query.serial ≡ serial → code_of (book_answer book query) ≡ code → is_answered_so book o serial code ≡ true
+pub answered_so : (book : Book) (o : Option Query) (query : Query) (serial code : ℕ) → o ≡ Some query → query.serial ≡ serial → code_of (book_answer book query) ≡ code → is_answered_so book o serial code ≡ true
 answered_so book o query serial code e s c = rw e (all (query.serial == serial) (code_of (book_answer book query) == code) (eq-eqb query.serial serial s) (eq-eqb (code_of (book_answer book query)) code c))
 
-some_there : (o : Option Query) → o ≡ None → is_some o ≡ false
+pub some_there : (o : Option Query) → o ≡ None → is_some o ≡ false
 some_there o e = rw e refl
 
 module _ (scene : Scene) (run : Run) (book : Book) (trees : EndsAreOfTrees scene run.steps) (sup : Supervised scene run.steps book) (ends : TreesEnd scene run) where
@@ -163,7 +163,7 @@ whole : (b : Bool) (k : ℕ) → (if b then None else Some k) ≡ None → b ≡
 whole true k e = refl
 whole false k e = absurd cc
 
-abbrev with_book : Scene → Option Book → Scene
+abbrev pub with_book : Scene → Option Book → Scene
 with_book scene o = record scene { book = o }
 
 none_acts_by : (scene : Scene) (o : Option Book) (run : Run) → EndsAreOfTrees (with_book scene o) run.steps → desk_fault (with_book scene o) run ≡ None → SupervisorActs (with_book scene o) run

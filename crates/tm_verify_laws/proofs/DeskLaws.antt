@@ -30,7 +30,7 @@ both false b e = absurd cc
 pub all : (a b : Bool) → a ≡ true → b ≡ true → (a && b) ≡ true
 all a b h k = rw (h, k) refl
 
-either : (a b : Bool) → (a || b) ≡ true → (a ≡ true) ⊎ (b ≡ true)
+pub either : (a b : Bool) → (a || b) ≡ true → (a ≡ true) ⊎ (b ≡ true)
 either true b e = inl refl
 either false b e = inr e
 
@@ -228,7 +228,7 @@ trees_at m k n [] tree before e at over = absurd cc
 trees_at m zero n (x ∷ trees) tree before e at over = subst (λ i. has_some (is_end i) before ≡ true) (let same : m ≡ n = omega (arith, e) in same) (both (has_some (is_end m) before) _ over).0
 trees_at m (suc k) n (x ∷ trees) tree before e at over = trees_at (suc m) k n trees tree before (omega (arith, e)) at (both (has_some (is_end m) before) _ over).1
 
-tree_ended : (t : ℕ) (trace : Trace) (tree : Tree) (before : History) → numbered trace t ≡ Some tree → trees_ended 1 trace before ≡ true → has_some (is_end t) before ≡ true
+pub tree_ended : (t : ℕ) (trace : Trace) (tree : Tree) (before : History) → numbered trace t ≡ Some tree → trees_ended 1 trace before ≡ true → has_some (is_end t) before ≡ true
 tree_ended zero trace tree before at over = absurd cc
 tree_ended (suc k) trace tree before at over = trees_at 1 k (suc k) trace tree before (omega arith) at over
 
@@ -244,7 +244,7 @@ some_tree None s = absurd cc
 some_tree (Some tree) s = (tree, refl)
 
 -- versions that are below a number
-below_all : (n : ℕ) (vs : List ℕ) → list_all (λ v. nat_lt v n) vs ≡ true → AllByRecursion (λ v. v < n) vs
+pub below_all : (n : ℕ) (vs : List ℕ) → list_all (λ v. nat_lt v n) vs ≡ true → AllByRecursion (λ v. v < n) vs
 below_all n [] h = tt
 below_all n (v ∷ vs) h = let t = both (nat_lt v n) _ h in (ltb-true v n t.0, below_all n vs t.1)
 
@@ -282,24 +282,24 @@ state_before scene history before pair rest e =
 
 -- ---- from the steps to the clause
 
-stop_is : (o : Option ℕ) (n : ℕ) → is_stop o n ≡ true → o ≡ Some n
+pub stop_is : (o : Option ℕ) (n : ℕ) → is_stop o n ≡ true → o ≡ Some n
 stop_is None n e = absurd cc
 stop_is (Some stop) n e = ap Some (eqb-true stop n e)
 
 pub is_stop_of : (o : Option ℕ) (n : ℕ) → o ≡ Some n → is_stop o n ≡ true
 is_stop_of o n e = rw e (eq-eqb n n refl)
 
-none_is : (o : Option Query) → not (is_some o) ≡ true → o ≡ None
+pub none_is : (o : Option Query) → not (is_some o) ≡ true → o ≡ None
 none_is None e = refl
 none_is (Some q) e = absurd cc
 
 module _ (scene : Scene) (run : Run) (book : Book) (trees : EndsAreOfTrees scene run.steps) where
-  abbrev pub MayAct : History → Step × Reply → Type 0
-  MayAct before pair = may_act scene run book before pair.0 ≡ true
+  abbrev pub Passes : History → Step × Reply → Type 0
+  Passes before pair = may_act scene run book before pair.0 ≡ true
 
-  module _ (acts : AllAfter MayAct [] run.steps) (complete : is_complete scene run.steps ≡ true) where
+  module _ (acts : AllAfter Passes [] run.steps) (complete : is_complete scene run.steps ≡ true) where
     here : (before : History) (pair : Step × Reply) (rest : History) → run.steps ≡ before ++ pair ∷ rest → may_act scene run book before pair.0 ≡ true
-    here before pair rest e = at_split MayAct before pair rest [] (subst (AllAfter MayAct []) e acts)
+    here before pair rest e = at_split Passes before pair rest [] (subst (AllAfter Passes []) e acts)
 
     came : has_some is_attach run.steps ≡ true
     came = (both (has_some is_attach run.steps) _ complete).0
@@ -311,12 +311,12 @@ module _ (scene : Scene) (run : Run) (book : Book) (trees : EndsAreOfTrees scene
     over = (both (has_some is_detach run.steps) _ (both (has_some is_attach run.steps) _ complete).1).1
 
     attach : (a : ℕ) × (places is_attach run.steps ≡ a ∷ [])
-    attach = single is_attach run.steps (map_after MayAct (OnlyFirst is_attach) (λ before pair m. attach_first scene run book before pair.0 m) [] run.steps acts) came
+    attach = single is_attach run.steps (map_after Passes (OnlyFirst is_attach) (λ before pair m. attach_first scene run book before pair.0 m) [] run.steps acts) came
 
     detach : (d : ℕ) × (places is_detach run.steps ≡ d ∷ [])
     detach =
         single is_detach run.steps
-        (map_after MayAct (OnlyFirst is_detach) (λ before pair m e. not_left scene run book before (detach_there scene run book before pair.0 m e)) [] run.steps acts) left
+        (map_after Passes (OnlyFirst is_detach) (λ before pair m e. not_left scene run book before (detach_there scene run book before pair.0 m e)) [] run.steps acts) left
 
     cut_detach : PlaceCut is_detach 1 run.steps detach.0
     cut_detach = place_cut is_detach 1 run.steps detach.0 [] detach.1
@@ -351,7 +351,7 @@ module _ (scene : Scene) (run : Run) (book : Book) (trees : EndsAreOfTrees scene
     enough None e = tt
     enough (Some n) e =
         counted (λ k. k ≤ n) is_answer run.steps [] (omega arith)
-        (map_after MayAct (λ before (pair : Step × Reply). is_answer pair.0 ≡ true → suc (length (places is_answer before)) ≤ n)
+        (map_after Passes (λ before (pair : Step × Reply). is_answer pair.0 ≡ true → suc (length (places is_answer before)) ≤ n)
         (λ before pair m is.
         let room : has_room (Some n) (length (places is_answer before)) ≡ true = subst (λ o. has_room o (length (places is_answer before)) ≡ true) e (answer_room scene run book before pair.0 m is) in
         let lt = ltb-true (length (places is_answer before)) n room in
@@ -376,7 +376,7 @@ module _ (scene : Scene) (run : Run) (book : Book) (trees : EndsAreOfTrees scene
 
     ends : (t : ℕ) (tree : Tree) → numbered scene.trace t ≡ Some tree → (end : ℕ) × (places (is_end t) run.steps ≡ end ∷ []) × AllByRecursion (λ version. version < end) (seen_by_tree scene run t)
     ends t tree at =
-        let s = single (is_end t) run.steps (map_after MayAct (OnlyFirst (is_end t)) (λ before pair m. end_first scene run book before t pair.0 m) [] run.steps acts) (tree_ended t scene.trace tree run.steps at over) in
+        let s = single (is_end t) run.steps (map_after Passes (OnlyFirst (is_end t)) (λ before pair m. end_first scene run book before t pair.0 m) [] run.steps acts) (tree_ended t scene.trace tree run.steps at over) in
         let c = place_cut (is_end t) 1 run.steps s.0 [] s.1 in
         let m = here c.before c.pair c.rest c.cut in
         let above = end_above scene run book c.before t c.pair.0 m c.passes in

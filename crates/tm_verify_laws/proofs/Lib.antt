@@ -2,6 +2,7 @@ pub mod FirstLaws
 pub mod Splits
 pub mod DeskLaws
 pub mod DeskBack
+pub mod DeskActs
 pub mod Stays
 pub mod PlacedLaws
 pub mod BrokenLaws

@@ -1,5 +1,5 @@
 -- Which clause a run breaks first, and where.
-use Rattle.std.specs.Prelude.{◌≡◌, ℕ, zero, suc, ◌⊎◌, ◌<◌, ⊤, List, [], ◌∷◌, length, Some}
+use Rattle.std.specs.Prelude.{◌≡◌, ℕ, zero, suc, ◌⊎◌, ◌<◌, ⊤, List, [], ◌∷◌, length}
 use Rattle.std.specs.Option.{IfSome}
 use Rattle.std.specs.List.{AllByRecursion}
 use Rattle.tm_types.specs.declared.step.Take.{Take}
@@ -8,7 +8,7 @@ use Rattle.tm_legal.specs.Run.{Case, all_do_pids}
 use Rattle.tm_legal.specs.Legal.{Scene, Legal, cases_of, subject_of, LooksRise, TakeHolds, OwnSteps, TakeHears, EndsWith, last_look, TakesInOrder, VersionsRise, VerdictsHold, StepsAreAsked, StepsHavePlaces, SupervisorActs, AnswersAreHeard, OutcomesHold}
 use Rattle.tm_verify_laws.specs.First.{FirstFails}
 use Rattle.tm_verify_laws.specs.Placed.{PlacesFail}
-use Rattle.tm_verify_laws.specs.Desk.{desk_fault}
+use Rattle.tm_verify_laws.specs.Desk.{DeskFails}
 use Rattle.tm_verify_laws.specs.declared.broken.Broken.{Broken}
 
 -- ---- what one take has to meet
@@ -60,7 +60,7 @@ Breaks (suc (suc zero)) scene run k = FirstFails (TakeRises run) 1 (cases_of sce
 Breaks (suc (suc (suc zero))) scene run k = FirstFails (TakeHolds scene run.steps) 1 (cases_of scene run) k
 Breaks (suc (suc (suc (suc zero)))) scene run k = FirstFails (TakeOwns scene run) 1 (cases_of scene run) k
 Breaks (suc (suc (suc (suc (suc zero))))) scene run k = PlacesFail scene run k
-Breaks (suc (suc (suc (suc (suc (suc zero)))))) scene run k = desk_fault scene run ≡ Some k
+Breaks (suc (suc (suc (suc (suc (suc zero)))))) scene run k = DeskFails scene run k
 Breaks (suc (suc (suc (suc (suc (suc (suc zero))))))) scene run k =
     FirstFails (TakeHears scene run.steps) 1 run.takes k
 Breaks (suc (suc (suc (suc (suc (suc (suc (suc zero)))))))) scene run k =

@@ -4,7 +4,7 @@ ghost use Rattle.tm_types.specs.declared.step.Step.{Step};
 ghost use Rattle.tm_rules.specs.Grammar.{Grammar};
 ghost use Rattle.tm_legal.specs.Steps.{State, apply};
 ghost use Rattle.tm_verify_laws.specs.Broken.{BrokenIsNotLegal, BrokenOnce};
-ghost use Rattle.tm_verify_laws.specs.Desk.{DeskFaultDecides};
+ghost use Rattle.tm_verify_laws.specs.Desk.{DeskDecides, DeskFaultFinds, DeskFaultStays};
 ghost use Rattle.tm_verify_laws.specs.Looks.{OwnOrderDecides, FollowingDecides};
 ghost use Rattle.tm_verify_laws.specs.Placed.{PlacesDecide};
 ghost use Rattle.tm_verify_laws.specs.Scans.{PairsDecide, RisingDecides, CasesTakeAll, OwnNumbersAreSteps};
@@ -17,10 +17,13 @@ pub fn broken_runs()
 {}
 
 /// Laws, nothing to run: where each reply is right, the supervisor's clause holds exactly where no
-/// step is at fault; and where each own number is a step's, steps have their places exactly where
-/// each is placed and no line is missing.
+/// step is at fault and none is missing; the test of it computes the least step at fault, and no
+/// step after that one mends it; and where each own number is a step's, steps have their places
+/// exactly where each is placed and no line is missing.
 pub fn steps_decide()
-    ensures supervisor { DeskFaultDecides }
+    ensures supervisor { DeskDecides }
+    ensures computed { DeskFaultFinds }
+    ensures stays { DeskFaultStays }
     ensures places { PlacesDecide }
 {}
 

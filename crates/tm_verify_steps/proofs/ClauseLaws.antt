@@ -9,14 +9,14 @@ use Rattle.tm_legal.specs.Run.{Case, all_do_pids}
 use Rattle.tm_legal.specs.Legal.{Scene, Legal, cases_of, TakeHolds, TakeHears, TakesInOrder, LooksRise}
 use Rattle.tm_legal.proofs.Legality.{cases_take}
 use Rattle.tm_verify_laws.specs.First.{FirstFails, first_failing, AllAfter}
-use Rattle.tm_verify_laws.specs.Desk.{desk_fault}
+use Rattle.tm_verify_laws.specs.Desk.{DeskHolds, DeskFails}
 use Rattle.tm_verify_laws.specs.Placed.{IsPlaced, NoLineMissing, PlacesFail}
 use Rattle.tm_verify_laws.specs.Broken.{TakeRises, TakeOwns, TakeEnds, Clause, Breaks, IsFirstBroken}
 use Rattle.tm_verify_laws.specs.Scans.{pairs_fault, do_rise}
 use Rattle.tm_verify_laws.specs.declared.broken.Broken.{Broken}
 use Rattle.tm_verify_laws.proofs.FirstLaws.{scan_all, scan_fails}
 use Rattle.tm_verify_laws.proofs.Stays.{ends_are_of_trees}
-use Rattle.tm_verify_laws.proofs.DeskBack.{none_acts}
+use Rattle.tm_verify_laws.proofs.DeskActs.{hold_acts}
 use Rattle.tm_verify_laws.proofs.PlacedLaws.{placed_places}
 use Rattle.tm_verify_laws.proofs.TakeLaws.{own_are_steps, pairs_decide, rise_is, is_rise}
 use Rattle.tm_verify_notes.specs.declared.given.Given.{Given}
@@ -116,13 +116,13 @@ places_hold given h p =
 
 -- ---- 6: the supervisor
 
-pub desk_broken : (given : Given) (place : ℕ) → HoldBelow given 6 → Some place ≡ desk_fault (scene_of given) (run_of given) → IsFirstBroken (scene_of given) (run_of given) (broken_at 6 place)
-desk_broken given place h e = breaks_here given 6 place h (sym e)
+pub desk_broken : (given : Given) (place : ℕ) → HoldBelow given 6 → DeskFails (scene_of given) (run_of given) place → IsFirstBroken (scene_of given) (run_of given) (broken_at 6 place)
+desk_broken given place h f = breaks_here given 6 place h f
 
-pub desk_holds : (given : Given) → HoldBelow given 6 → None ≡ desk_fault (scene_of given) (run_of given) → HoldBelow given 7
-desk_holds given h e =
+pub desk_holds : (given : Given) → HoldBelow given 6 → DeskHolds (scene_of given) (run_of given) → HoldBelow given 7
+desk_holds given h d =
     let placed = h.each 5 (omega arith) in
-    next_below given 6 h (none_acts (scene_of given) (run_of given) (ends_are_of_trees (scene_of given) (history_of given) placed.replies) (sym e))
+    next_below given 6 h (hold_acts (scene_of given) (run_of given) (ends_are_of_trees (scene_of given) (history_of given) placed.replies) d)
 
 -- ---- 7: answers
 

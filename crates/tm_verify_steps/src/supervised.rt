@@ -1,11 +1,11 @@
 //! With which step the supervisor's steps and the trees' ends can't go on any more.
-ghost use Rattle.std.specs.Prelude.{◌≡◌, ◌+◌, ◌<◌, ◌^◌, ◌&&◌, [], not, length, Some, IfOk};
+ghost use Rattle.std.specs.Prelude.{◌≡◌, ◌+◌, ◌<◌, ◌^◌, ◌&&◌, [], not, length, Some, IfOk, MatchOption};
 ghost use Rattle.std.specs.Option.{option_copied};
 ghost use Rattle.tm_types.specs.declared.step.Step.{Step};
 ghost use Rattle.tm_types.specs.declared.step.Reply.{Reply};
 ghost use Rattle.tm_legal.specs.Legal.{is_of_supervisor, cases_of};
 ghost use Rattle.tm_verify_laws.specs.First.{first_failing};
-ghost use Rattle.tm_verify_laws.specs.Desk.{desk_fault};
+ghost use Rattle.tm_verify_laws.specs.Desk.{DeskHolds, DeskFails, desk_fault};
 ghost use Rattle.tm_verify_notes.specs.Given.{scene_of, history_of, run_of};
 ghost use Rattle.tm_verify_notes.specs.Stepping.{AreNoted};
 ghost use Rattle.tm_verify_steps.specs.Heights.{height, raised_all};
@@ -97,8 +97,7 @@ fn fault_by_book(
 }
 
 /// The least step that the clause of the supervisor can't have after those before it; 0 where only
-/// steps are missing. No more memory is told where a step has no note.
-#[tactic(auto, unfolding(tm_verify_laws::specs::Desk::desk_fault))]
+/// steps are missing; None where neither is. No more memory is told where a step has no note.
 pub(crate) fn desk_fault(
     alloc: Global,
     given: &Given<'_>,
@@ -108,7 +107,9 @@ pub(crate) fn desk_fault(
     requires trees { length given.now.trace.now + 1 < 2 ^ 32 }
     requires cases { cases.now ≡ cases_of (scene_of given.now) (run_of given.now) }
     requires noted { AreNoted (scene_of given.now) [] (history_of given.now) notes.now }
-    ensures { IfOk result (λ fault. fault ≡ desk_fault (scene_of given.now) (run_of given.now)) }
+    ensures { IfOk result (λ fault. MatchOption fault
+        (DeskHolds (scene_of given.now) (run_of given.now))
+        (DeskFails (scene_of given.now) (run_of given.now))) }
 {
     match given.book {
         None => Ok(first_of_supervisor(given.steps)),
