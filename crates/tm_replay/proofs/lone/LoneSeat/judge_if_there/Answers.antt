@@ -1,4 +1,7 @@
-use Rattle.std.proofs.Common.{refl}
+use Rattle.std.proofs.Common.{refl, sym, ◌∙◌}
+use Rattle.std.proofs.lemmas.List.{length-map}
+use Rattle.tm_types.specs.declared.step.Made.{Made}
+use Rattle.tm_types.specs.declared.step.Reply.{Reply}
 use Rattle.tm_machine.specs.Office.{list_of}
 use Rattle.tm_replay.proofs.Courses.{course-fitted}
 use Rattle.tm_replay.proofs.Passes.{shows-ok}
@@ -12,4 +15,4 @@ pub returns-in-Ok-clause-shows : goal.returns-in-Ok-clause-shows
 returns-in-Ok-clause-shows g c =
     let course = c.args.self.now.machine in
     shows-ok course.start course.start (list_of course) c.args.domain c.args.process.now c.args.request.now c.in-Ok.found c.version.result c.shown_if_there.result
-    refl c.in-Ok.ensures c.version.ensures c.shown_if_there.ensures.shown c.shown_if_there.ensures.version
+    refl c.in-Ok.ensures (c.version.ensures ∙ sym (length-map course.made (λ (pair : Made × Reply). pair.0))) c.shown_if_there.ensures.shown c.shown_if_there.ensures.version
