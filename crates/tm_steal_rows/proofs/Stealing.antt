@@ -1,7 +1,7 @@
 -- What a worker has played that takes processes from others: at its beginning, when others' steps
 -- follow, and when it plays something more.
 use Rattle.std.proofs.Common.{◌≡◌, ◌≤◌, ◌<◌, ◌+◌, ℕ, suc, List, [], ◌∷◌, ◌++◌, length, map, take, refl, sym, ap, ◌∙◌, subst, arith, append_assoc, append-nil}
-use Rattle.std.specs.Prelude.{Some, IsSome, flat_map}
+use Rattle.std.specs.Prelude.{Option, Some, IsSome, IfSome, flat_map}
 use Rattle.std.specs.List.{AllByRecursion}
 use Rattle.std.proofs.lemmas.Bool.{lt-ltb, le-leb}
 use Rattle.std.proofs.lemmas.Grind.{flat_map-append}
@@ -25,6 +25,7 @@ use Rattle.tm_legal.proofs.Walks.{All-map, IsLegalTake-later}
 use Rattle.tm_made.specs.Made.{history_made, steps_made, made_step}
 use Rattle.tm_made.proofs.Telling.{made-append, more_made}
 use Rattle.tm_made.proofs.Fits.{steps-last}
+use Rattle.tm_joint.specs.Makers.{Claims}
 use Rattle.tm_joint.proofs.Later.{claims-later, claims-push, made_step-later, made_step-last}
 use Rattle.tm_joint.proofs.Rows.{All-left, All-right}
 use Rattle.tm_verify_notes.specs.ProcessSituation.{ProcessSituation}
@@ -126,9 +127,15 @@ module _ (start : Start) (trace : Trace) where
         rises = rises-push IsSince event_seen since-lower (length shift.known) (length xs) all played (begun-within shift.known xs h.begins) h.seen since h.rises;
       }
 
-  -- a take, by what was known at its first look
-  pub steals-take : (start' : Start) (xs xs' ys : List Made) (own before own' : List ℕ) (place : RecordPlace) (since domain : ℕ) (now : ProcessSituation) (request : Request) (take' : Take) (known : List Made) → start' ≡ start → xs' ≡ xs → before ≡ own → Begins xs' ys → since ≡ length known → Begins xs' known → request_at trace place ≡ Some request → HasEnded start' (record { now = situation_of now; domain = domain; request = request; known = known; before = before }) ys own' take' → StealsOn start trace xs own ys own' (Event.Take (record { place = place; stood = now; since = since; take = take' }) ∷ [])
-  steals-take start' xs xs' ys own before own' place since domain now request take' known same at first begins long more asked ended =
+  -- a take that has ended, by what was known at its first look, whose version comes with it
+  abbrev pub EndedSince : Start → List Made → List Made → List ℕ → List ℕ → ℕ → ProcessSituation → Request → Take × ℕ → Type 0
+  EndedSince start' xs' ys before own' domain now request ended =
+      (known : List Made) × (ended.1 ≡ length known) × Begins xs' known
+      × HasEnded start' (record { now = situation_of now; domain = domain; request = request; known = known; before = before }) ys own' ended.0
+
+  pub steals-take : (start' : Start) (xs xs' ys : List Made) (own before own' : List ℕ) (place : RecordPlace) (since domain : ℕ) (now : ProcessSituation) (request : Request) (take' : Take) (found : Option (Take × ℕ)) → start' ≡ start → xs' ≡ xs → before ≡ own → Begins xs' ys → request_at trace place ≡ Some request → found ≡ Some (take', since) → IfSome found (EndedSince start' xs' ys before own' domain now request) → StealsOn start trace xs own ys own' (Event.Take (record { place = place; stood = now; since = since; take = take' }) ∷ [])
+  steals-take start' xs xs' ys own before own' place since domain now request take' found same at first begins asked is ended_so =
+      let (known, long, more, ended) = subst (λ (o : Option (Take × ℕ)). IfSome o (EndedSince start' xs' ys before own' domain now request)) is ended_so in
       let older : Begins xs known = subst (λ (l : List Made). Begins l known) at more in
       steals-one xs ys own own' (Event.Take (record { place = place; stood = now; since = since; take = take' }))
       (subst (λ (l : List Made). Begins l ys) at begins)
@@ -143,7 +150,7 @@ module _ (start : Start) (trace : Trace) where
       (ended.made ∙ ap (λ (ns : List ℕ). ns ++ own_numbers (take' ∷ [])) first)
       (λ who i belong claims.
       ended.makers who i (subst (λ pid. who (Maker.Process pid) ≡ Some i) ended.pid belong.0, tt)
-      (rw (first, older.1) (claims-later who i xs older.0 own claims)))
+      (subst (λ (l : List Made). Claims who i l before) (sym older.1) (subst (λ (ns : List ℕ). Claims who i (xs ++ older.0) ns) (sym first) (claims-later who i xs older.0 own claims))))
       (looks-since-lower (length xs) (length known) take' (begun-within xs known older) ended.fresh)
 
   -- an End
