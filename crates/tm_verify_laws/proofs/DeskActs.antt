@@ -1,23 +1,22 @@
 -- What the tests of the supervisor's steps compute is what may be done, and the least step at fault.
-use Rattle.std.proofs.Common.{◌≡◌, ◌<◌, ◌==◌, ℕ, suc, ◌+◌, Bool, true, false, ◌&&◌, ◌||◌, not, List, [], ◌∷◌, length, take, Option, Some, None, refl, sym, ap, ◌∙◌, subst, arith, inl, inr, ◌⊎◌, eqb-true}
+use Rattle.std.proofs.Common.{◌≡◌, ◌<◌, ◌==◌, ℕ, suc, ◌+◌, Bool, true, false, ◌&&◌, not, List, [], ◌∷◌, length, take, Option, Some, None, refl, sym, ap, ◌∙◌, subst, arith, inl, inr, ◌⊎◌, eqb-true}
 use Rattle.std.specs.Prelude.{if◌then◌else◌, MatchOption, is_some}
 use Rattle.std.specs.Option.{option_or, IfSome}
 use Rattle.std.specs.List.{AllByRecursion}
 use Rattle.std.proofs.lemmas.Bool.{ltb-true, lt-ltb}
 use Rattle.tm_word.specs.Matching.{is_empty}
-use Rattle.tm_types.specs.declared.request.Tree.{Tree}
 use Rattle.tm_types.specs.declared.step.Step.{Step}
 use Rattle.tm_types.specs.declared.step.Reply.{Reply}
 use Rattle.tm_types.specs.declared.step.Query.{Query}
 use Rattle.tm_types.specs.declared.step.Book.{Book}
 use Rattle.tm_types.specs.declared.step.Take.{Take}
 use Rattle.tm_types.specs.declared.step.Run.{Run}
-use Rattle.tm_rules.specs.Queries.{first_query, numbered}
+use Rattle.tm_rules.specs.Queries.{first_query}
 use Rattle.tm_rules.specs.Book.{book_answer, code_of}
 use Rattle.tm_legal.specs.Run.{History, places}
 use Rattle.tm_legal.specs.Legal.{Scene, is_attach, is_detach, is_answer, is_end, is_of_supervisor, seen_by_tree, SupervisorActs}
-use Rattle.tm_verify_laws.specs.First.{FirstFails, first_failing, AllAfter, FirstFailsAfter, first_failing_after}
-use Rattle.tm_verify_laws.specs.Desk.{state_after, HasSome, IsThere, AllEnded, MayAnswer, MayLeave, MayEnd, MayAct, IsAllowed, IsComplete, NeedsNoSupervisor, DeskHolds, DeskFails, has_some, is_there, trees_ended, has_room, is_stop, is_answered_so, may_leave, is_above, may_act, is_complete, desk_fault, EndsAreOfTrees}
+use Rattle.tm_verify_laws.specs.First.{AllAfter, FirstFailsAfter, first_failing_after}
+use Rattle.tm_verify_laws.specs.Desk.{state_after, HasSome, IsThere, AllEnded, MayAct, IsAllowed, IsComplete, NeedsNoSupervisor, DeskHolds, DeskFails, has_some, is_there, trees_ended, has_room, is_stop, is_answered_so, may_leave, is_above, may_act, is_complete, desk_fault, EndsAreOfTrees}
 use Rattle.tm_verify_laws.proofs.FirstLaws.{some_is, scan_all, scan_none, scan_fails, fails_scan, fails_front, after_all, after_none, after_fails, fails_after, after_front}
 use Rattle.tm_verify_laws.proofs.Splits.{not_false, not_true}
 use Rattle.tm_verify_laws.proofs.DeskLaws.{both, all, either, right_of, tree_ended, trees_all, below_all, all_below, stop_is, is_stop_of, none_is}
