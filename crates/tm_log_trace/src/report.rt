@@ -214,7 +214,9 @@ fn push_warning(alloc: Global, warning: &Warning, out: &mut Vec<u8>) -> Result<(
         Warning::Thread(global, pid, key) => push_thread(alloc, *global, *pid, *key, out),
         Warning::Handed(pid, ppid) => push_handed(alloc, *pid, *ppid, out),
         Warning::Again(key, next) => push_again(alloc, *key, *next, out),
-        Warning::Move(pid, domain, next, refused) => push_move(alloc, *pid, domain, *next, *refused, out),
+        Warning::Move(pid, domain, next, refused) => push_move(
+            alloc, *pid, domain, *next, *refused, out,
+        ),
         Warning::Parent(ppid, domain) => push_parent(alloc, *ppid, domain, out),
         Warning::Start(pid, domain) => push_start(alloc, *pid, domain, out),
         Warning::Arguments => push_arguments(out),
