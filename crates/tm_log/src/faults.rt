@@ -4,19 +4,27 @@ ghost use Rattle.tm_log.specs.Reasons.{reason_text, as_reason};
 ghost use Rattle.tm_log.specs.declared.faults.RecordFault.TheVariants.{NoMemory};
 
 use std::alloc::{AllocError, AllocFailed};
+use thiserror::Error;
 use tm_types::step::LineFault;
 
 /// Why a record is left out: it has too few or too many lines, its header, domain or request isn't
 /// one, the kernel set a flag of the domain by it, or it lacks the arguments of its execute or the
 /// target of its symlink.
-#[derive(Clone, Copy, Debug)]
+#[derive(Clone, Copy, Debug, Error)]
 pub enum Reason {
+    #[error("fewer than three lines")]
     Cut,
+    #[error("more than three lines")]
     Long,
+    #[error("the first line is no header of a record")]
     Header,
+    #[error("the second line is no domain")]
     Domain,
+    #[error("the kernel set a flag of the domain, or gave a new one its profile and groups")]
     Flag,
+    #[error("the third line is no request")]
     Request,
+    #[error("the header lacks the arguments of an execute, or the target of a symlink")]
     Arguments,
 }
 
@@ -38,9 +46,11 @@ impl Reason {
 }
 
 /// The reason why a record is left out, or want of memory.
-#[derive(Clone, Copy, Debug)]
+#[derive(Clone, Copy, Debug, Error)]
 pub enum RecordFault {
+    #[error("{0}")]
     Reason(Reason),
+    #[error("out of memory")]
     NoMemory,
 }
 

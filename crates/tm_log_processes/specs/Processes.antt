@@ -8,9 +8,9 @@ use Rattle.tm_log_processes.specs.declared.process.Process.{Process}
 abbrev pub no_ids : Ids
 no_ids = record { uid = 0; euid = 0; suid = 0; fsuid = 0; gid = 0; egid = 0; sgid = 0; fsgid = 0 }
 
--- a new process: no execute was its last move, and it wrote nowhere
+-- a new process: no execute was its last move, none was refused, and it wrote nowhere
 abbrev pub born : Origin → ℕ → Ids → Process
-born origin tree ids = record { origin = origin; tree = tree; ids = ids; is_open = false; is_writer = false; last_execute = None }
+born origin tree ids = record { origin = origin; tree = tree; ids = ids; is_open = false; is_writer = false; last_execute = None; was_refused = false }
 
 -- what stands for a process that isn't there
 abbrev pub nobody : Process

@@ -15,7 +15,8 @@ pub struct Origin {
 }
 
 /// A process: who it is, its tree, its ids, whether an execute was its last move, whether it wrote
-/// to `self_domain` since its last execute, and the place of its last execute.
+/// to `self_domain` since its last execute, the place of its last execute, and whether that was
+/// refused.
 #[derive(Clone, Copy)]
 pub struct Process {
     pub origin: Origin,
@@ -24,6 +25,7 @@ pub struct Process {
     pub is_open: bool,
     pub is_writer: bool,
     pub last_execute: Option<usize>,
+    pub was_refused: bool,
 }
 
 /// A place in the trace just before the line of an execute: the line, the tree, and the ids of the
@@ -62,6 +64,7 @@ pub fn born(origin: Origin, tree: usize, ids: Ids) -> Process
         is_open: false,
         is_writer: false,
         last_execute: None,
+        was_refused: false,
     }
 }
 

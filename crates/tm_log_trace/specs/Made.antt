@@ -121,8 +121,13 @@ again_said key next = numbered (codes "pid ") key ++ numbered (codes " is used a
 unfoldable pub goes_on_said : ℕ → DomainName → ℕ → Text
 goes_on_said pid domain next = numbered (codes "process ") pid ++ placed (codes " is in ") domain ++ numbered (codes " and goes on as ") next
 
-unfoldable pub move_said : ℕ → DomainName → ℕ → Text
-move_said pid domain next = goes_on_said pid domain next ++ plain (codes ": no execute to it is recorded")
+-- a kernel logs an execute as denied before it asks a supervisor
+unfoldable pub cause_said : Bool → Text
+cause_said refused =
+    if refused then plain (codes ": its last execute was denied, or allowed by a supervisor (see mark_log)") else plain (codes ": no execute to it is recorded")
+
+unfoldable pub move_said : ℕ → DomainName → ℕ → Bool → Text
+move_said pid domain next refused = goes_on_said pid domain next ++ cause_said refused
 
 unfoldable pub parent_said : ℕ → DomainName → Text
 parent_said pid domain = numbered (codes "process ") pid ++ placed (codes " has no record yet and is made in ") domain
@@ -139,7 +144,7 @@ warning_text (Warning.Manual pid domain) = manual_said pid domain
 warning_text (Warning.Thread global pid key) = thread_said global pid key
 warning_text (Warning.Handed pid ppid) = handed_said pid ppid
 warning_text (Warning.Again key next) = again_said key next
-warning_text (Warning.Move pid domain next) = move_said pid domain next
+warning_text (Warning.Move pid domain next refused) = move_said pid domain next refused
 warning_text (Warning.Parent ppid domain) = parent_said ppid domain
 warning_text (Warning.Start pid domain) = start_said pid domain
 warning_text Warning.Arguments = arguments_said

@@ -204,7 +204,7 @@ made s number told = naming told.key (made_as s number told)
 -- another one goes on for it
 unfoldable pub moved_on : Making → ℕ → Told → Making × ℕ
 moved_on s p told =
-    naming told.key (put (warned (with_invented s) (Warning.Move (at s.list p).origin.number told.domain (next_number s.invented)))
+    naming told.key (put (warned (with_invented s) (Warning.Move (at s.list p).origin.number told.domain (next_number s.invented) (at s.list p).was_refused))
     (record (at s.list p).origin { number = next_number s.invented }) told.domain)
 
 -- it is in the domain of its record, goes there, or another one goes on for it
@@ -274,6 +274,7 @@ executed s p line refused domain =
       places = with_place s.places (record { line = line; tree = (at s.list p).tree; ids = (at s.list p).ids }) domain;
       list = with_process s.list p (record (at s.list p) {
         last_execute = Some (length s.places.places);
+        was_refused = refused;
         is_open = (at s.list p).is_open || not refused;
         is_writer = (at s.list p).is_writer && refused;
       });

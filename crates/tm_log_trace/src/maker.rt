@@ -466,11 +466,19 @@ impl Maker {
     fn move_on(&mut self, alloc: Global, p: usize, told: &Told) -> Result<usize, NoMemory>
         ensures { IfOk result (λ q. moved_on self.old p told.now ≡ (self.new, q)) }
     {
-        let origin = self.list.at(p).origin;
+        let process = self.list.at(p);
         let number = self.invent();
-        let warning = Warning::Move(origin.number, told.domain.copy(alloc)?, number);
+        let warning = Warning::Move(
+            process.origin.number,
+            told.domain.copy(alloc)?,
+            number,
+            process.was_refused,
+        );
         self.warn(warning)?;
-        let origin = Origin { number, ..origin };
+        let origin = Origin {
+            number,
+            ..process.origin
+        };
         let next = self.put(alloc, origin, told.domain.copy(alloc)?)?;
         self.name(told.key, next)?;
         Ok(next)
@@ -631,6 +639,7 @@ impl Maker {
             p,
             Process {
                 last_execute,
+                was_refused: refused,
                 is_open: process.is_open || !refused,
                 is_writer: process.is_writer && refused,
                 ..process

@@ -15,8 +15,9 @@ pub enum Warning {
     Handed(u32, u32),
     /// A pid is used again by this new process.
     Again(u32, u32),
-    /// A process is in a domain to which no execute is recorded, and goes on as this new one.
-    Move(u32, DomainName, u32),
+    /// A process is in a domain to which no execute that was allowed is recorded, and goes on as
+    /// this new one; and whether its last execute is recorded as refused.
+    Move(u32, DomainName, u32, bool),
     /// A parent without a record is made in this domain.
     Parent(u32, DomainName),
     /// A process starts in a domain to which no execute is recorded.

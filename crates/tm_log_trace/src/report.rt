@@ -2,7 +2,7 @@
 //! counts.
 ghost use Rattle.std.specs.Prelude.{◌≡◌, ◌++◌, length, IfOk, OnOk, OnErr};
 ghost use Rattle.std.specs.List.{flat_map};
-ghost use Rattle.tm_log_trace.specs.Made.{plain, numbered, placed, source_text, left_text, tree_said, manual_said, thread_said, handed_said, again_said, goes_on_said, move_said, parent_said, start_said, arguments_said, warning_text, note_text, notes_until, lines_text, cut_text, counts_text, report_text};
+ghost use Rattle.tm_log_trace.specs.Made.{plain, numbered, placed, source_text, left_text, tree_said, manual_said, thread_said, handed_said, again_said, goes_on_said, cause_said, move_said, parent_said, start_said, arguments_said, warning_text, note_text, notes_until, lines_text, cut_text, counts_text, report_text};
 
 use crate::made::{Counts, Made};
 use crate::notes::{Note, Warning};
@@ -136,6 +136,20 @@ fn push_goes_on(
     push_number(alloc, b" and goes on as ", u64::from(next), out)
 }
 
+// Why it does. A kernel logs an execute as denied before it asks a supervisor.
+#[tactic(auto, unfolding(crate::specs::Made::cause_said))]
+fn push_cause(refused: bool, out: &mut Vec<u8>) -> Result<(), NoMemory>
+    ensures { OnOk result (out.new.items ≡ out.old.items ++ cause_said refused) }
+{
+    if refused {
+        return push_text(
+            b": its last execute was denied, or allowed by a supervisor (see mark_log)",
+            out,
+        );
+    }
+    push_text(b": no execute to it is recorded", out)
+}
+
 // A process that goes on as another one.
 #[tactic(auto, unfolding(crate::specs::Made::move_said))]
 fn push_move(
@@ -143,12 +157,13 @@ fn push_move(
     pid: u32,
     domain: &DomainName,
     next: u32,
+    refused: bool,
     out: &mut Vec<u8>,
 ) -> Result<(), NoMemory>
-    ensures { OnOk result (out.new.items ≡ out.old.items ++ move_said pid domain.now next) }
+    ensures { OnOk result (out.new.items ≡ out.old.items ++ move_said pid domain.now next refused) }
 {
     push_goes_on(alloc, pid, domain, next, out)?;
-    push_text(b": no execute to it is recorded", out)
+    push_cause(refused, out)
 }
 
 // A parent that is made.
@@ -199,7 +214,9 @@ fn push_warning(alloc: Global, warning: &Warning, out: &mut Vec<u8>) -> Result<(
         Warning::Thread(global, pid, key) => push_thread(alloc, *global, *pid, *key, out),
         Warning::Handed(pid, ppid) => push_handed(alloc, *pid, *ppid, out),
         Warning::Again(key, next) => push_again(alloc, *key, *next, out),
-        Warning::Move(pid, domain, next) => push_move(alloc, *pid, domain, *next, out),
+        Warning::Move(pid, domain, next, refused) => push_move(
+            alloc, *pid, domain, *next, *refused, out,
+        ),
         Warning::Parent(ppid, domain) => push_parent(alloc, *ppid, domain, out),
         Warning::Start(pid, domain) => push_start(alloc, *pid, domain, out),
         Warning::Arguments => push_arguments(out),

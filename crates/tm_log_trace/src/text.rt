@@ -10,14 +10,17 @@ ghost use Rattle.tm_log_trace.specs.declared.text.TextFault.TheVariants.{NoMemor
 use crate::made::{Made, make_trace};
 use crate::report::print_report;
 use std::alloc::{AllocError, Global};
+use thiserror::Error;
 use tm_log::{Log, read_log};
 use tm_trace::{print_trace, read_trace};
 use tm_types::request::TraceFault;
 
 /// Why no text is given: it isn't one of a trace, or memory ran out.
-#[derive(Clone, Copy, Debug)]
+#[derive(Clone, Copy, Debug, Error)]
 pub enum TextFault {
+    #[error("what was made is no trace")]
     Unreadable,
+    #[error("out of memory")]
     NoMemory,
 }
 

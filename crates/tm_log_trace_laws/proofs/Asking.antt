@@ -97,7 +97,7 @@ pub record Asked (recs : List Used) (next : ℕ) (s made : Making) : Type 0 wher
 -- a record's execute that wasn't refused is the last move of its process
 abbrev pub after_execute : Process → Bool → ℕ → Process
 after_execute old refused place =
-    record old { last_execute = Some place; is_open = old.is_open || not refused; is_writer = old.is_writer && refused }
+    record old { last_execute = Some place; was_refused = refused; is_open = old.is_open || not refused; is_writer = old.is_writer && refused }
 
 module _ (recs : List Used) (s : Making) (p : ℕ) (used : Used) (h : Ready recs (number_told used.«record».process.pid s.warnings) s p used.«record».domain ⊎ Ready recs (number_told used.«record».global_pid s.warnings) s p used.«record».domain) (source : s.source ≡ used.source) where
   abbrev F : ℕ → Type 0

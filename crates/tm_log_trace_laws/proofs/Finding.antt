@@ -294,7 +294,7 @@ moved-taken recs s p key one h key-low =
     next_is = next-is s.invented h.high
 
     warning : Warning
-    warning = Warning.Move (at s.list p).origin.number one.domain next
+    warning = Warning.Move (at s.list p).origin.number one.domain next (at s.list p).was_refused
 
     mid : Making
     mid = warned (with_invented s) warning

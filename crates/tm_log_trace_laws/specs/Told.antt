@@ -65,7 +65,7 @@ IsCutBefore (Some source) rest =
 -- after a warning a key that means this process means this one
 abbrev pub renamed : ℕ → ℕ → Warning → ℕ
 renamed key pid (Warning.Again old next) = if old == key then next else pid
-renamed key pid (Warning.Move old domain next) = if old == pid then next else pid
+renamed key pid (Warning.Move old domain next refused) = if old == pid then next else pid
 renamed key pid _ = pid
 
 abbrev pub number_from : ℕ → ℕ → List Note → ℕ

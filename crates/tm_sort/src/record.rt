@@ -5,6 +5,7 @@ ghost use Rattle.tm_sort.specs.Records.{record_cause, full_line, line_after, las
 ghost use Rattle.tm_sort.specs.declared.record.RecordFault.TheVariants.{NoMemory};
 
 use std::alloc::{AllocError, AllocFailed, Global};
+use thiserror::Error;
 use tm_list::{NoMemory, Seq};
 use tm_word::{Text, cut_at};
 
@@ -19,9 +20,11 @@ pub struct Record {
 }
 
 /// The first line with which no audit file can go on, from 1, or want of memory.
-#[derive(Clone, Copy, PartialEq, Eq)]
+#[derive(Clone, Copy, PartialEq, Eq, Debug, Error)]
 pub enum RecordFault {
+    #[error("line {0}")]
     Line(u64),
+    #[error("out of memory")]
     NoMemory,
 }
 

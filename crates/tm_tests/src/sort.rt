@@ -107,6 +107,18 @@ fn first_lines_that_no_audit_file_has(rt: HostRuntime) {
     }
 }
 
+#[test]
+fn messages_of_audit_files(rt: HostRuntime) -> Result<(), NoMemory> {
+    for (fault, wanted) in [
+        (RecordFault::Line(7), "line 7"),
+        (RecordFault::NoMemory, "out of memory"),
+    ] {
+        let said = format!(in rt.alloc(); "{fault}")?;
+        assert_eq!(rt; said.as_str(), wanted);
+    }
+    Ok(())
+}
+
 fn kind_place(kind: ScriptKind) -> u8 {
     match kind {
         ScriptKind::Keyword => 0,

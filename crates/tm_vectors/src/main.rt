@@ -1,7 +1,7 @@
 //! Compares what our readers, printers, patterns and controls answer with what the real TOMOYO
 //! answered, row by row of recorded tables, and reads and prints a recorded boot.
 //! Stands on the crates of patterns, domain names, policy lines and traces; rows of lines with
-//! `\(dir\)`, which came later than that kernel, are left out.
+//! `\(dir\)`, which neither that kernel nor Linux 6.12 takes, are left out.
 //! Promises that the report on a text is the defined one: of a table a line for each row whose
 //! recorded answer isn't ours, and how many agree and differ; of a trace whether it is printed as
 //! it was.

@@ -30,6 +30,10 @@ Standard error tells which records are left out and why, what was supposed
 where the log doesn't show it, and how many records, trees and processes there
 are. A log of more than a trace holds is cut there, and that is told.
 
+A kernel logs a request as denied before it asks a supervisor. An execute that
+he allowed counts as denied here, and where its process goes on behind it, a
+warning names mark_log, which marks the log by his answers: do that first.
+
 Exit statuses:
    0  done, whatever the log holds
    1  bad words
