@@ -1,15 +1,12 @@
 -- The contract of the top call: from how a command ends, and where the words are faulty.
-use Rattle.std.proofs.Common.{◌≡◌, ℕ, [], true, Ok, Err, refl, sym, append-nil}
-use Rattle.std.specs.Prelude.{Some, None, Result, IfOk}
+use Rattle.std.proofs.Common.{ℕ, [], Ok, Err, refl, sym, append-nil}
+use Rattle.std.specs.Prelude.{Some, None}
 use Rattle.tm_io.specs.Notes.{Noted}
 use Rattle.tm_call.specs.declared.status.Status.{Status}
-use Rattle.tm_call.specs.declared.words.How.{How}
 use Rattle.tm_call.specs.declared.words.Command.{Command}
-use Rattle.tm_call.specs.Words.{is_by_turns, is_alone, HasWorkers, IsSized}
 use Rattle.tm_call.specs.Calls.{Names}
 use Rattle.tm_call.specs.Ends.{Outside, Untouched}
 use Rattle.tomoyo.specs.Call.{answer_of, KeepsOthers, HasCause, IsExact, HasDone, FetchesInOrder, StoresInOrder, StoresLast, CallEnds, Called}
-use Rattle.tomoyo.specs.Closures.{Player, PlaysSo, PlaysFor}
 use Rattle.tomoyo.proofs.Causes.{cause-of, gen-ends}
 use Rattle.tomoyo.proofs.Exact.{exact-of, complete-by}
 use Rattle.tomoyo.proofs.Headline.{kept-of, headline-of}
@@ -57,25 +54,3 @@ called-faulty place old =
       stores_last = tt;
       ends = (refl, untouched);
     }
-
--- What plays
-
--- a closure that plays by turns plays what is done without threads
-pub alone-plays : {F E : Type 0} (calls : Player F E) (play : F) (read : Result Command ℕ) → ((how : How) → is_by_turns how ≡ true → PlaysSo calls how play)
-    → IfOk read (λ command. is_alone command ≡ true) → IfOk read (PlaysFor calls play)
-alone-plays calls play (Err place) plays alone = tt
-alone-plays calls play (Ok Command.Print) plays alone = tt
-alone-plays calls play (Ok (Command.Play how again)) plays alone = plays how alone
-alone-plays calls play (Ok Command.Verify) plays alone = tt
-alone-plays calls play (Ok Command.Sort) plays alone = tt
-alone-plays calls play (Ok (Command.Gen seed size)) plays alone = plays How.ByTurns refl
-
--- a closure that plays on threads too plays what words can name
-pub sized-plays : {F E : Type 0} (calls : Player F E) (play : F) (read : Result Command ℕ) → ((how : How) → HasWorkers how → PlaysSo calls how play)
-    → IfOk read IsSized → IfOk read (PlaysFor calls play)
-sized-plays calls play (Err place) plays sized = tt
-sized-plays calls play (Ok Command.Print) plays sized = tt
-sized-plays calls play (Ok (Command.Play how again)) plays sized = plays how sized
-sized-plays calls play (Ok Command.Verify) plays sized = tt
-sized-plays calls play (Ok Command.Sort) plays sized = tt
-sized-plays calls play (Ok (Command.Gen seed size)) plays sized = plays How.ByTurns tt

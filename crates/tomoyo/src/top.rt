@@ -33,37 +33,33 @@ fn fetch_for<S: Shelf>(alloc: Global, command: Command, shelf: &mut S) -> Result
     ensures no_store { Noted [] (S.stored shelf.old) (S.stored shelf.new) }
 {
     match command {
-        Command::Play {
-            how: How::ByTurns,
-            ..
-        } => {
-            let wants = [
-                Want::needed(FileName::Profile),
-                Want::optional(FileName::ExceptionPolicy),
-                Want::needed(FileName::DomainPolicy),
-                Want::optional(FileName::Manager),
-                Want::needed(FileName::Trace),
-                Want::optional(FileName::Edits),
-                Want::optional(FileName::Answers),
-                Want::optional(FileName::Schedule),
-            ];
-            fetch_all(alloc, shelf, &wants)
-        }
-        Command::Play {
-            how: How::OnThreads(_) | How::Stealing(_),
-            ..
-        } => {
-            let wants = [
-                Want::needed(FileName::Profile),
-                Want::optional(FileName::ExceptionPolicy),
-                Want::needed(FileName::DomainPolicy),
-                Want::optional(FileName::Manager),
-                Want::needed(FileName::Trace),
-                Want::optional(FileName::Edits),
-                Want::optional(FileName::Answers),
-            ];
-            fetch_all(alloc, shelf, &wants)
-        }
+        Command::Play { how, .. } => match how {
+            How::ByTurns => {
+                let wants = [
+                    Want::needed(FileName::Profile),
+                    Want::optional(FileName::ExceptionPolicy),
+                    Want::needed(FileName::DomainPolicy),
+                    Want::optional(FileName::Manager),
+                    Want::needed(FileName::Trace),
+                    Want::optional(FileName::Edits),
+                    Want::optional(FileName::Answers),
+                    Want::optional(FileName::Schedule),
+                ];
+                fetch_all(alloc, shelf, &wants)
+            }
+            How::OnThreads(_) | How::Stealing(_) => {
+                let wants = [
+                    Want::needed(FileName::Profile),
+                    Want::optional(FileName::ExceptionPolicy),
+                    Want::needed(FileName::DomainPolicy),
+                    Want::optional(FileName::Manager),
+                    Want::needed(FileName::Trace),
+                    Want::optional(FileName::Edits),
+                    Want::optional(FileName::Answers),
+                ];
+                fetch_all(alloc, shelf, &wants)
+            }
+        },
         Command::Print => {
             let wants = [
                 Want::needed(FileName::Profile),
