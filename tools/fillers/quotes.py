@@ -5,15 +5,15 @@ Behind a line `<!-- definition: CRATE MODULE NAME -->` of the page stands, inden
 `pub` and the words before it. A definition that has moved into a module of that name in another
 crate has that crate in its line again. Behind `<!-- contract: CRATE FILE NAME -->` stands what
 `crates/CRATE/src/FILE.rt` has of the function NAME without its body. Behind
-`<!-- clauses: CRATE FILE NAME -->` stands a table that is written by hand: its first two columns
-are the clauses of that function and the definition that each cites first, in order."""
+`<!-- fields: CRATE MODULE NAME -->` stands a table that is written by hand: its first two columns
+are the fields of that record and the definition that each cites first, in order."""
 import os
 import re
 
 from pages import Fault, TOP
 
-MARK = re.compile(r"<!-- (definition|contract|clauses): (\S+) (\S+) (\S+) -->")
-CLAUSE = re.compile(r"\s*ensures (\w+) \{ (\w+)")
+MARK = re.compile(r"<!-- (definition|contract|fields): (\S+) (\S+) (\S+) -->")
+FIELD = re.compile(r"\s*(\w+) : (\w+)")
 ROW = re.compile(r"\| `(\w+)` \| `(\w+)` \|")
 
 
@@ -83,12 +83,13 @@ def contract(crate, file, name):
     raise Fault("crate %s has no function %s in %s" % (crate, name, file))
 
 
-def check_clauses(names, rows):
-    """The first columns of a table are the clauses of a function."""
-    there = [match.groups() for match in map(CLAUSE.match, contract(*names)) if match]
+def check_fields(names, rows):
+    """The first columns of a table are the fields of a record."""
+    there = [match.groups() for match in map(FIELD.match, definition(*names)[1][1:]) if match]
     told = [match.groups() for match in map(ROW.match, rows) if match]
     if told != there:
-        raise Fault("the clauses of %s are %s" % (names[2], ", ".join("%s %s" % pair for pair in there)))
+        raise Fault("the fields of %s are %s" % (
+            names[2], ", ".join("%s %s" % pair for pair in there)))
 
 
 def rows_behind(lines, at):
@@ -107,8 +108,8 @@ def filled(page, _):
     out, is_quote, lines = [], False, page.split("\n")
     for at, line in enumerate(lines):
         kind, *names = mark.groups() if (mark := MARK.fullmatch(line)) else [None]
-        if kind == "clauses":
-            check_clauses(names, rows_behind(lines, at))
+        if kind == "fields":
+            check_fields(names, rows_behind(lines, at))
         if kind in ("definition", "contract"):
             if kind == "definition":
                 names[0], quote = definition(*names)

@@ -1,15 +1,17 @@
 -- The words of the commands.
-use Rattle.std.specs.Prelude.{ℕ, ◌<◌, ◌≤◌, ⊤, ◌^◌, Bool, true, false, List, [], ◌∷◌, Option, Some, None, Result, Ok, Err, codes, if◌then◌else◌, ◌==◌}
+use Rattle.std.specs.Prelude.{ℕ, ◌<◌, ◌≤◌, ⊤, ◌^◌, Bool, true, false, List, [], ◌∷◌, Option, Some, None}
+use Rattle.std.specs.Prelude.{Result, Ok, Err, codes, if◌then◌else◌, ◌==◌}
 use Rattle.std.specs.Str.{bytes_eq}
 use Rattle.tm_number.specs.Numbers.{plain_of}
+use Rattle.tm_call.specs.declared.words.How.{How}
 use Rattle.tm_call.specs.declared.words.Command.{Command}
 
 -- the command that is this word alone
 abbrev pub command_of : List ℕ → Result Command ℕ
 command_of word =
     if bytes_eq word (codes "print") then Ok Command.Print
-    else if bytes_eq word (codes "step") then Ok Command.Step
-    else if bytes_eq word (codes "learn") then Ok Command.Learn
+    else if bytes_eq word (codes "step") then Ok (Command.Play How.ByTurns false)
+    else if bytes_eq word (codes "learn") then Ok (Command.Play How.ByTurns true)
     else if bytes_eq word (codes "verify") then Ok Command.Verify
     else if bytes_eq word (codes "sort") then Ok Command.Sort
     else Err 0
@@ -56,29 +58,25 @@ gen_of (word ∷ words) = with_seed (seed_of word) words
 -- of these commands is done without threads
 abbrev pub read_words : List (List ℕ) → Result Command ℕ
 read_words [] = Err 0
-read_words (word ∷ words) = if bytes_eq word (codes "gen") then gen_of words else alone (command_of word) words
+read_words (word ∷ words) =
+    if bytes_eq word (codes "gen") then gen_of words else alone (command_of word) words
 
 -- a number of workers: a plain number from 1 to 16
 abbrev pub workers_of : List ℕ → Option ℕ
 workers_of word = not_none (plain_of 17 word)
 
--- the words after `replay`, a number of workers and `rerun`: none
-abbrev pub with_rerun : ℕ → List (List ℕ) → Result Command ℕ
-with_rerun workers [] = Ok (Command.ReplayRerun workers)
-with_rerun workers (word ∷ words) = Err 3
-
--- the words after `replay`, a number of workers and `steal`: none
-abbrev pub with_steal : ℕ → List (List ℕ) → Result Command ℕ
-with_steal workers [] = Ok (Command.ReplaySteal workers)
-with_steal workers (word ∷ words) = Err 3
+-- the words after the last word of a `replay`: none
+abbrev pub with_last : Command → List (List ℕ) → Result Command ℕ
+with_last command [] = Ok command
+with_last command (word ∷ words) = Err 3
 
 -- the words after `replay` and a number of workers: none, `rerun`, or `steal`
 abbrev pub with_workers : Option ℕ → List (List ℕ) → Result Command ℕ
 with_workers None words = Err 1
-with_workers (Some workers) [] = Ok (Command.Replay workers)
+with_workers (Some workers) [] = Ok (Command.Play (How.OnThreads workers) false)
 with_workers (Some workers) (word ∷ words) =
-    if bytes_eq word (codes "rerun") then with_rerun workers words
-    else if bytes_eq word (codes "steal") then with_steal workers words
+    if bytes_eq word (codes "rerun") then with_last (Command.Play (How.OnThreads workers) true) words
+    else if bytes_eq word (codes "steal") then with_last (Command.Play (How.Stealing workers) false) words
     else Err 2
 
 -- the words after `replay`: a number of workers, and `rerun` where its run is rerun, or `steal`
@@ -90,20 +88,29 @@ replay_of (word ∷ words) = with_workers (workers_of word) words
 -- the same where there are threads: the commands are `replay` and those without threads
 abbrev pub run_words : List (List ℕ) → Result Command ℕ
 run_words [] = Err 0
-run_words (word ∷ words) = if bytes_eq word (codes "replay") then replay_of words else read_words (word ∷ words)
+run_words (word ∷ words) =
+    if bytes_eq word (codes "replay") then replay_of words else read_words (word ∷ words)
+
+-- a trace that is played so is played without threads
+abbrev pub is_by_turns : How → Bool
+is_by_turns How.ByTurns = true
+is_by_turns (How.OnThreads workers) = false
+is_by_turns (How.Stealing workers) = false
 
 -- a command that is done without threads
 abbrev pub is_alone : Command → Bool
-is_alone (Command.Replay workers) = false
-is_alone (Command.ReplaySteal workers) = false
-is_alone (Command.ReplayRerun workers) = false
+is_alone (Command.Play how again) = is_by_turns how
 is_alone _ = true
+
+-- where there are threads, there are from 1 to 16 workers
+abbrev pub HasWorkers : How → Type 0
+HasWorkers How.ByTurns = ⊤
+HasWorkers (How.OnThreads workers) = (0 < workers) × (workers ≤ 16)
+HasWorkers (How.Stealing workers) = (0 < workers) × (workers ≤ 16)
 
 -- a command that words can name: `gen` has no more trees than 4,096, and `replay` from 1 to 16
 -- workers
 abbrev pub IsSized : Command → Type 0
+IsSized (Command.Play how again) = HasWorkers how
 IsSized (Command.Gen seed size) = size ≤ 4096
-IsSized (Command.Replay workers) = (0 < workers) × (workers ≤ 16)
-IsSized (Command.ReplaySteal workers) = (0 < workers) × (workers ≤ 16)
-IsSized (Command.ReplayRerun workers) = (0 < workers) × (workers ≤ 16)
 IsSized _ = ⊤

@@ -42,8 +42,7 @@ fn store_all<S: Shelf>(shelf: &mut S, stores: &[(FileName, Text)]) -> Result<(),
 /// Stores all files in order, and then puts the line.
 pub fn carry_out<S: Shelf, K: Sink>(outcome: &Outcome, shelf: &mut S, out: &mut K) -> Status
     ensures ends { CarriedOut outcome.now
-        (outside (S.file shelf.old) (S.faults shelf.old) (K.written out.old) (K.faults out.old))
-        (outside (S.file shelf.new) (S.faults shelf.new) (K.written out.new) (K.faults out.new)) result }
+        (outside S.Shelf K.Sink shelf.old out.old) (outside S.Shelf K.Sink shelf.new out.new) result }
     ensures stores { StoresOf (names_of outcome.now.stores) result (S.stored shelf.old)
         (S.stored shelf.new) }
     ensures no_fetch { Noted [] (S.fetched shelf.old) (S.fetched shelf.new) }

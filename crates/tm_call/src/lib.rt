@@ -12,4 +12,4 @@ mod words;
 pub use carry::{Outcome, carry_out};
 pub use fetches::{Want, fetch_all, take_text, text_at};
 pub use status::{OutName, Status, What};
-pub use words::{Command, read_any_command, read_command};
+pub use words::{Command, How, read_any_command, read_command};

@@ -1,23 +1,28 @@
 //! The words of a call: which command they name, or the first place at which no form goes on.
 ghost use Rattle.std.specs.Prelude.{◌≡◌, ◌<◌, ◌≤◌, true, map, string_bytes, IfOk, IfSome};
 ghost use Rattle.tm_call.specs.Words.{read_words, command_of, alone, seed_of, size_of, sized, gen_of, is_alone, IsSized};
-ghost use Rattle.tm_call.specs.Words.{run_words, workers_of, with_rerun, with_steal, replay_of};
+ghost use Rattle.tm_call.specs.Words.{run_words, workers_of, with_last, replay_of};
 
 use tm_number::plain_number;
 
-/// What the words can ask for; of `gen` with its seed and its size, and of `replay`, alone, with
-/// `steal` and with `rerun`, with its number of workers.
+/// How a trace is played: by turns on one thread, on so many threads that share its trees, or on so
+/// many that share the processes of its trees.
+#[derive(Clone, Copy)]
+pub enum How {
+    ByTurns,
+    OnThreads(u32),
+    Stealing(u32),
+}
+
+/// What the words can ask for: `step`, `learn` and `replay` play the trace, `learn` and `rerun` play
+/// it again with what was learned; `gen` has a seed and a size.
 #[derive(Clone, Copy)]
 pub enum Command {
     Print,
-    Step,
-    Learn,
+    Play { how: How, again: bool },
     Verify,
     Sort,
     Gen(u64, u32),
-    Replay(u32),
-    ReplaySteal(u32),
-    ReplayRerun(u32),
 }
 
 // The command of a first word that has no others after it.
@@ -30,10 +35,16 @@ fn named_by(word: &str) -> Result<Command, u64>
         return Ok(Command::Print);
     }
     if word == "step" {
-        return Ok(Command::Step);
+        return Ok(Command::Play {
+            how: How::ByTurns,
+            again: false,
+        });
     }
     if word == "learn" {
-        return Ok(Command::Learn);
+        return Ok(Command::Play {
+            how: How::ByTurns,
+            again: true,
+        });
     }
     if word == "verify" {
         return Ok(Command::Verify);
@@ -152,28 +163,14 @@ fn workers_of(word: &str) -> Option<u32>
     }
 }
 
-// The words after `replay`, a number of workers and `rerun`.
-fn with_rerun(workers: u32, others: &[String]) -> Result<Command, u64>
-    requires some { 0 < workers }
-    requires few { workers ≤ 16 }
-    ensures exact { result ≡ with_rerun workers (map string_bytes others.now) }
+// The words after the last word of a `replay`: none.
+fn with_last(command: Command, others: &[String]) -> Result<Command, u64>
+    requires { IsSized command }
+    ensures exact { result ≡ with_last command (map string_bytes others.now) }
     ensures sized { IfOk result IsSized }
 {
     match others {
-        [] => Ok(Command::ReplayRerun(workers)),
-        [_, ..] => Err(3),
-    }
-}
-
-// The words after `replay`, a number of workers and `steal`.
-fn with_steal(workers: u32, others: &[String]) -> Result<Command, u64>
-    requires some { 0 < workers }
-    requires few { workers ≤ 16 }
-    ensures exact { result ≡ with_steal workers (map string_bytes others.now) }
-    ensures sized { IfOk result IsSized }
-{
-    match others {
-        [] => Ok(Command::ReplaySteal(workers)),
+        [] => Ok(command),
         [_, ..] => Err(3),
     }
 }
@@ -188,12 +185,27 @@ fn replay_of(others: &[String]) -> Result<Command, u64>
         [word, others @ ..] => match workers_of(word) {
             None => Err(1),
             Some(workers) => match others {
-                [] => Ok(Command::Replay(workers)),
+                [] => Ok(Command::Play {
+                    how: How::OnThreads(workers),
+                    again: false,
+                }),
                 [word, others @ ..] => {
                     if word.as_str() == "rerun" {
-                        with_rerun(workers, others)
+                        with_last(
+                            Command::Play {
+                                how: How::OnThreads(workers),
+                                again: true,
+                            },
+                            others,
+                        )
                     } else if word.as_str() == "steal" {
-                        with_steal(workers, others)
+                        with_last(
+                            Command::Play {
+                                how: How::Stealing(workers),
+                                again: false,
+                            },
+                            others,
+                        )
                     } else {
                         Err(2)
                     }

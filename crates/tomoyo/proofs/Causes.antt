@@ -108,11 +108,7 @@ gen-end seed size old new (Status.BadRun line) cause = absurd cause.0
 
 pub gen-ends : (command : Command) (old new : Outside) (status : Status) → CommandCause command old new status → GenEnds (Ok command) old new status
 gen-ends (Command.Gen seed size) old new status cause = gen-end seed size old new status cause
-gen-ends Command.Step old new status cause = tt
-gen-ends Command.Learn old new status cause = tt
+gen-ends (Command.Play how again) old new status cause = tt
 gen-ends Command.Print old new status cause = tt
 gen-ends Command.Verify old new status cause = tt
 gen-ends Command.Sort old new status cause = tt
-gen-ends (Command.Replay workers) old new status cause = tt
-gen-ends (Command.ReplaySteal workers) old new status cause = tt
-gen-ends (Command.ReplayRerun workers) old new status cause = tt

@@ -11,11 +11,11 @@ use Rattle.tm_io.specs.Bytes.{then_bytes}
 use Rattle.tm_call.specs.declared.status.Status.{Status}
 use Rattle.tm_call.specs.declared.status.OutName.{OutName}
 use Rattle.tm_call.specs.declared.carry.Outcome.{Outcome}
-use Rattle.tomoyo.specs.declared.way.Way.{Way}
 use Rattle.tomoyo.specs.declared.play.Played.{Played}
 use Rattle.tomoyo.specs.declared.learn.RerunTexts.{RerunTexts}
 use Rattle.tomoyo.specs.declared.learn.Learned.{Learned}
 use Rattle.tomoyo.specs.declared.sort.Sorting.{Sorting}
+use Rattle.tm_call.specs.declared.words.How.{How}
 use Rattle.tm_call.specs.declared.words.Command.{Command}
 use Rattle.tm_call.specs.Fetches.{Texts, IsTold, TellsAll}
 use Rattle.tm_call.specs.Stores.{stored, Leaves, names_of, is_named}
@@ -28,7 +28,7 @@ use Rattle.tm_gen_laws.specs.Reading.{judging_reading}
 use Rattle.tomoyo.specs.Rerun.{Learns}
 use Rattle.tomoyo.specs.Print.{printed_policy}
 use Rattle.tomoyo.specs.Sort.{part_store, sort_reading}
-use Rattle.tomoyo.specs.Call.{wants_of, stored_by, step_stores, rerun_stores, learn_stores, with_stores, policy_stores, MakesPlayed, MakesLearned, Refuses, Allows, IsPlayed, IsLearned, IsGenerated, IsShown, IsJudged, IsSorted, HasDone}
+use Rattle.tomoyo.specs.Call.{played_wants, wants_of, stored_by, step_stores, rerun_stores, learn_stores, with_stores, policy_stores, Refuses, Allows, Hold, IsPlayed, IsLearned, IsGenerated, IsShown, IsJudged, IsSorted, IsDone, HasDone}
 use Rattle.tomoyo.proofs.Refusals.{refusal-kind}
 use Rattle.tomoyo.proofs.Named.{names-allowed, unnamed-by}
 use Rattle.tm_call.proofs.Others.{changed-other, not-first, not-later, stored-other, leaves-other, first-other, self-same}
@@ -90,7 +90,7 @@ are_once before [] = true
 are_once before (store ∷ after) = not (is_named (names_of before) store.0) && not (is_named (names_of after) store.0) && are_once (before ++ store ∷ []) after
 
 -- told files that are stored, each once, hold their texts
-all-hold : (before after : Texts) (old new : Files) → TellsAll old → Leaves (before ++ after) old new → are_once before after ≡ true → AllByRecursion (λ (store : FileName × List ℕ). new store.0 ≡ FileState.Holds store.1) after
+all-hold : (before after : Texts) (old new : Files) → TellsAll old → Leaves (before ++ after) old new → are_once before after ≡ true → Hold new after
 all-hold before [] old new tells leaves once = tt
 all-hold before (store ∷ after) old new tells leaves once =
     let parts = and_parts (not (is_named (names_of before) store.0) && not (is_named (names_of after) store.0)) (are_once (before ++ store ∷ []) after) once in
@@ -100,23 +100,22 @@ all-hold before (store ∷ after) old new tells leaves once =
     )
 
 -- a play that is done
-played-done : (way : Way) (command : Command) (old new : Outside) → ((texts : Texts) (outcome : Outcome) → Allows command texts outcome → MakesPlayed way texts outcome)
-    → Ends (wants_of command) (Refuses command) (Allows command) old new Status.Done → TellsAll old.files → IsPlayed way (wants_of command) old new
-played-done way command old new makes (Ends.Not_fetched stops untouched) tells = absurd stops.cause
-played-done way command old new makes (Ends.Refused texts given refused untouched) tells = absurd (refusal-kind command texts Status.Done refused)
-played-done way command old new makes (Ends.Made texts outcome given allowed carried) tells =
-    let (played, plays, is) = makes texts outcome allowed in
+played-done : (how : How) (old new : Outside) → Ends (wants_of (Command.Play how false)) (Refuses (Command.Play how false)) (Allows (Command.Play how false)) old new Status.Done → TellsAll old.files → IsPlayed how old new
+played-done how old new (Ends.Not_fetched stops untouched) tells = absurd stops.cause
+played-done how old new (Ends.Refused texts given refused untouched) tells = absurd (refusal-kind (Command.Play how false) texts Status.Done refused)
+played-done how old new (Ends.Made texts outcome given allowed carried) tells =
+    let (played, plays, is) = allowed.1 in
     let leaves : Leaves (step_stores played) old.files new.files = subst (λ (o : Outcome). Leaves o.stores old.files new.files) is carried.0 in
     record {
       played = played;
-      plays = subst (λ (ts : Texts). Plays way ts played) (texts-told old.files (wants_of command) texts tells given) plays;
+      plays = subst (λ (ts : Texts). Plays how ts played) (texts-told old.files (played_wants how) texts tells given) plays;
       stored = all-hold [] (step_stores played) old.files new.files tells leaves refl;
       summary = carried.1 ∙ ap (λ (o : Outcome). then_bytes o.line old.written) is;
     }
 
 -- what a play that is done has stored, without its rerun and with it
 learn-holds : (played : Played) (rerun : Option RerunTexts) (old new : Files) → TellsAll old → Leaves (step_stores played ++ rerun_stores rerun) old new
-    → AllByRecursion (λ (store : FileName × List ℕ). new store.0 ≡ FileState.Holds store.1) (step_stores played ++ rerun_stores rerun)
+    → Hold new (step_stores played ++ rerun_stores rerun)
 learn-holds played None old new tells leaves = all-hold [] (step_stores played ++ rerun_stores None) old new tells leaves refl
 learn-holds played (Some rerun) old new tells leaves = all-hold [] (step_stores played ++ rerun_stores (Some rerun)) old new tells leaves refl
 
@@ -128,16 +127,15 @@ learn-keeps learned old new leaves none =
     (leaves-other stores old new FileName.Run2 left refl, leaves-other stores old new FileName.Audit2 left refl)
 
 -- a play with a rerun that is done
-learned-done : (way : Way) (command : Command) (old new : Outside) → ((texts : Texts) (outcome : Outcome) → Allows command texts outcome → MakesLearned way texts outcome)
-    → Ends (wants_of command) (Refuses command) (Allows command) old new Status.Done → TellsAll old.files → IsLearned way (wants_of command) old new
-learned-done way command old new makes (Ends.Not_fetched stops untouched) tells = absurd stops.cause
-learned-done way command old new makes (Ends.Refused texts given refused untouched) tells = absurd (refusal-kind command texts Status.Done refused)
-learned-done way command old new makes (Ends.Made texts outcome given allowed carried) tells =
-    let (learned, learns, is) = makes texts outcome allowed in
+learned-done : (how : How) (old new : Outside) → Ends (wants_of (Command.Play how true)) (Refuses (Command.Play how true)) (Allows (Command.Play how true)) old new Status.Done → TellsAll old.files → IsLearned how old new
+learned-done how old new (Ends.Not_fetched stops untouched) tells = absurd stops.cause
+learned-done how old new (Ends.Refused texts given refused untouched) tells = absurd (refusal-kind (Command.Play how true) texts Status.Done refused)
+learned-done how old new (Ends.Made texts outcome given allowed carried) tells =
+    let (learned, learns, is) = allowed.1 in
     let leaves : Leaves (learn_stores learned) old.files new.files = subst (λ (o : Outcome). Leaves o.stores old.files new.files) is carried.0 in
     record {
       learned = learned;
-      learns = subst (λ (ts : Texts). Learns way ts learned) (texts-told old.files (wants_of command) texts tells given) learns;
+      learns = subst (λ (ts : Texts). Learns how ts learned) (texts-told old.files (played_wants how) texts tells given) learns;
       stored = learn-holds learned.played learned.rerun old.files new.files tells leaves;
       kept = learn-keeps learned old.files new.files leaves;
       summary = carried.1 ∙ ap (λ (o : Outcome). then_bytes o.line old.written) is;
@@ -236,26 +234,15 @@ print-done old new (Ends.Made texts outcome given allowed carried) tells =
       counts = carried.1 ∙ ap (λ (o : Outcome). then_bytes o.line old.written) allowed.1.2;
     }
 
--- how a call that is done ends
-done-ends : (command : Command) (old new : Outside) (status : Status) → Ends (wants_of command) (Refuses command) (Allows command) old new status → status ≡ Status.Done → Ends (wants_of command) (Refuses command) (Allows command) old new Status.Done
-done-ends command old new status ends is = subst (λ (s : Status). Ends (wants_of command) (Refuses command) (Allows command) old new s) is ends
+-- what a command that is done has done
+done-of : (command : Command) (old new : Outside) → Ends (wants_of command) (Refuses command) (Allows command) old new Status.Done → TellsAll old.files → IsDone command old new
+done-of Command.Print old new ends tells = print-done old new ends tells
+done-of (Command.Play how false) old new ends tells = played-done how old new ends tells
+done-of (Command.Play how true) old new ends tells = learned-done how old new ends tells
+done-of Command.Verify old new ends tells = verify-done old new ends tells
+done-of Command.Sort old new ends tells = sort-done old new ends tells
+done-of (Command.Gen seed size) old new ends tells = gen-done seed size old new ends tells
 
 pub headline-of : (command : Command) (old new : Outside) (status : Status) → Ends (wants_of command) (Refuses command) (Allows command) old new status → HasDone (Ok command) old new status
-headline-of Command.Step old new status ends = λ tells is.
-    played-done Way.ByTurns Command.Step old new (λ texts outcome allowed. allowed.1) (done-ends Command.Step old new status ends is) tells
-headline-of Command.Learn old new status ends = λ tells is.
-    learned-done Way.ByTurns Command.Learn old new (λ texts outcome allowed. allowed.1) (done-ends Command.Learn old new status ends is) tells
-headline-of (Command.Gen seed size) old new status ends = λ tells is.
-    gen-done seed size old new (done-ends (Command.Gen seed size) old new status ends is) tells
-headline-of Command.Verify old new status ends = λ tells is.
-    verify-done old new (done-ends Command.Verify old new status ends is) tells
-headline-of Command.Sort old new status ends = λ tells is.
-    sort-done old new (done-ends Command.Sort old new status ends is) tells
-headline-of Command.Print old new status ends = λ tells is.
-    print-done old new (done-ends Command.Print old new status ends is) tells
-headline-of (Command.Replay workers) old new status ends = λ tells is.
-    played-done Way.OnThreads (Command.Replay workers) old new (λ texts outcome allowed. allowed.1) (done-ends (Command.Replay workers) old new status ends is) tells
-headline-of (Command.ReplaySteal workers) old new status ends = λ tells is.
-    played-done Way.OnThreads (Command.ReplaySteal workers) old new (λ texts outcome allowed. allowed.1) (done-ends (Command.ReplaySteal workers) old new status ends is) tells
-headline-of (Command.ReplayRerun workers) old new status ends = λ tells is.
-    learned-done Way.OnThreads (Command.ReplayRerun workers) old new (λ texts outcome allowed. allowed.1) (done-ends (Command.ReplayRerun workers) old new status ends is) tells
+headline-of command old new status ends = λ tells is.
+    done-of command old new (subst (λ (s : Status). Ends (wants_of command) (Refuses command) (Allows command) old new s) is ends) tells

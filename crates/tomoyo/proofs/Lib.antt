@@ -1,3 +1,4 @@
+pub mod HowLaws
 pub mod Refusals
 pub mod RefusedCalls
 pub mod Named
@@ -8,5 +9,5 @@ pub mod Headline
 pub mod ReadBack
 pub mod Playing
 pub mod Rerunning
-pub mod WayLaws
 pub mod Verified
+pub mod Called

@@ -31,15 +31,12 @@ AreWithRerun names = (names ≡ run_files ++ rerun_files) ⊎ (names ≡ run_fil
 
 -- the names of an outcome's stores
 abbrev pub AreStored : Command → List FileName → Type 0
-AreStored Command.Step names = names ≡ stored_by Command.Step
 AreStored Command.Print names = names ≡ stored_by Command.Print
 AreStored Command.Verify names = names ≡ stored_by Command.Verify
 AreStored (Command.Gen seed size) names = names ≡ stored_by (Command.Gen seed size)
 AreStored Command.Sort names = (rules : List Rule) × (names ≡ map FileName.AuditPart (named_numbers rules))
-AreStored Command.Learn names = AreWithRerun names
-AreStored (Command.Replay workers) names = names ≡ stored_by (Command.Replay workers)
-AreStored (Command.ReplaySteal workers) names = names ≡ stored_by (Command.ReplaySteal workers)
-AreStored (Command.ReplayRerun workers) names = AreWithRerun names
+AreStored (Command.Play how false) names = names ≡ run_files
+AreStored (Command.Play how true) names = AreWithRerun names
 
 learned-names : (learned : Learned) (rerun : Option RerunTexts) → learned.rerun ≡ rerun → AreWithRerun (names_of (learn_stores learned))
 learned-names learned None e = inr (ap (λ (r : Option RerunTexts). names_of (step_stores learned.played ++ rerun_stores r)) e)
@@ -56,15 +53,12 @@ sorted-names sorting = part-names sorting.rules sorting.records (named_numbers s
 
 -- an outcome stores the command's files
 pub names-allowed : (command : Command) (texts : Texts) (outcome : Outcome) → Allows command texts outcome → AreStored command (names_of outcome.stores)
-names-allowed Command.Step texts outcome allowed = ap (λ (o : Outcome). names_of o.stores) allowed.1.2
+names-allowed (Command.Play how false) texts outcome allowed = ap (λ (o : Outcome). names_of o.stores) allowed.1.2
 names-allowed Command.Print texts outcome allowed = ap (λ (o : Outcome). names_of o.stores) allowed.1.2
 names-allowed Command.Verify texts outcome allowed = ap (λ (o : Outcome). names_of o.stores) allowed.1.4
 names-allowed (Command.Gen seed size) texts outcome allowed = ap (λ (o : Outcome). names_of o.stores) allowed.1.2
 names-allowed Command.Sort texts outcome allowed = (allowed.1.0.rules, ap (λ (o : Outcome). names_of o.stores) allowed.1.2 ∙ sorted-names allowed.1.0)
-names-allowed Command.Learn texts outcome allowed = subst (λ (o : Outcome). AreWithRerun (names_of o.stores)) (sym allowed.1.2) (learned-names allowed.1.0 allowed.1.0.rerun refl)
-names-allowed (Command.Replay workers) texts outcome allowed = ap (λ (o : Outcome). names_of o.stores) allowed.1.2
-names-allowed (Command.ReplaySteal workers) texts outcome allowed = ap (λ (o : Outcome). names_of o.stores) allowed.1.2
-names-allowed (Command.ReplayRerun workers) texts outcome allowed = subst (λ (o : Outcome). AreWithRerun (names_of o.stores)) (sym allowed.1.2) (learned-names allowed.1.0 allowed.1.0.rerun refl)
+names-allowed (Command.Play how true) texts outcome allowed = subst (λ (o : Outcome). AreWithRerun (names_of o.stores)) (sym allowed.1.2) (learned-names allowed.1.0 allowed.1.0.rerun refl)
 
 -- Names of the first files among all
 
@@ -118,27 +112,21 @@ with-rerun-unnamed names name (inr is) e = ap (λ (ns : List FileName). is_named
 
 -- a name of the stores is one of the command's files
 pub named-by : (command : Command) (names : List FileName) (name : FileName) → AreStored command names → is_named names name ≡ true → is_named (stored_by command) name ≡ true
-named-by Command.Step names name is e = ap (λ (ns : List FileName). is_named ns name) (sym is) ∙ e
+named-by (Command.Play how false) names name is e = ap (λ (ns : List FileName). is_named ns name) (sym is) ∙ e
 named-by Command.Print names name is e = ap (λ (ns : List FileName). is_named ns name) (sym is) ∙ e
 named-by Command.Verify names name is e = ap (λ (ns : List FileName). is_named ns name) (sym is) ∙ e
 named-by (Command.Gen seed size) names name is e = ap (λ (ns : List FileName). is_named ns name) (sym is) ∙ e
 named-by Command.Sort names name (rules, is) e = part-named (is_part rules) part_numbers name (ap (λ (ns : List FileName). is_named ns name) (sym is) ∙ e)
-named-by Command.Learn names name is e = with-rerun-named names name is e
-named-by (Command.Replay workers) names name is e = ap (λ (ns : List FileName). is_named ns name) (sym is) ∙ e
-named-by (Command.ReplaySteal workers) names name is e = ap (λ (ns : List FileName). is_named ns name) (sym is) ∙ e
-named-by (Command.ReplayRerun workers) names name is e = with-rerun-named names name is e
+named-by (Command.Play how true) names name is e = with-rerun-named names name is e
 
 -- and one that is none of these isn't stored
 pub unnamed-by : (command : Command) (names : List FileName) (name : FileName) → AreStored command names → is_named (stored_by command) name ≡ false → is_named names name ≡ false
-unnamed-by Command.Step names name is e = ap (λ (ns : List FileName). is_named ns name) is ∙ e
+unnamed-by (Command.Play how false) names name is e = ap (λ (ns : List FileName). is_named ns name) is ∙ e
 unnamed-by Command.Print names name is e = ap (λ (ns : List FileName). is_named ns name) is ∙ e
 unnamed-by Command.Verify names name is e = ap (λ (ns : List FileName). is_named ns name) is ∙ e
 unnamed-by (Command.Gen seed size) names name is e = ap (λ (ns : List FileName). is_named ns name) is ∙ e
 unnamed-by Command.Sort names name (rules, is) e = ap (λ (ns : List FileName). is_named ns name) is ∙ part-unnamed (is_part rules) part_numbers name e
-unnamed-by Command.Learn names name is e = with-rerun-unnamed names name is e
-unnamed-by (Command.Replay workers) names name is e = ap (λ (ns : List FileName). is_named ns name) is ∙ e
-unnamed-by (Command.ReplaySteal workers) names name is e = ap (λ (ns : List FileName). is_named ns name) is ∙ e
-unnamed-by (Command.ReplayRerun workers) names name is e = with-rerun-unnamed names name is e
+unnamed-by (Command.Play how true) names name is e = with-rerun-unnamed names name is e
 
 -- Calls
 

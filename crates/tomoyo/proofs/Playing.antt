@@ -6,13 +6,13 @@ use Rattle.tm_types.specs.declared.step.Book.{Book}
 use Rattle.tm_types.specs.declared.step.Run.{Run}
 use Rattle.tm_types.specs.declared.step.Start.{Start}
 use Rattle.tm_types.specs.declared.step.Turn.{Turn}
-use Rattle.tm_legal.specs.Legal.{Scene, Legal, NoLookBeforeAttach, final_policy}
+use Rattle.tm_legal.specs.Legal.{Scene, Legal, final_policy}
 use Rattle.tm_legal.specs.Play.{Player, CanPlay, turns, run_of}
 use Rattle.tm_legal.specs.Play as core
 use Rattle.tm_steal.specs.Machine.{Course}
 use Rattle.tm_verify.specs.Scenes.{IsReached}
 use Rattle.tm_verify.specs.Scenes as scenes
-use Rattle.tomoyo.specs.declared.way.Way.{Way}
+use Rattle.tm_call.specs.declared.words.How.{How}
 use Rattle.tomoyo.specs.declared.play.Played.{Played}
 use Rattle.tm_gen_laws.specs.CallInputLoaded.{Loaded}
 use Rattle.tm_gen_laws.specs.Reading.{start_of, scene_of}
@@ -32,7 +32,7 @@ moved P loaded start book same by h =
 -- the run of a player that was played out from its start
 pub play-of : {E : Type 0} (loaded : Loaded) (start : Start) (book : Book) (schedule : List Turn) (player : Player) (course : Course) (result : Result (Run × Start × Policy) E) → start ≡ start_of loaded → book ≡ loaded.book → schedule ≡ loaded.schedule
     → core.Plays (scenes.scene_of start loaded.trace book) schedule (run_of player) → Legal (scenes.scene_of start loaded.trace book) (run_of player) → final_policy (scenes.scene_of start loaded.trace book) (run_of player) ≡ course.state.policy
-    → IfOk result (λ ended. ended.0 ≡ run_of player) → IfOk result (λ ended. ended.2 ≡ course.state.policy) → IfOk result (λ ended. IsPlayOf Way.ByTurns loaded ended.0 ended.2)
+    → IfOk result (λ ended. ended.0 ≡ run_of player) → IfOk result (λ ended. ended.2 ≡ course.state.policy) → IfOk result (λ ended. IsPlayOf How.ByTurns loaded ended.0 ended.2)
 play-of loaded start book schedule player course (Ok ended) same by turned plays legal ends run_is policy_is =
     let played : core.Plays (scene_of loaded) schedule (run_of player) = moved (λ (scene : Scene). core.Plays scene schedule (run_of player)) loaded start book same by plays in
     let by_schedule : core.Plays (scene_of loaded) loaded.schedule (run_of player) = subst (λ (s : List Turn). core.Plays (scene_of loaded) s (run_of player)) turned played in
@@ -43,29 +43,13 @@ play-of loaded start book schedule player course (Ok ended) same by turned plays
     }
 play-of loaded start book schedule player course (Err error) same by turned plays legal ends run_is policy_is = tt
 
--- the run that threads have made of what was read
-pub threads-of : {E : Type 0} (loaded : Loaded) (start : Start) (book : Book) (result : Result (Run × Start × Policy) E) → start ≡ start_of loaded → book ≡ loaded.book
-    → IfOk result (λ ended. Legal (scenes.scene_of start loaded.trace book) ended.0) → IfOk result (λ ended. NoLookBeforeAttach ended.0) → IfOk result (λ ended. final_policy (scenes.scene_of start loaded.trace book) ended.0 ≡ ended.2)
-    → IfOk result (λ ended. IsPlayOf Way.OnThreads loaded ended.0 ended.2)
-threads-of loaded start book (Ok ended) same by legal first ends =
-    record {
-      came = first;
-      is_legal = moved (λ (scene : Scene). Legal scene ended.0) loaded start book same by legal;
-      ends = moved (λ (scene : Scene). final_policy scene ended.0 ≡ ended.2) loaded start book same by ends;
-    }
-threads-of loaded start book (Err error) same by legal first ends = tt
-
--- it can be played from the machine and the desk
-pub can-threads : (loaded : Loaded) (start : Start) (book : Book) → start ≡ start_of loaded → book ≡ loaded.book → CanPlay (scene_of loaded) → CanPlay (scenes.scene_of start loaded.trace book)
-can-threads loaded start book same by can = rw (same, by) can
-
 -- the texts of a run of what was read
-pub printed-so : {E : Type 0} (way : Way) (loaded : Loaded) (run : Run) (last opening : Policy) (result : Result Played E) → IsPlayOf way loaded run last → opening ≡ loaded.policy → IfOk result (IsPrinted run opening last) → IfOk result (PlaysLoaded way loaded)
-printed-so way loaded run last opening (Ok played) h same texts =
+pub printed-so : {E : Type 0} (how : How) (loaded : Loaded) (run : Run) (last opening : Policy) (result : Result Played E) → IsPlayOf how loaded run last → opening ≡ loaded.policy → IfOk result (IsPrinted run opening last) → IfOk result (PlaysLoaded how loaded)
+printed-so how loaded run last opening (Ok played) h same texts =
     record {
       run = run;
       came = h.came;
       is_legal = h.is_legal;
       printed = subst (λ (l : Policy). IsPrinted run loaded.policy l played) (sym h.ends) (subst (λ (o : Policy). IsPrinted run o last played) same texts);
     }
-printed-so way loaded run last opening (Err error) h same texts = tt
+printed-so how loaded run last opening (Err error) h same texts = tt

@@ -18,7 +18,7 @@ use Rattle.tm_run.specs.Typed.{is_typed}
 use Rattle.tm_run_laws.specs.Scenes.{IsReadScene}
 use Rattle.tm_run_laws.proofs.Runs.{legal_read}
 use Rattle.tm_gen_laws.specs.CallInputLoaded.{Loaded}
-use Rattle.tomoyo.specs.declared.way.Way.{Way}
+use Rattle.tm_call.specs.declared.words.How.{How}
 use Rattle.tomoyo.specs.declared.learn.Learned.{Learned}
 use Rattle.tomoyo.specs.declared.learn.RerunTexts.{RerunTexts}
 use Rattle.tm_call.specs.Fetches.{Texts, content}
@@ -68,11 +68,11 @@ rerun-scene texts loaded run opened domains live e homes =
     }
 
 -- the stored text of a rerun is read back as its run
-pub rerun-read-back : (way : Way) (texts : Texts) (loaded : Loaded) (learned : Learned) → StaysOpened → KeepsDomains → FindsDomains → AreRead texts loaded → (h : LearnsLoaded way loaded learned)
-    → IsReadBack way (final_policy (scene_of loaded) h.run) loaded.trace h.run learned.rerun h.rerun
-rerun-read-back way texts loaded learned opened domains live e h = go learned.rerun h.rerun
+pub rerun-read-back : (how : How) (texts : Texts) (loaded : Loaded) (learned : Learned) → StaysOpened → KeepsDomains → FindsDomains → AreRead texts loaded → (h : LearnsLoaded how loaded learned)
+    → IsReadBack how (final_policy (scene_of loaded) h.run) loaded.trace h.run learned.rerun h.rerun
+rerun-read-back how texts loaded learned opened domains live e h = go learned.rerun h.rerun
   where
-    go : (rerun : Option RerunTexts) (played : Reruns way (final_policy (scene_of loaded) h.run) loaded.trace h.run rerun) → IsReadBack way (final_policy (scene_of loaded) h.run) loaded.trace h.run rerun played
+    go : (rerun : Option RerunTexts) (played : Reruns how (final_policy (scene_of loaded) h.run) loaded.trace h.run rerun) → IsReadBack how (final_policy (scene_of loaded) h.run) loaded.trace h.run rerun played
     go None left = tt
     go (Some rerun) played =
         let scene : IsReadScene (again (final_policy (scene_of loaded) h.run) loaded.trace) = rerun-scene texts loaded h.run opened domains live e played.0 in

@@ -18,11 +18,12 @@ use Rattle.tm_call.specs.declared.fetches.Want.{Want}
 use Rattle.tm_call.specs.Fetches.{Texts, AllGiven, content}
 use Rattle.tm_gen_laws.specs.Policies.{policy_of}
 use Rattle.tm_gen_laws.specs.Reading.{refused, scene_reading, judging_reading}
-use Rattle.tm_gen_laws.proofs.Refusals.{IsLater, failed, was-refused, step-refused, scene-refused, load-refused, step-kind, HasFault, early, fault-line, fault-undefined, fault-early, IsRefusal, IsRunFault, judging-refused}
+use Rattle.tm_gen_laws.proofs.Refusals.{IsLater, failed, was-refused, scene-refused, load-refused, step-kind, HasFault, early, fault-line, fault-undefined, fault-early, IsRefusal, IsRunFault, judging-refused}
 use Rattle.tomoyo.specs.declared.sort.Sorting.{Sorting}
 use Rattle.tomoyo.specs.Sort.{of_audit, of_rules, few_rules, sort_reading}
-use Rattle.tomoyo.specs.Call.{scene_wants, wants_of, refusal_of, IsLoadFault, IsStepFault, IsSortFault}
+use Rattle.tomoyo.specs.Call.{played_wants, wants_of, refusal_of, IsLoadFault, IsStepFault, IsSortFault}
 use Rattle.tomoyo.specs.Call as call
+use Rattle.tomoyo.proofs.HowLaws.{played-refused}
 
 -- What `sort` refuses
 
@@ -118,12 +119,8 @@ scene-alone texts status none e = go (judging-refused texts status e)
     go (inr h) = absurd (none h)
 
 pub refusal-kind : (command : Command) (texts : Texts) (status : Status) → refusal_of command texts ≡ Some status → IsRefused status
-refusal-kind Command.Step texts status e = of-reading status (step-kind texts status (step-refused texts status e))
-refusal-kind Command.Learn texts status e = of-reading status (step-kind texts status (step-refused texts status e))
+refusal-kind (Command.Play how again) texts status e = of-reading status (step-kind texts status (played-refused how texts status e))
 refusal-kind (Command.Gen seed size) texts status e = absurd cc
-refusal-kind (Command.Replay workers) texts status e = of-reading status (step-kind texts status (scene-refused texts status e))
-refusal-kind (Command.ReplaySteal workers) texts status e = of-reading status (step-kind texts status (scene-refused texts status e))
-refusal-kind (Command.ReplayRerun workers) texts status e = of-reading status (step-kind texts status (scene-refused texts status e))
 refusal-kind Command.Verify texts status e = of-judging texts status (judging-refused texts status e)
 refusal-kind Command.Sort texts status e = of-sorting status (sort-refused texts status e)
 refusal-kind Command.Print texts status e = of-reading status (step-kind texts status (inl (load-refused (policy_of texts) status e)))
@@ -138,22 +135,14 @@ line-fault wants files texts file line reply given (fault, is, same) =
 
 pub bad-policy : (command : Command) (files : Files) (texts : Texts) (file : FileKind) (line : ℕ) (reply : EditReply) → AllGiven files (wants_of command) texts → refusal_of command texts ≡ Some (Status.BadPolicy file line reply)
     → IsLoadFault command files (LoadFault.Line file line reply)
-bad-policy Command.Step files texts file line reply given e =
-    line-fault (wants_of Command.Step) files texts file line reply given (early texts (Status.BadPolicy file line reply) (λ h. h) (step-refused texts (Status.BadPolicy file line reply) e))
-bad-policy Command.Learn files texts file line reply given e =
-    line-fault (wants_of Command.Learn) files texts file line reply given (early texts (Status.BadPolicy file line reply) (λ h. h) (step-refused texts (Status.BadPolicy file line reply) e))
+bad-policy (Command.Play how again) files texts file line reply given e =
+    line-fault (played_wants how) files texts file line reply given (early texts (Status.BadPolicy file line reply) (λ h. h) (played-refused how texts (Status.BadPolicy file line reply) e))
 bad-policy Command.Print files texts file line reply given e =
     line-fault (wants_of Command.Print) files texts file line reply given (load-refused (policy_of texts) (Status.BadPolicy file line reply) e)
 bad-policy Command.Verify files texts file line reply given e =
     line-fault (wants_of Command.Verify) files texts file line reply given (early texts (Status.BadPolicy file line reply) (λ h. h) (scene-refused texts (Status.BadPolicy file line reply) (scene-alone texts (Status.BadPolicy file line reply) (λ h. let other : Status.BadPolicy file line reply ≡ Status.BadRun h.0 = h.1 in absurd cc) e)))
 bad-policy Command.Sort files texts file line reply given e = absurd (sort-refused texts (Status.BadPolicy file line reply) e)
 bad-policy (Command.Gen seed size) files texts file line reply given e = absurd cc
-bad-policy (Command.Replay workers) files texts file line reply given e =
-    line-fault scene_wants files texts file line reply given (early texts (Status.BadPolicy file line reply) (λ h. h) (scene-refused texts (Status.BadPolicy file line reply) e))
-bad-policy (Command.ReplaySteal workers) files texts file line reply given e =
-    line-fault scene_wants files texts file line reply given (early texts (Status.BadPolicy file line reply) (λ h. h) (scene-refused texts (Status.BadPolicy file line reply) e))
-bad-policy (Command.ReplayRerun workers) files texts file line reply given e =
-    line-fault scene_wants files texts file line reply given (early texts (Status.BadPolicy file line reply) (λ h. h) (scene-refused texts (Status.BadPolicy file line reply) e))
 
 -- a live domain without its profile
 domain-fault : (wants : List Want) (files : Files) (texts : Texts) (domain : ℕ) → AllGiven files wants texts → HasFault texts (Status.UndefinedProfile domain)
@@ -163,22 +152,14 @@ domain-fault wants files texts domain given (fault, is, same) =
 
 pub undefined-profile : (command : Command) (files : Files) (texts : Texts) (domain : ℕ) → AllGiven files (wants_of command) texts → refusal_of command texts ≡ Some (Status.UndefinedProfile domain)
     → IsLoadFault command files (LoadFault.UndefinedProfile domain)
-undefined-profile Command.Step files texts domain given e =
-    domain-fault (wants_of Command.Step) files texts domain given (early texts (Status.UndefinedProfile domain) (λ h. h) (step-refused texts (Status.UndefinedProfile domain) e))
-undefined-profile Command.Learn files texts domain given e =
-    domain-fault (wants_of Command.Learn) files texts domain given (early texts (Status.UndefinedProfile domain) (λ h. h) (step-refused texts (Status.UndefinedProfile domain) e))
+undefined-profile (Command.Play how again) files texts domain given e =
+    domain-fault (played_wants how) files texts domain given (early texts (Status.UndefinedProfile domain) (λ h. h) (played-refused how texts (Status.UndefinedProfile domain) e))
 undefined-profile Command.Print files texts domain given e =
     domain-fault (wants_of Command.Print) files texts domain given (load-refused (policy_of texts) (Status.UndefinedProfile domain) e)
 undefined-profile Command.Verify files texts domain given e =
     domain-fault (wants_of Command.Verify) files texts domain given (early texts (Status.UndefinedProfile domain) (λ h. h) (scene-refused texts (Status.UndefinedProfile domain) (scene-alone texts (Status.UndefinedProfile domain) (λ h. let other : Status.UndefinedProfile domain ≡ Status.BadRun h.0 = h.1 in absurd cc) e)))
 undefined-profile Command.Sort files texts domain given e = absurd (sort-refused texts (Status.UndefinedProfile domain) e)
 undefined-profile (Command.Gen seed size) files texts domain given e = absurd cc
-undefined-profile (Command.Replay workers) files texts domain given e =
-    domain-fault scene_wants files texts domain given (early texts (Status.UndefinedProfile domain) (λ h. h) (scene-refused texts (Status.UndefinedProfile domain) e))
-undefined-profile (Command.ReplaySteal workers) files texts domain given e =
-    domain-fault scene_wants files texts domain given (early texts (Status.UndefinedProfile domain) (λ h. h) (scene-refused texts (Status.UndefinedProfile domain) e))
-undefined-profile (Command.ReplayRerun workers) files texts domain given e =
-    domain-fault scene_wants files texts domain given (early texts (Status.UndefinedProfile domain) (λ h. h) (scene-refused texts (Status.UndefinedProfile domain) e))
 
 -- `print` has no fault beside the policy
 print-early : (texts : Texts) (status : Status) → IsLater status → refusal_of Command.Print texts ≡ Some status → ⊥
@@ -186,69 +167,45 @@ print-early texts status later e = let (fault, is, same) = load-refused (policy_
 
 pub bad-trace : (command : Command) (files : Files) (texts : Texts) (line : ℕ) (kind : TraceKind) → AllGiven files (wants_of command) texts → refusal_of command texts ≡ Some (Status.BadTrace line kind)
     → IsStepFault command files (Status.BadTrace line kind)
-bad-trace Command.Step files texts line kind given e = (texts, given, e)
-bad-trace Command.Learn files texts line kind given e = (texts, given, e)
+bad-trace (Command.Play how again) files texts line kind given e = (texts, given, e)
 bad-trace Command.Print files texts line kind given e = print-early texts (Status.BadTrace line kind) tt e
 bad-trace Command.Verify files texts line kind given e = (texts, given, scene-alone texts (Status.BadTrace line kind) (λ h. let other : Status.BadTrace line kind ≡ Status.BadRun h.0 = h.1 in absurd cc) e)
 bad-trace Command.Sort files texts line kind given e = sort-refused texts (Status.BadTrace line kind) e
 bad-trace (Command.Gen seed size) files texts line kind given e = absurd cc
-bad-trace (Command.Replay workers) files texts line kind given e = (texts, given, e)
-bad-trace (Command.ReplaySteal workers) files texts line kind given e = (texts, given, e)
-bad-trace (Command.ReplayRerun workers) files texts line kind given e = (texts, given, e)
 
 pub bad-script : (command : Command) (files : Files) (texts : Texts) (name : FileName) (line : ℕ) (kind : ScriptKind) → AllGiven files (wants_of command) texts → refusal_of command texts ≡ Some (Status.BadScript name line kind)
     → IsStepFault command files (Status.BadScript name line kind)
-bad-script Command.Step files texts name line kind given e = (texts, given, e)
-bad-script Command.Learn files texts name line kind given e = (texts, given, e)
+bad-script (Command.Play how again) files texts name line kind given e = (texts, given, e)
 bad-script Command.Print files texts name line kind given e = print-early texts (Status.BadScript name line kind) tt e
 bad-script Command.Verify files texts name line kind given e = (texts, given, scene-alone texts (Status.BadScript name line kind) (λ h. let other : Status.BadScript name line kind ≡ Status.BadRun h.0 = h.1 in absurd cc) e)
 bad-script Command.Sort files texts name line kind given e = sort-refused texts (Status.BadScript name line kind) e
 bad-script (Command.Gen seed size) files texts name line kind given e = absurd cc
-bad-script (Command.Replay workers) files texts name line kind given e = (texts, given, e)
-bad-script (Command.ReplaySteal workers) files texts name line kind given e = (texts, given, e)
-bad-script (Command.ReplayRerun workers) files texts name line kind given e = (texts, given, e)
 
 pub too-many : (command : Command) (files : Files) (texts : Texts) (what : What) → AllGiven files (wants_of command) texts → refusal_of command texts ≡ Some (Status.TooMany what)
     → IsStepFault command files (Status.TooMany what) ⊎ IsSortFault command files (Status.TooMany what)
-too-many Command.Step files texts what given e = inl (texts, given, e)
-too-many Command.Learn files texts what given e = inl (texts, given, e)
+too-many (Command.Play how again) files texts what given e = inl (texts, given, e)
 too-many Command.Print files texts what given e = absurd (print-early texts (Status.TooMany what) tt e)
 too-many Command.Verify files texts what given e = inl (texts, given, scene-alone texts (Status.TooMany what) (λ h. let other : Status.TooMany what ≡ Status.BadRun h.0 = h.1 in absurd cc) e)
 too-many Command.Sort files texts what given e = inr (texts, given, e)
 too-many (Command.Gen seed size) files texts what given e = absurd cc
-too-many (Command.Replay workers) files texts what given e = inl (texts, given, e)
-too-many (Command.ReplaySteal workers) files texts what given e = inl (texts, given, e)
-too-many (Command.ReplayRerun workers) files texts what given e = inl (texts, given, e)
 
 pub bad-rules : (command : Command) (files : Files) (texts : Texts) (line : ℕ) (kind : ScriptKind) → AllGiven files (wants_of command) texts → refusal_of command texts ≡ Some (Status.BadRules line kind) → IsSortFault command files (Status.BadRules line kind)
-bad-rules Command.Step files texts line kind given e = step-kind texts (Status.BadRules line kind) (step-refused texts (Status.BadRules line kind) e)
-bad-rules Command.Learn files texts line kind given e = step-kind texts (Status.BadRules line kind) (step-refused texts (Status.BadRules line kind) e)
+bad-rules (Command.Play how again) files texts line kind given e = step-kind texts (Status.BadRules line kind) (played-refused how texts (Status.BadRules line kind) e)
 bad-rules Command.Print files texts line kind given e = step-kind texts (Status.BadRules line kind) (inl (load-refused (policy_of texts) (Status.BadRules line kind) e))
 bad-rules Command.Verify files texts line kind given e = step-kind texts (Status.BadRules line kind) (scene-refused texts (Status.BadRules line kind) (scene-alone texts (Status.BadRules line kind) (λ h. let other : Status.BadRules line kind ≡ Status.BadRun h.0 = h.1 in absurd cc) e))
 bad-rules Command.Sort files texts line kind given e = (texts, given, e)
 bad-rules (Command.Gen seed size) files texts line kind given e = absurd cc
-bad-rules (Command.Replay workers) files texts line kind given e = step-kind texts (Status.BadRules line kind) (scene-refused texts (Status.BadRules line kind) e)
-bad-rules (Command.ReplaySteal workers) files texts line kind given e = step-kind texts (Status.BadRules line kind) (scene-refused texts (Status.BadRules line kind) e)
-bad-rules (Command.ReplayRerun workers) files texts line kind given e = step-kind texts (Status.BadRules line kind) (scene-refused texts (Status.BadRules line kind) e)
 
 pub bad-audit : (command : Command) (files : Files) (texts : Texts) (line : ℕ) → AllGiven files (wants_of command) texts → refusal_of command texts ≡ Some (Status.BadAudit line) → IsSortFault command files (Status.BadAudit line)
-bad-audit Command.Step files texts line given e = step-kind texts (Status.BadAudit line) (step-refused texts (Status.BadAudit line) e)
-bad-audit Command.Learn files texts line given e = step-kind texts (Status.BadAudit line) (step-refused texts (Status.BadAudit line) e)
+bad-audit (Command.Play how again) files texts line given e = step-kind texts (Status.BadAudit line) (played-refused how texts (Status.BadAudit line) e)
 bad-audit Command.Print files texts line given e = step-kind texts (Status.BadAudit line) (inl (load-refused (policy_of texts) (Status.BadAudit line) e))
 bad-audit Command.Verify files texts line given e = step-kind texts (Status.BadAudit line) (scene-refused texts (Status.BadAudit line) (scene-alone texts (Status.BadAudit line) (λ h. let other : Status.BadAudit line ≡ Status.BadRun h.0 = h.1 in absurd cc) e))
 bad-audit Command.Sort files texts line given e = (texts, given, e)
 bad-audit (Command.Gen seed size) files texts line given e = absurd cc
-bad-audit (Command.Replay workers) files texts line given e = step-kind texts (Status.BadAudit line) (scene-refused texts (Status.BadAudit line) e)
-bad-audit (Command.ReplaySteal workers) files texts line given e = step-kind texts (Status.BadAudit line) (scene-refused texts (Status.BadAudit line) e)
-bad-audit (Command.ReplayRerun workers) files texts line given e = step-kind texts (Status.BadAudit line) (scene-refused texts (Status.BadAudit line) e)
 
 pub bad-run : (command : Command) (files : Files) (texts : Texts) (line : ℕ) → AllGiven files (wants_of command) texts → refusal_of command texts ≡ Some (Status.BadRun line) → call.IsRunFault command files (Status.BadRun line)
-bad-run Command.Step files texts line given e = step-kind texts (Status.BadRun line) (step-refused texts (Status.BadRun line) e)
-bad-run Command.Learn files texts line given e = step-kind texts (Status.BadRun line) (step-refused texts (Status.BadRun line) e)
+bad-run (Command.Play how again) files texts line given e = step-kind texts (Status.BadRun line) (played-refused how texts (Status.BadRun line) e)
 bad-run Command.Print files texts line given e = step-kind texts (Status.BadRun line) (inl (load-refused (policy_of texts) (Status.BadRun line) e))
 bad-run Command.Verify files texts line given e = (texts, given, e)
 bad-run Command.Sort files texts line given e = sort-refused texts (Status.BadRun line) e
 bad-run (Command.Gen seed size) files texts line given e = absurd cc
-bad-run (Command.Replay workers) files texts line given e = step-kind texts (Status.BadRun line) (scene-refused texts (Status.BadRun line) e)
-bad-run (Command.ReplaySteal workers) files texts line given e = step-kind texts (Status.BadRun line) (scene-refused texts (Status.BadRun line) e)
-bad-run (Command.ReplayRerun workers) files texts line given e = step-kind texts (Status.BadRun line) (scene-refused texts (Status.BadRun line) e)

@@ -26,7 +26,7 @@ use Rattle.tm_legal.proofs.Opened.{position-none, final_is_opened}
 use Rattle.tm_legal.proofs.Named.{final_is_named}
 use Rattle.tm_legal.proofs.Histories.{state_at-newest}
 use Rattle.tm_rerun.specs.Rerun.{rerun_text}
-use Rattle.tomoyo.specs.declared.way.Way.{Way}
+use Rattle.tm_call.specs.declared.words.How.{How}
 use Rattle.tomoyo.specs.declared.play.Played.{Played}
 use Rattle.tm_gen_laws.specs.CallInputLoaded.{Loaded}
 use Rattle.tomoyo.specs.declared.learn.RerunTexts.{RerunTexts}
@@ -89,17 +89,17 @@ rerun-needs loaded run last can ends =
 -- What a rerun gives
 
 -- what is played with nobody else is played alone
-pub alone-so : (way : Way) (policy : Policy) (trace : Trace) (loaded : Loaded) (run : Run) (last : Policy) → loaded ≡ nobody_else policy trace → IsPlayOf way loaded run last → IsPlayAlone way (alone tomoyo_grammar policy trace) run last
-alone-so way policy trace loaded run last is h =
-    let plays : IsPlayOf way (nobody_else policy trace) run last = subst (λ (l : Loaded). IsPlayOf way l run last) is h in
+pub alone-so : (how : How) (policy : Policy) (trace : Trace) (loaded : Loaded) (run : Run) (last : Policy) → loaded ≡ nobody_else policy trace → IsPlayOf how loaded run last → IsPlayAlone how (alone tomoyo_grammar policy trace) run last
+alone-so how policy trace loaded run last is h =
+    let plays : IsPlayOf how (nobody_else policy trace) run last = subst (λ (l : Loaded). IsPlayOf how l run last) is h in
     record { came = plays.came; is_legal = plays.is_legal; ends = plays.ends }
 
 pub can-alone : (policy : Policy) (trace : Trace) (loaded : Loaded) → loaded ≡ nobody_else policy trace → CanPlay (alone tomoyo_grammar policy trace) → CanPlay (scene_of loaded)
 can-alone policy trace loaded is can = subst (λ (l : Loaded). CanPlay (scene_of l)) (sym is) can
 
-pub rerun-so : (way : Way) (last : Policy) (trace : Trace) (run run2 : Run) (last2 : Policy) (rerun : RerunTexts) → homeless last trace ≡ None → IsPlayAlone way (again last trace) run2 last2 → IsRerunPrinted last run last2 run2 rerun
-    → Reruns way last trace run (Some rerun)
-rerun-so way last trace run run2 last2 rerun homes plays printed = (
+pub rerun-so : (how : How) (last : Policy) (trace : Trace) (run run2 : Run) (last2 : Policy) (rerun : RerunTexts) → homeless last trace ≡ None → IsPlayAlone how (again last trace) run2 last2 → IsRerunPrinted last run last2 run2 rerun
+    → Reruns how last trace run (Some rerun)
+rerun-so how last trace run run2 last2 rerun homes plays printed = (
   homes,
   record {
     run2 = run2;
@@ -138,31 +138,31 @@ clean-homes growing scene run can legal clean =
     let grows : Grows scene.policy (state_at scene run.steps (length run.steps)).policy = growing scene run can.grammar legal clean 0 (length run.steps) least most in
     homes-stay scene.policy (final_policy scene run) 0 scene.trace (subst (λ s. Grows scene.policy s.policy) (state_at-newest scene run.steps) grows) can.starts
 
-repeated-so : (way : Way) (loaded : Loaded) (run : Run) (rerun : Option RerunTexts) → CleanRunGrows → LearnedRunRepeats → CanPlay (scene_of loaded) → Legal (scene_of loaded) run
-    → (reruns : Reruns way (final_policy (scene_of loaded) run) loaded.trace run rerun) → IsTrue (is_plain loaded.policy) → IsTrue (is_clean run)
-    → IsRepeated way (scene_of loaded) (final_policy (scene_of loaded) run) loaded.trace run rerun reruns
-repeated-so way loaded run None growing repeats can legal left plain clean =
+repeated-so : (how : How) (loaded : Loaded) (run : Run) (rerun : Option RerunTexts) → CleanRunGrows → LearnedRunRepeats → CanPlay (scene_of loaded) → Legal (scene_of loaded) run
+    → (reruns : Reruns how (final_policy (scene_of loaded) run) loaded.trace run rerun) → IsTrue (is_plain loaded.policy) → IsTrue (is_clean run)
+    → IsRepeated how (scene_of loaded) (final_policy (scene_of loaded) run) loaded.trace run rerun reruns
+repeated-so how loaded run None growing repeats can legal left plain clean =
     let homes : homeless (final_policy (scene_of loaded) run) loaded.trace ≡ None = clean-homes growing (scene_of loaded) run can legal clean in
     absurd (none-there (homeless (final_policy (scene_of loaded) run) loaded.trace) homes left)
   where
     none-there : (o : Option ℕ) → o ≡ None → IsSome o → ⊥
     none-there None e there = absurd cc
     none-there (Some n) e there = absurd cc
-repeated-so way loaded run (Some rerun) growing repeats can legal played plain clean =
+repeated-so how loaded run (Some rerun) growing repeats can legal played plain clean =
     let h = played.1 in
     let repeated = repeats (scene_of loaded) run h.run2 can plain legal clean h.is_legal in
     (h.printed.run_is, h.printed.line_is ∙ ap (rerun_text h.run2) (h.printed.is_same.1 repeated.same), repeated)
 
 -- what was read is played and played again
-pub learned-so : (way : Way) (loaded : Loaded) (run : Run) (last opening : Policy) (played : Played) (rerun : Option RerunTexts) → CleanRunGrows → LearnedRunRepeats → CanPlay (scene_of loaded) → IsPlayOf way loaded run last → opening ≡ loaded.policy
-    → IsPrinted run opening last played → Reruns way last loaded.trace run rerun → LearnsLoaded way loaded (record { played = played; rerun = rerun })
-learned-so way loaded run last opening played rerun growing repeats can h same texts reruns =
-    let left : Reruns way (final_policy (scene_of loaded) run) loaded.trace run rerun = subst (λ (p : Policy). Reruns way p loaded.trace run rerun) (sym h.ends) reruns in
+pub learned-so : (how : How) (loaded : Loaded) (run : Run) (last opening : Policy) (played : Played) (rerun : Option RerunTexts) → CleanRunGrows → LearnedRunRepeats → CanPlay (scene_of loaded) → IsPlayOf how loaded run last → opening ≡ loaded.policy
+    → IsPrinted run opening last played → Reruns how last loaded.trace run rerun → LearnsLoaded how loaded (record { played = played; rerun = rerun })
+learned-so how loaded run last opening played rerun growing repeats can h same texts reruns =
+    let left : Reruns how (final_policy (scene_of loaded) run) loaded.trace run rerun = subst (λ (p : Policy). Reruns how p loaded.trace run rerun) (sym h.ends) reruns in
     record {
       run = run;
       came = h.came;
       is_legal = h.is_legal;
       printed = subst (λ (l : Policy). IsPrinted run loaded.policy l played) (sym h.ends) (subst (λ (o : Policy). IsPrinted run o last played) same texts);
       rerun = left;
-      repeated = repeated-so way loaded run rerun growing repeats can h.is_legal left;
+      repeated = repeated-so how loaded run rerun growing repeats can h.is_legal left;
     }

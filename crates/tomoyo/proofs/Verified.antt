@@ -14,8 +14,8 @@ use Rattle.tm_verify.specs.Verified.{IsVerified}
 use Rattle.tm_gen.specs.Files.{generated}
 use Rattle.tm_gen_laws.specs.Generated.{generated_files}
 use Rattle.tm_call.specs.declared.status.Status.{Status}
+use Rattle.tm_call.specs.declared.words.How.{How}
 use Rattle.tm_call.specs.declared.words.Command.{Command}
-use Rattle.tm_call.specs.declared.fetches.Want.{Want}
 use Rattle.tm_call.specs.Fetches.{Texts, TellsAll, told, told_texts}
 use Rattle.tm_call.specs.Stores.{is_named}
 use Rattle.tm_call.specs.Ends.{Outside}
@@ -23,22 +23,23 @@ use Rattle.tm_gen_laws.specs.CallInputLoaded.{Loaded}
 use Rattle.tm_gen_laws.specs.Policies.{policy_of}
 use Rattle.tm_gen_laws.specs.Reading.{parts_reading, scene_reading, scene_of}
 use Rattle.tm_gen_laws.proofs.Readings.{step-scene, judging-read}
-use Rattle.tomoyo.specs.declared.way.Way.{Way}
 use Rattle.tomoyo.specs.Play.{reading_of}
 use Rattle.tomoyo.specs.Verify.{verdict_text}
-use Rattle.tomoyo.specs.Call.{scene_wants, wants_of, stored_by, IsPlayed, IsLearned, IsGenerated, IsJudged, HasDone, HoldsLegalRun, HoldsPlayedRun, LegalRuns}
+use Rattle.tomoyo.specs.Call.{scene_wants, played_wants, wants_of, stored_by, IsPlayed, IsLearned, IsGenerated, IsJudged, HasDone, HoldsLegalRun, HoldsPlayedRun, LegalRuns}
 
 -- Which files are read
 
--- the files that are played on threads are the same two times
+-- the files of a scene are the same two times
 same-told : (a b : Files) → a FileName.Profile ≡ b FileName.Profile → a FileName.ExceptionPolicy ≡ b FileName.ExceptionPolicy → a FileName.DomainPolicy ≡ b FileName.DomainPolicy → a FileName.Manager ≡ b FileName.Manager
     → a FileName.Trace ≡ b FileName.Trace → a FileName.Edits ≡ b FileName.Edits → a FileName.Answers ≡ b FileName.Answers → told_texts scene_wants a ≡ told_texts scene_wants b
 same-told a b profile exception domain manager trace edits answers = rw (profile, exception, domain, manager, trace, edits, answers) refl
 
--- nothing else is read of what `step` and `verify` fetch
-step-texts : (files : Files) → scene_reading (told_texts (wants_of Command.Step) files) ≡ scene_reading (told_texts scene_wants files)
+-- nothing else is read of what `verify` and what plays fetch
+played-texts : (how : How) (files : Files) → scene_reading (told_texts (played_wants how) files) ≡ scene_reading (told_texts scene_wants files)
 unfolding scene_reading parts_reading policy_of
-step-texts files = refl
+played-texts How.ByTurns files = refl
+played-texts (How.OnThreads workers) files = refl
+played-texts (How.Stealing workers) files = refl
 
 verify-texts : (files : Files) → scene_reading (told_texts (wants_of Command.Verify) files) ≡ scene_reading (told_texts scene_wants files)
 unfolding scene_reading parts_reading policy_of
@@ -46,19 +47,20 @@ verify-texts files = refl
 
 -- Runs that were played
 
--- what was read by a way is the scene without its schedule
-scene-of-way : (way : Way) (wants : List Want) (files : Files) (loaded : Loaded) → scene_reading (told_texts wants files) ≡ scene_reading (told_texts scene_wants files)
-    → reading_of way (told_texts wants files) ≡ Ok loaded
+-- what was read is the scene, and its schedule
+scene-played : (how : How) (files : Files) (loaded : Loaded) → reading_of how (told_texts (played_wants how) files) ≡ Ok loaded
     → (scene : Loaded) × (scene_reading (told_texts scene_wants files) ≡ Ok scene) × (scene_of scene ≡ scene_of loaded)
-scene-of-way Way.ByTurns wants files loaded same e = (record loaded { schedule = [] }, sym same ∙ step-scene (told_texts wants files) loaded e, refl)
-scene-of-way Way.OnThreads wants files loaded same e = (loaded, sym same ∙ e, refl)
+scene-played How.ByTurns files loaded e =
+    (record loaded { schedule = [] }, sym (played-texts How.ByTurns files) ∙ step-scene (told_texts (played_wants How.ByTurns) files) loaded e, refl)
+scene-played (How.OnThreads workers) files loaded e = (loaded, e, refl)
+scene-played (How.Stealing workers) files loaded e = (loaded, e, refl)
 
 -- a legal run of what was read is there
-holds-run : (way : Way) (wants : List Want) (old new : Files) (loaded : Loaded) (run : Run) (text : List ℕ) → scene_reading (told_texts wants old) ≡ scene_reading (told_texts scene_wants old)
-    → told_texts scene_wants new ≡ told_texts scene_wants old → reading_of way (told_texts wants old) ≡ Ok loaded → new FileName.Run ≡ FileState.Holds text
+holds-run : (how : How) (old new : Files) (loaded : Loaded) (run : Run) (text : List ℕ) → told_texts scene_wants new ≡ told_texts scene_wants old
+    → reading_of how (told_texts (played_wants how) old) ≡ Ok loaded → new FileName.Run ≡ FileState.Holds text
     → run_of text ≡ Ok run → text ≡ run_text run → Legal (scene_of loaded) run → HoldsPlayedRun new
-holds-run way wants old new loaded run text same kept read stored back printed legal =
-    let (scene, reads, is) = scene-of-way way wants old loaded same read in
+holds-run how old new loaded run text kept read stored back printed legal =
+    let (scene, reads, is) = scene-played how old loaded read in
     record {
       holds = record {
         loaded = scene;
@@ -74,15 +76,13 @@ holds-run way wants old new loaded run text same kept read stored back printed l
 abbrev pub Kept : Command → Outside → Outside → Type 0
 Kept command old new = (name : FileName) → is_named (stored_by command) name ≡ false → new.files name ≡ old.files name
 
-played-holds : (way : Way) (wants : List Want) (old new : Outside) → scene_reading (told_texts wants old.files) ≡ scene_reading (told_texts scene_wants old.files)
-    → told_texts scene_wants new.files ≡ told_texts scene_wants old.files → IsPlayed way wants old new → HoldsPlayedRun new.files
-played-holds way wants old new same kept done =
-    holds-run way wants old.files new.files done.plays.loaded done.plays.plays.run done.played.run same kept done.plays.read done.stored.0 done.plays.read_back done.plays.plays.printed.run_is done.plays.plays.is_legal
+played-holds : (how : How) (old new : Outside) → told_texts scene_wants new.files ≡ told_texts scene_wants old.files → IsPlayed how old new → HoldsPlayedRun new.files
+played-holds how old new kept done =
+    holds-run how old.files new.files done.plays.loaded done.plays.plays.run done.played.run kept done.plays.read done.stored.0 done.plays.read_back done.plays.plays.printed.run_is done.plays.plays.is_legal
 
-learned-holds : (way : Way) (wants : List Want) (old new : Outside) → scene_reading (told_texts wants old.files) ≡ scene_reading (told_texts scene_wants old.files)
-    → told_texts scene_wants new.files ≡ told_texts scene_wants old.files → IsLearned way wants old new → HoldsPlayedRun new.files
-learned-holds way wants old new same kept done =
-    holds-run way wants old.files new.files done.learns.loaded done.learns.learns.run done.learned.played.run same kept done.learns.read done.stored.0 done.learns.read_back done.learns.learns.printed.run_is done.learns.learns.is_legal
+learned-holds : (how : How) (old new : Outside) → told_texts scene_wants new.files ≡ told_texts scene_wants old.files → IsLearned how old new → HoldsPlayedRun new.files
+learned-holds how old new kept done =
+    holds-run how old.files new.files done.learns.loaded done.learns.learns.run done.learned.played.run kept done.learns.read done.stored.0 done.learns.read_back done.learns.learns.printed.run_is done.learns.learns.is_legal
 
 -- generated files without edits and answers are read as they were generated
 generated-texts : (seed size : ℕ) → scene_reading ((FileName.Profile, (generated seed size).profile) ∷ (FileName.ExceptionPolicy, (generated seed size).exception) ∷ (FileName.DomainPolicy, (generated seed size).domain)
@@ -136,18 +136,12 @@ kept-texts command old new kept profile exception domain manager trace edits ans
     same-told new.files old.files (kept FileName.Profile profile) (kept FileName.ExceptionPolicy exception) (kept FileName.DomainPolicy domain) (kept FileName.Manager manager) (kept FileName.Trace trace) (kept FileName.Edits edits) (kept FileName.Answers answers)
 
 pub legal-runs : (command : Command) (old new : Outside) (status : Status) → HasDone (Ok command) old new status → Kept command old new → LegalRuns (Ok command) old new status
-legal-runs Command.Step old new status done kept = λ tells is.
-    played-holds Way.ByTurns (wants_of Command.Step) old new (step-texts old.files) (kept-texts Command.Step old new kept refl refl refl refl refl refl refl) (done tells is)
+legal-runs (Command.Play how false) old new status done kept = λ tells is.
+    played-holds how old new (kept-texts (Command.Play how false) old new kept refl refl refl refl refl refl refl) (done tells is)
+legal-runs (Command.Play how true) old new status done kept = λ tells is.
+    learned-holds how old new (kept-texts (Command.Play how true) old new kept refl refl refl refl refl refl refl) (done tells is)
 legal-runs Command.Print old new status done kept = tt
-legal-runs Command.Learn old new status done kept = λ tells is.
-    learned-holds Way.ByTurns (wants_of Command.Learn) old new (step-texts old.files) (kept-texts Command.Learn old new kept refl refl refl refl refl refl refl) (done tells is)
 legal-runs Command.Verify old new status done kept = λ tells holds is. judged-yes old new holds (done tells is)
 legal-runs Command.Sort old new status done kept = tt
 legal-runs (Command.Gen seed size) old new status done kept = λ tells is edits answers.
     generated-holds seed size old new (ap told (kept FileName.Edits refl) ∙ edits) (ap told (kept FileName.Answers refl) ∙ answers) (done tells is)
-legal-runs (Command.Replay workers) old new status done kept = λ tells is.
-    played-holds Way.OnThreads scene_wants old new refl (kept-texts (Command.Replay workers) old new kept refl refl refl refl refl refl refl) (done tells is)
-legal-runs (Command.ReplaySteal workers) old new status done kept = λ tells is.
-    played-holds Way.OnThreads scene_wants old new refl (kept-texts (Command.ReplaySteal workers) old new kept refl refl refl refl refl refl refl) (done tells is)
-legal-runs (Command.ReplayRerun workers) old new status done kept = λ tells is.
-    learned-holds Way.OnThreads scene_wants old new refl (kept-texts (Command.ReplayRerun workers) old new kept refl refl refl refl refl refl refl) (done tells is)

@@ -1,5 +1,5 @@
 -- What a play of the files gives, by turns or on threads.
-use Rattle.std.specs.Prelude.{◌≡◌, true, List, [], Option, Result, Ok, unwrap_or}
+use Rattle.std.specs.Prelude.{◌≡◌, true, List, [], Result, Ok, unwrap_or}
 use Rattle.std.specs.List.{flat_map}
 use Rattle.tm_word.specs.Words.{Text}
 use Rattle.tm_types.specs.declared.policy.Policy.{Policy}
@@ -18,27 +18,22 @@ use Rattle.tm_text.specs.ManagerText.{manager_text}
 use Rattle.tm_text.specs.ProfileText.{profile_text}
 use Rattle.tomoyo.specs.declared.play.Printed.{Printed}
 use Rattle.tomoyo.specs.declared.play.Played.{Played}
-use Rattle.tomoyo.specs.declared.way.Way.{Way}
 use Rattle.tm_gen_laws.specs.CallInputLoaded.{Loaded}
+use Rattle.tm_call.specs.declared.words.How.{How}
 use Rattle.tm_call.specs.declared.status.Status.{Status}
 use Rattle.tm_call.specs.Fetches.{Texts}
-use Rattle.tm_gen_laws.specs.Reading.{refused, step_reading, step_refusal, scene_reading, scene_of}
+use Rattle.tm_gen_laws.specs.Reading.{step_reading, scene_reading, scene_of}
 
 -- what is read of the files; threads have no schedule
-abbrev pub reading_of : Way → Texts → Result Loaded Status
-reading_of Way.ByTurns texts = step_reading texts
-reading_of Way.OnThreads texts = scene_reading texts
-
--- its refusal
-abbrev pub refusal_by : Way → Texts → Option Status
-refusal_by Way.ByTurns texts = step_refusal texts
-refusal_by Way.OnThreads texts = refused (scene_reading texts)
+abbrev pub reading_of : How → Texts → Result Loaded Status
+reading_of How.ByTurns texts = step_reading texts
+reading_of how texts = scene_reading texts
 
 -- what a run has beside its legality: turns play it by the schedule and then by the default order;
 -- on threads no look is older than the supervisor's coming
-abbrev pub Came : Way → Scene → List Turn → Run → Type 0
-Came Way.ByTurns scene schedule run = core.Plays scene schedule run
-Came Way.OnThreads scene schedule run = NoLookBeforeAttach run
+abbrev pub Came : How → Scene → List Turn → Run → Type 0
+Came How.ByTurns scene schedule run = core.Plays scene schedule run
+Came how scene schedule run = NoLookBeforeAttach run
 
 -- the audit text of a take, where it has one
 abbrev pub audit_word : Take → Text
@@ -63,23 +58,23 @@ pub record IsPrinted (run : Run) (opening last : Policy) (played : Played) : Typ
   pub policy_is : IsPolicyPrinted last played.policy
   pub summary_is : played.summary ≡ summary_text run opening last
 
--- a run of what was read: it came this way, it is legal, and it ends with this policy
-pub record IsPlayOf (way : Way) (loaded : Loaded) (run : Run) (last : Policy) : Type 0 where
-  pub came : Came way (scene_of loaded) loaded.schedule run
+-- a run of what was read: it came so, it is legal, and it ends with this policy
+pub record IsPlayOf (how : How) (loaded : Loaded) (run : Run) (last : Policy) : Type 0 where
+  pub came : Came how (scene_of loaded) loaded.schedule run
   pub is_legal : Legal (scene_of loaded) run
   pub ends : final_policy (scene_of loaded) run ≡ last
 
 -- what was played are the texts of a run of what was read
-pub record PlaysLoaded (way : Way) (loaded : Loaded) (played : Played) : Type 0 where
+pub record PlaysLoaded (how : How) (loaded : Loaded) (played : Played) : Type 0 where
   pub run : Run
-  pub came : Came way (scene_of loaded) loaded.schedule run
+  pub came : Came how (scene_of loaded) loaded.schedule run
   pub is_legal : Legal (scene_of loaded) run
   pub printed : IsPrinted run loaded.policy (final_policy (scene_of loaded) run) played
 
 -- the files are read, and what was played are the texts of a run of what was read; the text of the
 -- run is read back as that run
-pub record Plays (way : Way) (texts : Texts) (played : Played) : Type 0 where
+pub record Plays (how : How) (texts : Texts) (played : Played) : Type 0 where
   pub loaded : Loaded
-  pub read : reading_of way texts ≡ Ok loaded
-  pub plays : PlaysLoaded way loaded played
+  pub read : reading_of how texts ≡ Ok loaded
+  pub plays : PlaysLoaded how loaded played
   pub read_back : run_of played.run ≡ Ok plays.run

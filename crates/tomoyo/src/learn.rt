@@ -5,16 +5,16 @@ ghost use Rattle.tm_run_laws.specs.Tomoyo.{tomoyo_grammar};
 ghost use Rattle.tm_legal.specs.Play.{CanPlay};
 ghost use Rattle.tm_legal.specs.Replay.{alone};
 ghost use Rattle.tm_trace.specs.Written.{IsTrace};
-ghost use Rattle.tm_gen_laws.specs.Reading.{RefusedBy};
-ghost use Rattle.tomoyo.specs.Play.{refusal_by};
+ghost use Rattle.tm_call.specs.declared.words.How.{How};
+ghost use Rattle.tm_gen_laws.specs.Reading.{refused, RefusedBy};
+ghost use Rattle.tomoyo.specs.Play.{reading_of};
 ghost use Rattle.tomoyo.specs.Closures.{IsPlayable, PlaysSo};
 ghost use Rattle.tomoyo.specs.Rerun.{nobody_else, CanRerun, IsPlayAlone, IsRerunPrinted, Reruns, LearnsLoaded, Learns};
 
-use crate::play::{Played, audits_of, texts_of};
-use crate::way::Way;
-use crate::ways::{Ended, Playing, run_by_turns};
+use crate::play::{Played, audits_of, read_played, texts_of};
+use crate::runs::{Ended, play_by, run_by_turns};
 use std::alloc::Global;
-use tm_call::Status;
+use tm_call::{How, Status};
 use tm_gen_laws::call_input::{Loaded, homeless};
 use tm_io::FileList;
 use tm_list::{Copied, NoMemory, Seq};
@@ -70,7 +70,7 @@ pub fn rerun(alloc: Global, policy: Indexed, trace: Trace) -> Result<(Run, Polic
     requires few { IsFew policy }
     requires can { CanPlay (alone tomoyo_grammar policy trace) }
     ensures { IfOk result (λ ended.
-        IsPlayAlone Way.ByTurns (alone tomoyo_grammar policy trace) ended.0 ended.1) }
+        IsPlayAlone How.ByTurns (alone tomoyo_grammar policy trace) ended.0 ended.1) }
 {
     let loaded = nobody_else(alloc, policy, trace);
     let (run, _, last) = run_by_turns(alloc, loaded)?;
@@ -100,38 +100,40 @@ fn print_rerun(
 }
 
 // Plays a trace under a policy with nobody else.
-fn play_alone<P: Fn(Loaded) -> Ended>(
+fn play_alone<P: Fn(How, Loaded) -> Ended>(
     alloc: Global,
-    playing: &Playing<P>,
+    play: &P,
+    how: How,
     policy: Indexed,
     trace: Trace,
 ) -> Result<(Run, Policy), NoMemory>
-    requires so { PlaysSo P.Fn playing.now.way playing.now.play }
+    requires so { PlaysSo P.Fn how play.now }
     requires few { IsFew policy }
     requires can { CanPlay (alone tomoyo_grammar policy trace) }
     requires written { IsTrace trace }
     ensures { IfOk result (λ ended.
-        IsPlayAlone playing.now.way (alone tomoyo_grammar policy trace) ended.0 ended.1) }
+        IsPlayAlone how (alone tomoyo_grammar policy trace) ended.0 ended.1) }
 {
     let loaded = nobody_else(alloc, policy, trace);
-    let (run, _, last) = playing.play(loaded)?;
+    let (run, _, last) = play_by(play, how, loaded)?;
     Ok((run, last))
 }
 
 // The rerun of a run that has led to this policy; None where some tree has no live domain to start
 // in. The domains of the switched policy are those of this one.
-fn rerun_of<P: Fn(Loaded) -> Ended>(
+fn rerun_of<P: Fn(How, Loaded) -> Ended>(
     alloc: Global,
-    playing: &Playing<P>,
+    play: &P,
+    how: How,
     run: &Run,
     last: &Policy,
     trace: Trace,
 ) -> Result<Option<RerunTexts>, NoMemory>
-    requires so { PlaysSo P.Fn playing.now.way playing.now.play }
+    requires so { PlaysSo P.Fn how play.now }
     requires few { IsFew last.now }
     requires can { CanRerun last.now trace }
     requires written { IsTrace trace }
-    ensures { IfOk result (Reruns playing.now.way last.now trace run.now) }
+    ensures { IfOk result (Reruns how last.now trace run.now) }
 {
     switched_domains();
     switched_stays_opened();
@@ -140,51 +142,53 @@ fn rerun_of<P: Fn(Loaded) -> Ended>(
     if homeless(&enforcing, trace.as_slice()).is_some() {
         return Ok(None);
     }
-    let (again, ended) = play_alone(alloc, playing, enforcing, trace)?;
+    let (again, ended) = play_alone(alloc, play, how, enforcing, trace)?;
     let texts = print_rerun(alloc, last, run, &ended, &again)?;
     Ok(Some(texts))
 }
 
 // Plays what was read, and then its trace again.
-fn learn_loaded<P: Fn(Loaded) -> Ended>(
+fn learn_loaded<P: Fn(How, Loaded) -> Ended>(
     alloc: Global,
-    playing: &Playing<P>,
+    play: &P,
+    how: How,
     loaded: Loaded,
 ) -> Result<Learned, NoMemory>
-    requires so { PlaysSo P.Fn playing.now.way playing.now.play }
+    requires so { PlaysSo P.Fn how play.now }
     requires playable { IsPlayable loaded }
-    ensures { IfOk result (LearnsLoaded playing.now.way loaded) }
+    ensures { IfOk result (LearnsLoaded how loaded) }
 {
     clean_runs_grow();
     learned_runs_repeat();
     // A play takes its trace apart, tree by tree, so that the second play has a copy, which has the
     // requests together with the first: its text isn't read again.
     let trace = loaded.trace.copy(alloc)?;
-    let (run, opening, last) = playing.play(loaded)?;
+    let (run, opening, last) = play_by(play, how, loaded)?;
     let played = texts_of(alloc, &run, &opening.policy, &last)?;
-    let rerun = rerun_of(alloc, playing, &run, &last, trace)?;
+    let rerun = rerun_of(alloc, play, how, &run, &last, trace)?;
     Ok(Learned { played, rerun })
 }
 
 /// Plays what the files hold, and then its trace again under the final policy with its profiles
 /// enforcing, or refuses it.
-pub fn learn_of<P: Fn(Loaded) -> Ended>(
+pub fn learn_of<P: Fn(How, Loaded) -> Ended>(
     alloc: Global,
-    playing: &Playing<P>,
+    play: &P,
+    how: How,
     texts: FileList,
 ) -> Result<Learned, Status>
-    requires so { PlaysSo P.Fn playing.now.way playing.now.play }
+    requires so { PlaysSo P.Fn how play.now }
     ensures learned { IfOk result (λ learned.
-        (refusal_by playing.now.way texts ≡ None) × Learns playing.now.way texts learned) }
-    ensures refused { IfErr result (RefusedBy (refusal_by playing.now.way texts)) }
+        (refused (reading_of how texts) ≡ None) × Learns how texts learned) }
+    ensures refused { IfErr result (RefusedBy (refused (reading_of how texts))) }
 {
     switched_domains();
     switched_stays_opened();
-    let loaded = match playing.read(alloc, texts) {
+    let loaded = match read_played(alloc, how, texts) {
         Ok(loaded) => loaded,
         Err(status) => return Err(status),
     };
-    match learn_loaded(alloc, playing, loaded) {
+    match learn_loaded(alloc, play, how, loaded) {
         Ok(learned) => Ok(learned),
         Err(_) => Err(Status::OutOfMemory),
     }

@@ -9,11 +9,10 @@ mod making;
 mod outcome;
 mod play;
 mod print;
+mod runs;
 mod sort;
 mod top;
 mod verify;
-mod way;
-mod ways;
 
 pub use learn::rerun;
 pub use tm_call::{OutName, Status, What};

@@ -6,14 +6,18 @@ ghost use Rattle.tm_text.specs.DomainText.{domain_text};
 ghost use Rattle.tm_text.specs.ExceptionText.{exception_text};
 ghost use Rattle.tm_text.specs.ManagerText.{manager_text};
 ghost use Rattle.tm_text.specs.ProfileText.{profile_text};
-ghost use Rattle.tm_gen_laws.specs.Reading.{RefusedBy};
-ghost use Rattle.tomoyo.specs.Play.{refusal_by, PlaysLoaded, Plays, audit_word, audits_of, IsPrinted, IsPolicyPrinted};
+ghost use Rattle.tm_word.specs.Gives.{Gives};
+ghost use Rattle.tm_rules.specs.Few.{IsFew};
+ghost use Rattle.tm_call.specs.declared.words.How.{How};
+ghost use Rattle.tm_gen_laws.specs.Reading.{refused, status_cause, RefusedBy};
+ghost use Rattle.tomoyo.specs.Play.{reading_of, PlaysLoaded, Plays, audit_word, audits_of};
+ghost use Rattle.tomoyo.specs.Play.{IsPrinted, IsPolicyPrinted};
 ghost use Rattle.tomoyo.specs.Closures.{IsPlayable, PlaysSo};
 
-use crate::ways::{Ended, Playing};
+use crate::runs::{Ended, play_by};
 use std::alloc::Global;
-use tm_call::Status;
-use tm_gen_laws::call_input::Loaded;
+use tm_call::{How, Status};
+use tm_gen_laws::call_input::{Loaded, read_scene, read_step};
 use tm_io::FileList;
 use tm_list::NoMemory;
 use tm_rerun::summary_line;
@@ -105,36 +109,52 @@ pub(crate) fn texts_of(
     })
 }
 
+/// Reads what is played so.
+///
+/// Errors: the first that is refused, a faulty line, a limit that is passed, or a tree whose domain
+/// isn't live; want of memory.
+pub fn read_played(alloc: Global, how: How, texts: FileList) -> Result<Loaded, Status>
+    ensures exact { Gives status_cause (λ loaded. loaded) result (reading_of how texts) }
+    ensures few { IfOk result (λ loaded. IsFew loaded.policy) }
+{
+    match how {
+        How::ByTurns => read_step(alloc, texts),
+        How::OnThreads(_) | How::Stealing(_) => read_scene(alloc, texts),
+    }
+}
+
 // Plays what was read.
-fn play_loaded<P: Fn(Loaded) -> Ended>(
+fn play_loaded<P: Fn(How, Loaded) -> Ended>(
     alloc: Global,
-    playing: &Playing<P>,
+    play: &P,
+    how: How,
     loaded: Loaded,
 ) -> Result<Played, NoMemory>
-    requires so { PlaysSo P.Fn playing.now.way playing.now.play }
+    requires so { PlaysSo P.Fn how play.now }
     requires playable { IsPlayable loaded }
-    ensures { IfOk result (PlaysLoaded playing.now.way loaded) }
+    ensures { IfOk result (PlaysLoaded how loaded) }
 {
-    let (run, opening, last) = playing.play(loaded)?;
+    let (run, opening, last) = play_by(play, how, loaded)?;
     texts_of(alloc, &run, &opening.policy, &last)
 }
 
 /// Plays what the files hold, or refuses it.
-pub fn play_of<P: Fn(Loaded) -> Ended>(
+pub fn play_of<P: Fn(How, Loaded) -> Ended>(
     alloc: Global,
-    playing: &Playing<P>,
+    play: &P,
+    how: How,
     texts: FileList,
 ) -> Result<Played, Status>
-    requires so { PlaysSo P.Fn playing.now.way playing.now.play }
+    requires so { PlaysSo P.Fn how play.now }
     ensures played { IfOk result (λ played.
-        (refusal_by playing.now.way texts ≡ None) × Plays playing.now.way texts played) }
-    ensures refused { IfErr result (RefusedBy (refusal_by playing.now.way texts)) }
+        (refused (reading_of how texts) ≡ None) × Plays how texts played) }
+    ensures refused { IfErr result (RefusedBy (refused (reading_of how texts))) }
 {
-    let loaded = match playing.read(alloc, texts) {
+    let loaded = match read_played(alloc, how, texts) {
         Ok(loaded) => loaded,
         Err(status) => return Err(status),
     };
-    match play_loaded(alloc, playing, loaded) {
+    match play_loaded(alloc, play, how, loaded) {
         Ok(played) => Ok(played),
         Err(_) => Err(Status::OutOfMemory),
     }

@@ -1,26 +1,23 @@
 //! The top call: what the words ask for is fetched, made, stored and put.
-ghost use Rattle.std.specs.Prelude.{◌≡◌, ◌≤◌, ◌⊎◌, [], true, Ok, IfOk, IfErr, OnOk, map, string_bytes};
+ghost use Rattle.std.specs.Prelude.{◌≡◌, ◌≤◌, ◌⊎◌, [], true, IfOk, IfErr, OnOk, map, string_bytes};
 ghost use Rattle.tm_io.specs.Causes.{Rose};
 ghost use Rattle.tm_io.specs.Files.{SameFiles};
 ghost use Rattle.tm_io.specs.Notes.{Noted};
 ghost use Rattle.tm_call.specs.Fetches.{AllGiven, FetchStops};
 ghost use Rattle.tm_call.specs.Calls.{FetchesOf};
 ghost use Rattle.tm_call.specs.Ends.{outside, Ends};
-ghost use Rattle.tm_call.specs.Words.{read_words, run_words, is_alone, IsSized};
-ghost use Rattle.tm_call.specs.declared.words.Command.{Command};
-ghost use Rattle.tomoyo.specs.Call.{wants_of, read_by};
-ghost use Rattle.tomoyo.specs.Call.{Refuses, Allows, CallEnds, HasCause, IsExact, IsComplete, KeepsOthers, HasDone, GenEnds, LegalRuns};
-ghost use Rattle.tomoyo.specs.Closures.{MakesSo};
-ghost use Rattle.tomoyo.specs.Call.{FetchesInOrder, StoresBy, StoresInOrder, StoresLast};
+ghost use Rattle.tm_call.specs.Words.{read_words, run_words, is_by_turns, HasWorkers, IsSized};
+ghost use Rattle.tomoyo.specs.Closures.{IsPlayable, IsEnded, PlaysFor};
+ghost use Rattle.tomoyo.specs.Call.{wants_of, read_by, Refuses, Allows, StoresBy, Called};
 
-use crate::making::{make, make_on_threads};
+use crate::making::make;
+use crate::runs::{Ended, run_with_threads, run_without_threads};
 use std::alloc::Global;
 use std::sync::Wait;
 use std::thread::Threads;
-use tm_call::{
-    Command, Outcome, Status, Want, carry_out, fetch_all, read_any_command, read_command,
-};
+use tm_call::{Command, How, Status, Want, carry_out, fetch_all, read_any_command, read_command};
 use tm_engine::gate::Gate;
+use tm_gen_laws::call_input::Loaded;
 use tm_io::{FileList, FileName, Shelf, Sink};
 
 // Fetches what a command reads.
@@ -36,31 +33,33 @@ fn fetch_for<S: Shelf>(alloc: Global, command: Command, shelf: &mut S) -> Result
     ensures no_store { Noted [] (S.stored shelf.old) (S.stored shelf.new) }
 {
     match command {
-        Command::Step | Command::Learn => {
-            let wants = [
-                Want::needed(FileName::Profile),
-                Want::optional(FileName::ExceptionPolicy),
-                Want::needed(FileName::DomainPolicy),
-                Want::optional(FileName::Manager),
-                Want::needed(FileName::Trace),
-                Want::optional(FileName::Edits),
-                Want::optional(FileName::Answers),
-                Want::optional(FileName::Schedule),
-            ];
-            fetch_all(alloc, shelf, &wants)
-        }
-        Command::Replay(_) | Command::ReplaySteal(_) | Command::ReplayRerun(_) => {
-            let wants = [
-                Want::needed(FileName::Profile),
-                Want::optional(FileName::ExceptionPolicy),
-                Want::needed(FileName::DomainPolicy),
-                Want::optional(FileName::Manager),
-                Want::needed(FileName::Trace),
-                Want::optional(FileName::Edits),
-                Want::optional(FileName::Answers),
-            ];
-            fetch_all(alloc, shelf, &wants)
-        }
+        Command::Play { how, .. } => match how {
+            How::ByTurns => {
+                let wants = [
+                    Want::needed(FileName::Profile),
+                    Want::optional(FileName::ExceptionPolicy),
+                    Want::needed(FileName::DomainPolicy),
+                    Want::optional(FileName::Manager),
+                    Want::needed(FileName::Trace),
+                    Want::optional(FileName::Edits),
+                    Want::optional(FileName::Answers),
+                    Want::optional(FileName::Schedule),
+                ];
+                fetch_all(alloc, shelf, &wants)
+            }
+            How::OnThreads(_) | How::Stealing(_) => {
+                let wants = [
+                    Want::needed(FileName::Profile),
+                    Want::optional(FileName::ExceptionPolicy),
+                    Want::needed(FileName::DomainPolicy),
+                    Want::optional(FileName::Manager),
+                    Want::needed(FileName::Trace),
+                    Want::optional(FileName::Edits),
+                    Want::optional(FileName::Answers),
+                ];
+                fetch_all(alloc, shelf, &wants)
+            }
+        },
         Command::Print => {
             let wants = [
                 Want::needed(FileName::Profile),
@@ -97,18 +96,18 @@ fn fetch_for<S: Shelf>(alloc: Global, command: Command, shelf: &mut S) -> Result
     }
 }
 
-// Does a command.
-fn perform<S: Shelf, K: Sink, M: Fn(Command, FileList) -> Result<Outcome, Status>>(
+// Does a command. What is played is played by the closure, which is told how.
+fn perform<S: Shelf, K: Sink, P: Fn(How, Loaded) -> Ended>(
     alloc: Global,
-    make: &M,
+    play: &P,
     command: Command,
     shelf: &mut S,
     out: &mut K,
 ) -> Status
-    requires { MakesSo M.Fn command make.now }
+    requires sized { IsSized command }
+    requires plays { PlaysFor P.Fn play.now command }
     ensures ends { Ends (wants_of command) (Refuses command) (Allows command)
-        (outside (S.file shelf.old) (S.faults shelf.old) (K.written out.old) (K.faults out.old))
-        (outside (S.file shelf.new) (S.faults shelf.new) (K.written out.new) (K.faults out.new)) result }
+        (outside S.Shelf K.Sink shelf.old out.old) (outside S.Shelf K.Sink shelf.new out.new) result }
     ensures fetches { FetchesOf (read_by command) result (S.fetched shelf.old) (S.fetched shelf.new) }
     ensures stores { StoresBy command (S.file shelf.old) result (S.stored shelf.old) (S.stored shelf.new) }
     ensures stores_last { Noted [] (S.stored shelf.old) (S.stored shelf.new)
@@ -116,7 +115,7 @@ fn perform<S: Shelf, K: Sink, M: Fn(Command, FileList) -> Result<Outcome, Status
 {
     match fetch_for(alloc, command, shelf) {
         Err(status) => status,
-        Ok(texts) => match make(command, texts) {
+        Ok(texts) => match make(alloc, play, command, texts) {
             Err(status) => status,
             Ok(outcome) => carry_out(&outcome, shelf, out),
         },
@@ -124,44 +123,21 @@ fn perform<S: Shelf, K: Sink, M: Fn(Command, FileList) -> Result<Outcome, Status
 }
 
 // Does the command that the words were read as, and answers how it ended.
-fn answer<S: Shelf, K: Sink, M: Fn(Command, FileList) -> Result<Outcome, Status>>(
+fn answer<S: Shelf, K: Sink, P: Fn(How, Loaded) -> Ended>(
     alloc: Global,
-    make: &M,
+    play: &P,
     read: Result<Command, u64>,
     shelf: &mut S,
     out: &mut K,
 ) -> Status
-    requires { (command : Command) → read ≡ Ok command → MakesSo M.Fn command make.now }
-    ensures headline { HasDone read
-        (outside (S.file shelf.old) (S.faults shelf.old) (K.written out.old) (K.faults out.old))
-        (outside (S.file shelf.new) (S.faults shelf.new) (K.written out.new) (K.faults out.new)) result }
-    ensures kept { KeepsOthers read (S.file shelf.old) (S.file shelf.new) }
-    ensures causes { HasCause read
-        (outside (S.file shelf.old) (S.faults shelf.old) (K.written out.old) (K.faults out.old))
-        (outside (S.file shelf.new) (S.faults shelf.new) (K.written out.new) (K.faults out.new)) result }
-    ensures exact { IsExact read (S.file shelf.old) result }
-    ensures complete { IsComplete read
-        (outside (S.file shelf.old) (S.faults shelf.old) (K.written out.old) (K.faults out.old))
-        (outside (S.file shelf.new) (S.faults shelf.new) (K.written out.new) (K.faults out.new)) result }
-    ensures generated { GenEnds read
-        (outside (S.file shelf.old) (S.faults shelf.old) (K.written out.old) (K.faults out.old))
-        (outside (S.file shelf.new) (S.faults shelf.new) (K.written out.new) (K.faults out.new)) result }
-    ensures verified { LegalRuns read
-        (outside (S.file shelf.old) (S.faults shelf.old) (K.written out.old) (K.faults out.old))
-        (outside (S.file shelf.new) (S.faults shelf.new) (K.written out.new) (K.faults out.new)) result }
-    ensures fetches { FetchesInOrder read result
-        (S.fetched shelf.old) (S.fetched shelf.new) }
-    ensures stores { StoresInOrder read (S.file shelf.old) result
-        (S.stored shelf.old) (S.stored shelf.new) }
-    ensures stores_last { StoresLast read
-        (S.fetched shelf.old) (S.fetched shelf.new) (S.stored shelf.old) (S.stored shelf.new) }
-    ensures ends { CallEnds read
-        (outside (S.file shelf.old) (S.faults shelf.old) (K.written out.old) (K.faults out.old))
-        (outside (S.file shelf.new) (S.faults shelf.new) (K.written out.new) (K.faults out.new)) result }
+    requires sized { IfOk read IsSized }
+    requires plays { IfOk read (PlaysFor P.Fn play.now) }
+    ensures called { Called read
+        (outside S.Shelf K.Sink shelf.old out.old) (outside S.Shelf K.Sink shelf.new out.new) result }
 {
     match read {
         Err(place) => Status::BadWords(place),
-        Ok(command) => perform(alloc, make, command, shelf, out),
+        Ok(command) => perform(alloc, play, command, shelf, out),
     }
 }
 
@@ -196,40 +172,15 @@ pub fn run_alone<S: Shelf, K: Sink>(
     shelf: &mut S,
     out: &mut K,
 ) -> Status
-    ensures headline { HasDone (read_words (map string_bytes words.now))
-        (outside (S.file shelf.old) (S.faults shelf.old) (K.written out.old) (K.faults out.old))
-        (outside (S.file shelf.new) (S.faults shelf.new) (K.written out.new) (K.faults out.new)) result }
-    ensures kept { KeepsOthers (read_words (map string_bytes words.now)) (S.file shelf.old) (S.file shelf.new) }
-    ensures causes { HasCause (read_words (map string_bytes words.now))
-        (outside (S.file shelf.old) (S.faults shelf.old) (K.written out.old) (K.faults out.old))
-        (outside (S.file shelf.new) (S.faults shelf.new) (K.written out.new) (K.faults out.new)) result }
-    ensures exact { IsExact (read_words (map string_bytes words.now)) (S.file shelf.old) result }
-    ensures complete { IsComplete (read_words (map string_bytes words.now))
-        (outside (S.file shelf.old) (S.faults shelf.old) (K.written out.old) (K.faults out.old))
-        (outside (S.file shelf.new) (S.faults shelf.new) (K.written out.new) (K.faults out.new)) result }
-    ensures generated { GenEnds (read_words (map string_bytes words.now))
-        (outside (S.file shelf.old) (S.faults shelf.old) (K.written out.old) (K.faults out.old))
-        (outside (S.file shelf.new) (S.faults shelf.new) (K.written out.new) (K.faults out.new)) result }
-    ensures verified { LegalRuns (read_words (map string_bytes words.now))
-        (outside (S.file shelf.old) (S.faults shelf.old) (K.written out.old) (K.faults out.old))
-        (outside (S.file shelf.new) (S.faults shelf.new) (K.written out.new) (K.faults out.new)) result }
-    ensures fetches { FetchesInOrder (read_words (map string_bytes words.now)) result
-        (S.fetched shelf.old) (S.fetched shelf.new) }
-    ensures stores { StoresInOrder (read_words (map string_bytes words.now)) (S.file shelf.old) result
-        (S.stored shelf.old) (S.stored shelf.new) }
-    ensures stores_last { StoresLast (read_words (map string_bytes words.now))
-        (S.fetched shelf.old) (S.fetched shelf.new) (S.stored shelf.old) (S.stored shelf.new) }
-    ensures ends { CallEnds (read_words (map string_bytes words.now))
-        (outside (S.file shelf.old) (S.faults shelf.old) (K.written out.old) (K.faults out.old))
-        (outside (S.file shelf.new) (S.faults shelf.new) (K.written out.new) (K.faults out.new)) result }
+    ensures called { Called (read_words (map string_bytes words.now))
+        (outside S.Shelf K.Sink shelf.old out.old) (outside S.Shelf K.Sink shelf.new out.new) result }
 {
-    let make = |command: Command, texts: FileList| -> Result<Outcome, Status>
-        requires sized { IsSized command }
-        requires alone { is_alone command ≡ true }
-        ensures made { IfOk result (Allows command texts) }
-        ensures refused { IfErr result (Refuses command texts) }
-    { make(alloc, command, texts) };
-    answer(alloc, &make, read_command(words), shelf, out)
+    let play = |how: How, loaded: Loaded| -> Ended
+        requires turns { is_by_turns how ≡ true }
+        requires playable { IsPlayable loaded }
+        ensures { IfOk result (IsEnded how loaded) }
+    { run_without_threads(alloc, how, loaded) };
+    answer(alloc, &play, read_command(words), shelf, out)
 }
 
 /// Does what `run_alone` does, and `replay` with a number of workers from 1 to 16 besides: it plays
@@ -245,37 +196,13 @@ pub fn run<S: Shelf, K: Sink, W: Threads + Wait + Sync, G: Gate>(
     out: &mut K,
     gate: &G,
 ) -> Status
-    ensures headline { HasDone (run_words (map string_bytes words.now))
-        (outside (S.file shelf.old) (S.faults shelf.old) (K.written out.old) (K.faults out.old))
-        (outside (S.file shelf.new) (S.faults shelf.new) (K.written out.new) (K.faults out.new)) result }
-    ensures kept { KeepsOthers (run_words (map string_bytes words.now)) (S.file shelf.old) (S.file shelf.new) }
-    ensures causes { HasCause (run_words (map string_bytes words.now))
-        (outside (S.file shelf.old) (S.faults shelf.old) (K.written out.old) (K.faults out.old))
-        (outside (S.file shelf.new) (S.faults shelf.new) (K.written out.new) (K.faults out.new)) result }
-    ensures exact { IsExact (run_words (map string_bytes words.now)) (S.file shelf.old) result }
-    ensures complete { IsComplete (run_words (map string_bytes words.now))
-        (outside (S.file shelf.old) (S.faults shelf.old) (K.written out.old) (K.faults out.old))
-        (outside (S.file shelf.new) (S.faults shelf.new) (K.written out.new) (K.faults out.new)) result }
-    ensures generated { GenEnds (run_words (map string_bytes words.now))
-        (outside (S.file shelf.old) (S.faults shelf.old) (K.written out.old) (K.faults out.old))
-        (outside (S.file shelf.new) (S.faults shelf.new) (K.written out.new) (K.faults out.new)) result }
-    ensures verified { LegalRuns (run_words (map string_bytes words.now))
-        (outside (S.file shelf.old) (S.faults shelf.old) (K.written out.old) (K.faults out.old))
-        (outside (S.file shelf.new) (S.faults shelf.new) (K.written out.new) (K.faults out.new)) result }
-    ensures fetches { FetchesInOrder (run_words (map string_bytes words.now)) result
-        (S.fetched shelf.old) (S.fetched shelf.new) }
-    ensures stores { StoresInOrder (run_words (map string_bytes words.now)) (S.file shelf.old) result
-        (S.stored shelf.old) (S.stored shelf.new) }
-    ensures stores_last { StoresLast (run_words (map string_bytes words.now))
-        (S.fetched shelf.old) (S.fetched shelf.new) (S.stored shelf.old) (S.stored shelf.new) }
-    ensures ends { CallEnds (run_words (map string_bytes words.now))
-        (outside (S.file shelf.old) (S.faults shelf.old) (K.written out.old) (K.faults out.old))
-        (outside (S.file shelf.new) (S.faults shelf.new) (K.written out.new) (K.faults out.new)) result }
+    ensures called { Called (run_words (map string_bytes words.now))
+        (outside S.Shelf K.Sink shelf.old out.old) (outside S.Shelf K.Sink shelf.new out.new) result }
 {
-    let make = |command: Command, texts: FileList| -> Result<Outcome, Status>
-        requires { IsSized command }
-        ensures made { IfOk result (Allows command texts) }
-        ensures refused { IfErr result (Refuses command texts) }
-    { make_on_threads(rt, alloc, gate, command, texts) };
-    answer(alloc, &make, read_any_command(words), shelf, out)
+    let play = |how: How, loaded: Loaded| -> Ended
+        requires workers { HasWorkers how }
+        requires playable { IsPlayable loaded }
+        ensures { IfOk result (IsEnded how loaded) }
+    { run_with_threads(rt, alloc, gate, how, loaded) };
+    answer(alloc, &play, read_any_command(words), shelf, out)
 }

@@ -16,8 +16,8 @@ rerun_of-requires-clause-written g c = subst IsTrace (sym c.in_ok-trace.ensures)
 
 pub returns : goal.returns
 returns g c =
-    let way = c.args.playing.now.way in
+    let how = c.args.how in
     let opening : c.in_ok-run.opening.policy ≡ c.args.loaded.policy = ap (λ (start : Start). start.policy) c.in_ok-run.ensures.opening in
-    let reruns : Reruns way c.in_ok-run.last c.args.loaded.trace c.in_ok-run.run' c.in_ok-rerun.rerun =
-    subst (λ (trace : Trace). Reruns way c.in_ok-run.last trace c.in_ok-run.run' c.in_ok-rerun.rerun) c.in_ok-trace.ensures c.in_ok-rerun.ensures in
-    learned-so way c.args.loaded c.in_ok-run.run' c.in_ok-run.last c.in_ok-run.opening.policy c.in_ok-played.played c.in_ok-rerun.rerun c.clean_runs_grow.ensures c.learned_runs_repeat.ensures c.requires.playable.can c.in_ok-run.ensures.plays opening c.in_ok-played.ensures reruns
+    let reruns : Reruns how c.in_ok-run.last c.args.loaded.trace c.in_ok-run.run' c.in_ok-rerun.rerun =
+    subst (λ (trace : Trace). Reruns how c.in_ok-run.last trace c.in_ok-run.run' c.in_ok-rerun.rerun) c.in_ok-trace.ensures c.in_ok-rerun.ensures in
+    learned-so how c.args.loaded c.in_ok-run.run' c.in_ok-run.last c.in_ok-run.opening.policy c.in_ok-played.played c.in_ok-rerun.rerun c.clean_runs_grow.ensures c.learned_runs_repeat.ensures c.requires.playable.can c.in_ok-run.ensures.plays opening c.in_ok-played.ensures reruns

@@ -5,8 +5,8 @@ use Rattle.tm_trace.specs.Written.{IsTrace}
 use Rattle.tomoyo.proofs.Rerunning.{alone-so, can-alone}
 use Rattle.tomoyo.proofs.learn.play_alone.Goals as goal
 
-pub play-requires-clause-playable : goal.play-requires-clause-playable
-play-requires-clause-playable g c =
+pub play_by-requires-clause-playable : goal.play_by-requires-clause-playable
+play_by-requires-clause-playable g c =
     let is = c.nobody_else-loaded.ensures in
     record {
       few = subst (λ (l : Loaded). IsFew l.policy) (sym is) c.requires.few;
@@ -15,4 +15,4 @@ play-requires-clause-playable g c =
     }
 
 pub returns : goal.returns
-returns g c = alone-so c.args.playing.now.way c.args.policy c.args.trace c.nobody_else-loaded.result c.in_ok-run.run' c.in_ok-run.last c.nobody_else-loaded.ensures c.in_ok-run.ensures.plays
+returns g c = alone-so c.args.how c.args.policy c.args.trace c.nobody_else-loaded.result c.in_ok-run.run' c.in_ok-run.last c.nobody_else-loaded.ensures c.in_ok-run.ensures.plays

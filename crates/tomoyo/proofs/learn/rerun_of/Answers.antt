@@ -29,10 +29,10 @@ play_alone-requires-clause-can g c =
 
 pub returns : goal.returns
 returns g c =
-    let way = c.args.playing.now.way in
+    let how = c.args.how in
     let is : c.in_ok-enforcing.enforcing ≡ switched c.args.last.now = c.in_ok-enforcing.ensures ∙ c.in_ok-policy.ensures in
     let none : homeless c.in_ok-enforcing.enforcing c.args.trace ≡ None = all-at-home c.in_ok-enforcing.enforcing c.args.trace c.as_slice.result.now c.homeless.result c.homeless.ensures c.as_slice.ensures (sym c.if-is_some.ensures) in
     let homes : homeless c.args.last.now c.args.trace ≡ None = sym (homes-kept c.args.last.now c.in_ok-enforcing.enforcing c.args.trace c.switched_domains.ensures.live is) ∙ none in
-    let plays : IsPlayAlone way (again c.args.last.now c.args.trace) c.in_ok-again.again c.in_ok-again.ended =
-    subst (λ (policy : Policy). IsPlayAlone way (alone tomoyo_grammar policy c.args.trace) c.in_ok-again.again c.in_ok-again.ended) is c.in_ok-again.ensures in
-    rerun-so way c.args.last.now c.args.trace c.args.run.now c.in_ok-again.again c.in_ok-again.ended c.in_ok-texts.texts homes plays c.in_ok-texts.ensures
+    let plays : IsPlayAlone how (again c.args.last.now c.args.trace) c.in_ok-again.again c.in_ok-again.ended =
+    subst (λ (policy : Policy). IsPlayAlone how (alone tomoyo_grammar policy c.args.trace) c.in_ok-again.again c.in_ok-again.ended) is c.in_ok-again.ensures in
+    rerun-so how c.args.last.now c.args.trace c.args.run.now c.in_ok-again.again c.in_ok-again.ended c.in_ok-texts.texts homes plays c.in_ok-texts.ensures

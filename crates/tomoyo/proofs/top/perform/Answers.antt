@@ -14,25 +14,25 @@ returns-in-Err-clause-stores g c =
 
 pub returns-in-Err-make-clause-ends : goal.returns-in-Err-make-clause-ends
 returns-in-Err-make-clause-ends g c =
-    Ends.Refused c.in-Ok.texts c.in-Ok.ensures.texts (c.requires.refused c.in-Ok.texts c.in-Err-make.status c.in-Err-make.ensures) (record { files = c.in-Ok.ensures.kept; written = refl })
+    Ends.Refused c.in-Ok.texts c.in-Ok.ensures.texts c.in-Err-make.ensures.refused (record { files = c.in-Ok.ensures.kept; written = refl })
 
 pub returns-in-Err-make-clause-fetches : goal.returns-in-Err-make-clause-fetches
-returns-in-Err-make-clause-fetches g c = fetches-refused c.args.command (read_by c.args.command) c.in-Ok.texts _ _ _ (c.requires.refused c.in-Ok.texts c.in-Err-make.status c.in-Err-make.ensures) c.in-Ok.ensures.all
+returns-in-Err-make-clause-fetches g c = fetches-refused c.args.command (read_by c.args.command) c.in-Ok.texts _ _ _ c.in-Err-make.ensures.refused c.in-Ok.ensures.all
 
 pub returns-in-Err-make-clause-stores : goal.returns-in-Err-make-clause-stores
 returns-in-Err-make-clause-stores g c =
     stores-refused c.args.command (g.S.Shelf.file c.args.shelf.now) c.in-Ok.texts c.in-Err-make.status (g.S.Shelf.stored c.args.shelf.now) (g.S.Shelf.stored c.fetch_for.new.shelf)
-    (c.requires.refused c.in-Ok.texts c.in-Err-make.status c.in-Err-make.ensures) c.in-Ok.ensures.no_store
+    c.in-Err-make.ensures.refused c.in-Ok.ensures.no_store
 
 pub returns-in-Ok-make-clause-ends : goal.returns-in-Ok-make-clause-ends
 returns-in-Ok-make-clause-ends g c =
     let same : g.K.Sink.faults c.args.out.now ≤ g.K.Sink.faults c.args.out.now = omega arith in
     let outcome = c.in-Ok-make.outcome in
-    Ends.Made c.in-Ok.texts outcome c.in-Ok.ensures.texts (c.requires.made c.in-Ok.texts c.in-Ok-make.outcome c.in-Ok-make.ensures)
+    Ends.Made c.in-Ok.texts outcome c.in-Ok.ensures.texts c.in-Ok-make.ensures.made
     (carried-after outcome
-    (outside (g.S.Shelf.file c.args.shelf.now) (g.S.Shelf.faults c.args.shelf.now) (g.K.Sink.written c.args.out.now) (g.K.Sink.faults c.args.out.now))
-    (outside (g.S.Shelf.file c.fetch_for.new.shelf) (g.S.Shelf.faults c.fetch_for.new.shelf) (g.K.Sink.written c.args.out.now) (g.K.Sink.faults c.args.out.now))
-    (outside (g.S.Shelf.file c.carry_out.new.shelf) (g.S.Shelf.faults c.carry_out.new.shelf) (g.K.Sink.written c.carry_out.new.out) (g.K.Sink.faults c.carry_out.new.out))
+    (outside g.S.Shelf g.K.Sink c.args.shelf.now c.args.out.now)
+    (outside g.S.Shelf g.K.Sink c.fetch_for.new.shelf c.args.out.now)
+    (outside g.S.Shelf g.K.Sink c.carry_out.new.shelf c.carry_out.new.out)
     c.carry_out.result (record { files = c.in-Ok.ensures.kept; written = refl; shelf = c.in-Ok.ensures.counts; sink = same }) c.carry_out.ensures.ends)
 
 pub returns-in-Ok-make-clause-fetches : goal.returns-in-Ok-make-clause-fetches
@@ -44,7 +44,7 @@ pub returns-in-Ok-make-clause-stores : goal.returns-in-Ok-make-clause-stores
 returns-in-Ok-make-clause-stores g c =
     let outcome = c.in-Ok-make.outcome in
     stores-made c.args.command (g.S.Shelf.file c.args.shelf.now) c.in-Ok.texts outcome c.carry_out.result (g.S.Shelf.stored c.args.shelf.now) (g.S.Shelf.stored c.carry_out.new.shelf)
-    c.in-Ok.ensures.texts (c.requires.made c.in-Ok.texts outcome c.in-Ok-make.ensures)
+    c.in-Ok.ensures.texts c.in-Ok-make.ensures.made
     (stores-after (names_of outcome.stores) c.carry_out.result _ _ _ c.in-Ok.ensures.no_store c.carry_out.ensures.stores)
 
 pub returns-in-Ok-make-clause-stores_last : goal.returns-in-Ok-make-clause-stores_last

@@ -1,24 +1,23 @@
 //! How what was read is played: by turns on one thread, or on threads.
-ghost use Rattle.std.specs.Prelude.{◌≡◌, ◌<◌, IfOk};
-ghost use Rattle.tm_word.specs.Gives.{Gives};
+ghost use Rattle.std.specs.Prelude.{◌≡◌, ◌<◌, true, IfOk};
 ghost use Rattle.tm_rules.specs.Few.{IsFew};
 ghost use Rattle.tm_trace.specs.Written.{IsTrace};
 ghost use Rattle.tm_script.specs.Written.{has_supervisor};
 ghost use Rattle.tm_legal.specs.Play.{CanPlay};
 ghost use Rattle.tm_steal.specs.Machine.{course_from};
-ghost use Rattle.tm_gen_laws.specs.Reading.{status_cause, start_of, scene_of};
-ghost use Rattle.tomoyo.specs.Play.{reading_of, IsPlayOf};
+ghost use Rattle.tm_call.specs.Words.{is_by_turns, HasWorkers};
+ghost use Rattle.tm_call.specs.declared.words.How.{How};
+ghost use Rattle.tm_gen_laws.specs.Reading.{start_of, scene_of};
+ghost use Rattle.tomoyo.specs.Play.{IsPlayOf};
 ghost use Rattle.tomoyo.specs.Closures.{IsPlayable, IsEnded, PlaysSo};
 
-use crate::way::Way;
 use std::alloc::{AllocError, Global};
 use std::sync::Wait;
 use std::thread::Threads;
-use tm_call::Status;
+use tm_call::How;
 use tm_desk::{Desk, book_code};
 use tm_engine::gate::Gate;
-use tm_gen_laws::call_input::{Loaded, read_scene, read_step};
-use tm_io::FileList;
+use tm_gen_laws::call_input::Loaded;
 use tm_list::{NoMemory, Seq};
 use tm_script::has_supervisor;
 use tm_steal::machine::Machine;
@@ -31,38 +30,6 @@ use tm_verify::plays::{into_run, play_out, start_play};
 
 /// A run, its opening, and the policy at its last version; or want of memory.
 pub type Ended = Result<(Run, Start, Policy), NoMemory>;
-
-/// A way to play what was read, and a closure that plays it so.
-#[derive(Drop)]
-pub struct Playing<P> {
-    pub way: Way,
-    pub play: P,
-}
-
-impl<P: Fn(Loaded) -> Ended> Playing<P> {
-    /// Reads what is played.
-    ///
-    /// Errors: the first that is refused, a faulty line, a limit that is passed, or a tree whose
-    /// domain isn't live; want of memory.
-    pub fn read(&self, alloc: Global, texts: FileList) -> Result<Loaded, Status>
-        ensures exact { Gives status_cause (λ loaded. loaded) result (reading_of self.now.way texts) }
-        ensures few { IfOk result (λ loaded. IsFew loaded.policy) }
-    {
-        match self.way {
-            Way::ByTurns => read_step(alloc, texts),
-            Way::OnThreads => read_scene(alloc, texts),
-        }
-    }
-
-    /// Plays what was read.
-    pub fn play(&self, loaded: Loaded) -> Ended
-        requires so { PlaysSo P.Fn self.now.way self.now.play }
-        requires playable { IsPlayable loaded }
-        ensures { IfOk result (IsEnded self.now.way loaded) }
-    {
-        (self.play)(loaded)
-    }
-}
 
 // A machine at this opening, for so many trees, with a supervisor where the book has a line.
 fn machine_of(
@@ -92,7 +59,7 @@ fn machine_of(
 pub fn run_by_turns(alloc: Global, loaded: Loaded) -> Ended
     requires few { IsFew loaded.policy }
     requires can { CanPlay (scene_of loaded) }
-    ensures plays { IfOk result (λ ended. IsPlayOf Way.ByTurns loaded ended.0 ended.2) }
+    ensures plays { IfOk result (λ ended. IsPlayOf How.ByTurns loaded ended.0 ended.2) }
     ensures opening { IfOk result (λ ended. ended.1 ≡ start_of loaded) }
     ensures few { IfOk result (λ ended. IsFew ended.2) }
 {
@@ -110,10 +77,10 @@ pub fn run_by_turns(alloc: Global, loaded: Loaded) -> Ended
     into_run(alloc, played)
 }
 
-/// Plays what was read on so many threads, beside those of the editors and of the supervisor. The
-/// gate may hold them back on their way.
+// Plays what was read on so many threads, beside those of the editors and of the supervisor. The
+// gate may hold them back on their way.
 #[inline(never)]
-pub fn run_on_threads<W: Threads + Wait + Sync, G: Gate>(
+fn run_on_threads<W: Threads + Wait + Sync, G: Gate>(
     rt: &W,
     alloc: Global,
     workers: u32,
@@ -122,7 +89,7 @@ pub fn run_on_threads<W: Threads + Wait + Sync, G: Gate>(
 ) -> Ended
     requires some { 0 < workers }
     requires playable { IsPlayable loaded }
-    ensures { IfOk result (IsEnded Way.OnThreads loaded) }
+    ensures { IfOk result (IsEnded (How.OnThreads workers) loaded) }
 {
     let Loaded {
         policy,
@@ -136,10 +103,10 @@ pub fn run_on_threads<W: Threads + Wait + Sync, G: Gate>(
     replay_run(rt, alloc, machine, trace, workers, &desk, gate)
 }
 
-/// Plays what was read on so many threads that share the processes of its trees, beside those of
-/// the editors and of the supervisor. The gate may hold them back on their way.
+// Plays what was read on so many threads that share the processes of its trees, beside those of
+// the editors and of the supervisor. The gate may hold them back on their way.
 #[inline(never)]
-pub fn run_stealing<W: Threads + Wait + Sync, G: Gate>(
+fn run_stealing<W: Threads + Wait + Sync, G: Gate>(
     rt: &W,
     alloc: Global,
     workers: u32,
@@ -148,7 +115,7 @@ pub fn run_stealing<W: Threads + Wait + Sync, G: Gate>(
 ) -> Ended
     requires some { 0 < workers }
     requires playable { IsPlayable loaded }
-    ensures { IfOk result (IsEnded Way.OnThreads loaded) }
+    ensures { IfOk result (IsEnded (How.Stealing workers) loaded) }
 {
     let Loaded {
         policy,
@@ -160,4 +127,44 @@ pub fn run_stealing<W: Threads + Wait + Sync, G: Gate>(
     let machine = machine_of(alloc, policy, editors, trace.len(), &book)?;
     let desk = Desk::new(&book, |query: &Query| book_code(&book, query));
     steal_run(rt, alloc, machine, trace, workers, &desk, gate)
+}
+
+/// Plays what was read, which is played by turns.
+pub fn run_without_threads(alloc: Global, how: How, loaded: Loaded) -> Ended
+    requires turns { is_by_turns how ≡ true }
+    requires playable { IsPlayable loaded }
+    ensures { IfOk result (IsEnded how loaded) }
+{
+    match how {
+        How::ByTurns => run_by_turns(alloc, loaded),
+        How::OnThreads(_) | How::Stealing(_) => unreachable!(),
+    }
+}
+
+/// Plays what was read, by turns or on threads, which the gate may hold back on their way.
+pub fn run_with_threads<W: Threads + Wait + Sync, G: Gate>(
+    rt: &W,
+    alloc: Global,
+    gate: &G,
+    how: How,
+    loaded: Loaded,
+) -> Ended
+    requires workers { HasWorkers how }
+    requires playable { IsPlayable loaded }
+    ensures { IfOk result (IsEnded how loaded) }
+{
+    match how {
+        How::ByTurns => run_by_turns(alloc, loaded),
+        How::OnThreads(workers) => run_on_threads(rt, alloc, workers, gate, loaded),
+        How::Stealing(workers) => run_stealing(rt, alloc, workers, gate, loaded),
+    }
+}
+
+/// Plays what was read by a closure, which is told how.
+pub fn play_by<P: Fn(How, Loaded) -> Ended>(play: &P, how: How, loaded: Loaded) -> Ended
+    requires so { PlaysSo P.Fn how play.now }
+    requires playable { IsPlayable loaded }
+    ensures { IfOk result (IsEnded how loaded) }
+{
+    play(how, loaded)
 }
