@@ -19,7 +19,6 @@ can't be read, 70 the program can't be asked.
 """
 import re
 import sys
-from typing import NamedTuple
 
 from engine import POLICY, Engine, policy_files
 from history import KERNEL, domains_of, names_domain
@@ -32,22 +31,23 @@ REFUSED, NO_PROFILE = 5, 6
 # A namespace word as far as it needs no reading of patterns.
 NAMESPACE = re.compile(r"<kernel>|</([!-;=?-\[\]-~]|\\\\|\\[0-3][0-7][0-7])*>")
 
-# An editor may write so many lines beside one that chooses a domain, a file has so many bytes, and
-# so many refusals are told.
-EDITS, BYTES, MOST = 9999, 1 << 24, 1000
+# An editor may write so many lines beside one that chooses a domain, a file has so many bytes, of
+# which the editor's first lines have fewer than so many, and so many refusals are told.
+EDITS, BYTES, FIRST, MOST = 9999, 1 << 24, 9000, 1000
 
 
-class Line(NamedTuple):
-    """A line of a file that has words, and these."""
-    file: str
-    number: int
-    words: list
+class Line:
+    """A line of a file that has words, these, and whether it chooses, makes or deletes a domain."""
+    __slots__ = ("file", "number", "words", "names_domain")
 
-    def names_domain(self):
-        return self.file == "domain_policy" and names_domain(self.words)
+    def __init__(self, file, number, line_words):
+        self.file = file
+        self.number = number
+        self.words = line_words
+        self.names_domain = file == "domain_policy" and names_domain(line_words)
 
     def domain(self):
-        """The name of the domain that the line chooses, makes or deletes."""
+        """The name of the domain."""
         return " ".join(self.words[self.words[0] in ("select", "delete"):])
 
     def text(self):
@@ -57,7 +57,7 @@ class Line(NamedTuple):
         """Which domain an editor has chosen behind this line, by the reply and by the one before."""
         if reply == "no_domain" and self.words[0] == "select":
             return None
-        if reply != "done" or not self.names_domain():
+        if reply != "done" or not self.names_domain:
             return chosen
         return None if self.words[0] == "delete" else self.domain()
 
@@ -103,13 +103,13 @@ class Passed:
         self.domains = {KERNEL: []}
         self.chosen = None
         self.asked = {line.domain() for line in lines
-                      if line.names_domain() and not line.words[0].startswith("<")}
+                      if line.names_domain and not line.words[0].startswith("<")}
         self.deleted_from = {line.file for line in lines
-                             if "delete" in line.words[:2] and not line.names_domain()}
+                             if "delete" in line.words[:2] and not line.names_domain}
 
     def add(self, line):
         self.chosen = line.chosen_after("done", self.chosen)
-        if not line.names_domain():
+        if not line.names_domain:
             if line.file == "profile" or line.file in self.deleted_from:
                 self.kept(line.file).append(line.text())
         elif self.chosen:
@@ -141,19 +141,22 @@ class Part:
         self.lines, self.edits, size = [], [], 0
         there, chosen = {*passed.domains}, passed.chosen
         for line in lines:
-            is_lost = line.names_domain() and line.words[0] == "select" \
+            is_lost = line.names_domain and line.words[0] == "select" \
                 and line.domain() not in there
             again = chosen if is_lost else None
             edits = ["%s %s" % (line.file, line.text())]
             edits += ["domain_policy select " + again] if again else []
             size += sum(len(edit) + 1 for edit in edits)
-            if size > BYTES - 9000 or len(self.edits) + len(edits) > EDITS:
+            if size > BYTES - FIRST or len(self.edits) + len(edits) > EDITS:
                 break
             self.lines.append((line, again))
             self.edits += edits
-            if line.names_domain() and not is_lost:
+            if line.names_domain and not is_lost:
                 chosen = line.chosen_after("done", chosen)
-                (there.add if chosen else there.discard)(line.domain())
+                if chosen:
+                    there.add(chosen)
+                else:
+                    there.discard(line.domain())
 
     def files(self):
         """The files of the play in which the lines are written."""

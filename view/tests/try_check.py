@@ -92,7 +92,7 @@ class Parts(unittest.TestCase):
     def test_parts_refuse_what_loads_refuse(self):
         some = random.Random(1)
         names = [KERNEL, KERNEL + " /a", KERNEL + " /b", KERNEL + " bin"]
-        for _ in range(2000):
+        for _ in range(1000):
             lines = [some.choice(("", "select ", "delete ")) + some.choice(names)
                      if some.random() < 0.5 else
                      some.choice(("", "", "delete ")) + some.choice(("file read /1", "file read /2"))
