@@ -21,7 +21,7 @@ import re
 import sys
 
 from engine import POLICY, Engine, policy_files
-from history import domains_of, names_domain
+from history import KERNEL, domains_of, names_domain
 from runs import read_run
 from sentences import LINE, sentence, shortened
 from texts import BAD_WORDS, MIXED, Stop, lines_of, words
@@ -31,9 +31,35 @@ REFUSED, NO_PROFILE = 5, 6
 # A namespace word as far as it needs no reading of patterns.
 NAMESPACE = re.compile(r"<kernel>|</([!-;=?-\[\]-~]|\\\\|\\[0-3][0-7][0-7])*>")
 
-# An editor may write so many lines beside one that chooses a domain, a file has so many bytes, and
-# so many refusals are told.
-EDITS, BYTES, MOST = 9999, 1 << 24, 1000
+# An editor may write so many lines beside one that chooses a domain, a file has so many bytes, of
+# which the editor's first lines have fewer than so many, and so many refusals are told.
+EDITS, BYTES, FIRST, MOST = 9999, 1 << 24, 9000, 1000
+
+
+class Line:
+    """A line of a file that has words, these, and whether it chooses, makes or deletes a domain."""
+    __slots__ = ("file", "number", "words", "names_domain")
+
+    def __init__(self, file, number, line_words):
+        self.file = file
+        self.number = number
+        self.words = line_words
+        self.names_domain = file == "domain_policy" and names_domain(line_words)
+
+    def domain(self):
+        """The name of the domain."""
+        return " ".join(self.words[self.words[0] in ("select", "delete"):])
+
+    def text(self):
+        return " ".join(self.words)
+
+    def chosen_after(self, reply, chosen):
+        """Which domain an editor has chosen behind this line, by the reply and by the one before."""
+        if reply == "no_domain" and self.words[0] == "select":
+            return None
+        if reply != "done" or not self.names_domain:
+            return chosen
+        return None if self.words[0] == "delete" else self.domain()
 
 
 class Refusals:
@@ -49,13 +75,16 @@ class Refusals:
         self.shown[name, number] = shortened(self.lines[name][number - 1])
         self.lines[name][number - 1] = ""
 
+    def are_enough(self):
+        return len(self.replies) >= MOST
+
     def files(self):
         return {name: "\n".join(lines) + "\n" for name, lines in self.lines.items()}
 
-    def places(self):
-        """All lines that have words, by file and number."""
-        return [(name, number) for name in POLICY
-                for number, line in enumerate(self.lines[name], 1) if words(line)]
+    def left(self):
+        """All lines that have words."""
+        return [Line(name, number, line_words) for name in POLICY
+                for number, line in enumerate(self.lines[name], 1) if (line_words := words(line))]
 
     def put(self):
         for name in POLICY:
@@ -65,91 +94,126 @@ class Refusals:
                 print("%s:%d: %s: %s\n    %s" % (*place, reply, said, self.shown[place]))
 
 
+class Passed:
+    """What was passed, as far as the lines behind it ask for it: they ask for every profile, for a
+    domain by `select` and `delete`, and for any other line by `delete`."""
+
+    def __init__(self, lines):
+        self.lines = {name: [] for name in POLICY}
+        self.domains = {KERNEL: []}
+        self.chosen = None
+        self.asked = {line.domain() for line in lines
+                      if line.names_domain and not line.words[0].startswith("<")}
+        self.deleted_from = {line.file for line in lines
+                             if "delete" in line.words[:2] and not line.names_domain}
+
+    def add(self, line):
+        self.chosen = line.chosen_after("done", self.chosen)
+        if not line.names_domain:
+            if line.file == "profile" or line.file in self.deleted_from:
+                self.kept(line.file).append(line.text())
+        elif self.chosen:
+            self.domains.setdefault(self.chosen, [])
+        else:
+            del self.domains[line.domain()]
+
+    def kept(self, file):
+        """The lines that are kept of a file, or of the chosen domain."""
+        return self.domains[self.chosen] if file == "domain_policy" else self.lines[file]
+
+    def opening(self):
+        """The lines of each file."""
+        return dict(self.lines, domain_policy=[
+            line for name, lines in self.domains.items()
+            if lines or name in self.asked or name in (KERNEL, self.chosen)
+            for line in (name, *lines)])
+
+
 class Part:
-    """Lines that an editor writes into the policy of those before them which weren't refused.
+    """Lines that an editor writes into the policy of those before them that were passed.
 
-    Each namespace has the profile 0, so that a domain can be made."""
+    Each namespace has the profile 0, so that a domain can be made. A `select` of a domain that isn't
+    there leaves an editor none, and the lines of a file, of which it is left out, the one before:
+    where that is foreseen, the editor chooses that one again."""
 
-    def __init__(self, refusals, places):
-        self.places, size = [], 0
-        for name, number in places[:EDITS]:
-            size += len(refusals.lines[name][number - 1]) + len(name) + 2
-            if size > BYTES - 200:
+    def __init__(self, passed, lines):
+        self.passed = passed
+        self.lines, self.edits, size = [], [], 0
+        there, chosen = {*passed.domains}, passed.chosen
+        for line in lines:
+            is_lost = line.names_domain and line.words[0] == "select" \
+                and line.domain() not in there
+            again = chosen if is_lost else None
+            edits = ["%s %s" % (line.file, line.text())]
+            edits += ["domain_policy select " + again] if again else []
+            size += sum(len(edit) + 1 for edit in edits)
+            if size > BYTES - FIRST or len(self.edits) + len(edits) > EDITS:
                 break
-            self.places.append((name, number))
-        self.passed = {name: [] for name in POLICY}
-        self.written = [(name, words(refusals.lines[name][number - 1]))
-                        for name, number in self.places]
-
-    def pass_line(self, name, line_words):
-        self.passed[name].append(" ".join(line_words))
-
-    def chosen(self):
-        """The edit that chooses the domain that the lines before have chosen."""
-        for line in reversed(self.passed["domain_policy"]):
-            line_words = line.split(" ")
-            if names_domain(line_words):
-                name = line_words[line_words[0] == "select":]
-                return [] if name[0] == "delete" else ["domain_policy select " + " ".join(name)]
-        return []
+            self.lines.append((line, again))
+            self.edits += edits
+            if line.names_domain and not is_lost:
+                chosen = line.chosen_after("done", chosen)
+                if chosen:
+                    there.add(chosen)
+                else:
+                    there.discard(line.domain())
 
     def files(self):
         """The files of the play in which the lines are written."""
-        spaces = {word for _, line_words in self.written for word in line_words[:2]}
-        spaces |= {word for name in POLICY for line in self.passed[name]
+        opening = self.passed.opening()
+        spaces = {word for line, _ in self.lines for word in line.words[:2]}
+        spaces |= {word for lines in opening.values() for line in lines
                    for word in line.split(" ")[:2]}
         profiles = ["%s 0-CONFIG={ mode=disabled }" % space
-                    for space in sorted(spaces | {"<kernel>"}) if NAMESPACE.fullmatch(space)]
-        edits = ["editor 0 0 /tomoyo/check <kernel>", *self.chosen()]
-        edits += ["%s %s" % (name, " ".join(line_words)) for name, line_words in self.written]
-        opening = {"profile": profiles + self.passed["profile"],
-                   "exception_policy": self.passed["exception_policy"],
-                   "domain_policy": ["<kernel>"] + self.passed["domain_policy"],
-                   "manager": ["/tomoyo/check"] + self.passed["manager"],
-                   "trace": [], "edits": edits}
+                    for space in sorted(spaces | {KERNEL}) if NAMESPACE.fullmatch(space)]
+        editor = ["editor 0 0 /tomoyo/check <kernel>"]
+        if self.passed.chosen:
+            editor.append("domain_policy select " + self.passed.chosen)
+        opening.update(profile=profiles + opening["profile"], trace=[],
+                       manager=["/tomoyo/check"] + opening["manager"], edits=editor + self.edits)
         return {name: "".join(line + "\n" for line in lines) for name, lines in opening.items()}
+
+    def judge(self, refusals, steps):
+        """Refuses or passes the lines by their steps, and says of how many it has judged: it ends
+        behind a line where the editor has another domain than the lines of a file would have."""
+        chosen, steps = self.passed.chosen, iter(steps)
+        for judged, (line, again) in enumerate(self.lines):
+            reply = next(steps).reply
+            if refusals.are_enough() or reply == "no_profile" and line.words[0].startswith("<"):
+                return judged
+            if reply == "done":
+                self.passed.add(line)
+            else:
+                refusals.refuse(line.file, line.number, reply)
+            chosen = line.chosen_after(reply, chosen)
+            if again and next(steps).reply == "done":
+                chosen = again
+            if chosen != self.passed.chosen:
+                return judged + 1
+        return len(self.lines)
 
 
 def refuse_by_edits(engine, refusals):
-    """Refuses what an editor's lines are refused for, part by part.
-
-    A part ends where the files would be read otherwise: behind a `select` that is refused, since it
-    leaves no domain chosen where a line that is left out leaves the one before. All ends before a
-    domain whose namespace has no profile 0 here."""
-    places, passed = refusals.places(), {name: [] for name in POLICY}
-    while places and len(refusals.replies) < MOST:
-        part = Part(refusals, places)
-        part.passed = passed
+    """Refuses what an editor's lines are refused for, part by part. All ends before a domain whose
+    namespace has no profile 0 here."""
+    lines = refusals.left()
+    passed = Passed(lines)
+    while lines and not refusals.are_enough():
+        part = Part(passed, lines)
         ended = engine.call("step", part.files(), ["run"])
-        if ended.status or not part.places:
+        if ended.status or not part.lines:
             return
-        steps = read_run(ended.files["run"]).steps[-len(part.places):]
-        judged = judge_part(refusals, part, steps)
+        steps = read_run(ended.files["run"]).steps[-len(part.edits):]
+        judged = part.judge(refusals, steps)
         if not judged:
             return
-        places = places[judged:]
-
-
-def judge_part(refusals, part, steps):
-    """Refuses or passes the lines of a part by their steps, and says of how many it has judged."""
-    for count, ((name, number), (_, line_words), step) in enumerate(
-            zip(part.places, part.written, steps)):
-        if len(refusals.replies) >= MOST or \
-                step.reply == "no_profile" and line_words[0].startswith("<"):
-            return count
-        if step.reply == "done":
-            part.pass_line(name, line_words)
-            continue
-        refusals.refuse(name, number, step.reply)
-        if step.reply == "no_domain" and line_words[0] == "select":
-            return count + 1
-    return len(part.places)
+        lines = lines[judged:]
 
 
 def refuse_by_loads(engine, refusals):
     """Loads the files and refuses the line that the load is refused for, until it is done; what the
     last load was refused for beside a line is given."""
-    while len(refusals.replies) < MOST:
+    while not refusals.are_enough():
         ended = engine.call("print", refusals.files(), [])
         found = LINE.match(ended.line) if ended.status == REFUSED else None
         if not found:

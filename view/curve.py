@@ -50,7 +50,7 @@ def main(line):
         raise Stop("curve takes no words", BAD_WORDS)
     parts = curve(stored_run(Engine()))
     most = max([lines + left_out for _, _, lines, _, left_out in parts] + [1])
-    print("%15s %8s %8s" % ("requests", "lines", "domains"))
+    print("%15s %8s %8s  # lines" % ("requests", "lines", "domains"))
     for first, last, lines, domains, left_out in parts:
         bar = "#" * (WIDE * lines // most) + "-" * (WIDE * left_out // most)
         print(("%7d-%7d %8d %8d  %s" % (first, last, lines, domains, bar)).rstrip())

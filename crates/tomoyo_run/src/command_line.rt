@@ -40,7 +40,7 @@ Exit statuses:
    1  bad words; `bad words at P` counts the words of the command from 0
    2  a file can't be read
    3  a file is missing
-   4  a file is too long
+   4  a file is too long: it has more than 16,777,216 bytes
    5  a line of the policy is refused
    6  a domain has no profile
    7  a line of the trace is refused
@@ -142,7 +142,8 @@ usage: tomoyo_run [-C DIR] gen SEED SIZE
 Generates the policy files and a trace of SIZE trees of processes, stores them,
 and does what step does on them, without edits, answers and schedule. The same
 words always make the same files. SEED is a number below 2^64, SIZE is 1 to
-4096, both decimal without leading zeros.
+4096, both decimal without leading zeros. The run of some thousand trees has
+more than 16,777,216 bytes, and is too long for verify.
 
 Reads    nothing
 Stores   profile, exception_policy, domain_policy, manager and trace, over
@@ -162,7 +163,8 @@ the edits and the answers allow, in whatever order its steps came. The run may
 come from step, learn, gen or replay, or from anywhere else.
 
 Reads    the files that step reads, but for schedule, and run, which has to be
-         there
+         there; a file of more than 16,777,216 bytes is too long, as the run of
+         a long trace may be
 Stores   nothing
 Prints   legal yes, or legal no CLAUSE PLACE: the first clause that doesn't
          hold, i to viii, and the number of the first take or step that breaks
@@ -188,7 +190,8 @@ usage: tomoyo_run [-C DIR] sort
 Sorts the records of an audit file, such as step stores: each goes to the part
 that the first rule that accepts it names, and to part 0 where none does.
 
-Reads    audit and sorter, which have to be there
+Reads    audit and sorter, which have to be there; a file of more than
+         16,777,216 bytes is too long, as the audit of a long trace may be
 Stores   audit.0, and audit.N for each N from 1 to 15 that a rule names, by
          rising number; a part that takes no record is stored empty
 Prints   records R, and for each part that is stored a line `sent N K` with the
