@@ -92,7 +92,7 @@ fn begin_refusing(alloc: Global, loaded: Loaded) -> Result<Opened<Refusing>, NoM
         return Err(AllocError);
     };
     let stands = has_supervisor(&book);
-    let rep = Refusing::new(policy);
+    let rep = Refusing { inner: policy };
     let machine = Machine::start(alloc, rep, editors.into_vec(), trees, stands)?;
     Ok(Opened {
         machine,

@@ -1,7 +1,4 @@
 //! A representation of a policy for which no line can be learned, since no memory is left for it.
-ghost use Rattle.std.specs.Prelude.{◌≡◌};
-ghost use Rattle.tm_types.specs.declared.policy.Policy.{Policy};
-
 use std::alloc::{AllocError, Global};
 use tm_indexed::Indexed;
 use tm_list::NoMemory;
@@ -18,16 +15,7 @@ use tm_types::verdict::Found;
 /// to be learned finds no memory.
 #[derive(Drop)]
 pub(crate) struct Refusing {
-    inner: Indexed,
-}
-
-impl Refusing {
-    /// The representation of the policy of this one. Takes no memory.
-    pub(crate) fn new(inner: Indexed) -> Refusing
-        ensures { Refusing.policy result ≡ inner }
-    {
-        Refusing { inner }
-    }
+    pub(crate) inner: Indexed,
 }
 
 impl Rep for Refusing {
