@@ -3,12 +3,15 @@ ghost use Rattle.std.specs.Prelude.{[], ⊤, ◌≡◌};
 ghost use Rattle.tm_tests_alone.specs.Opened.{CanBePlayed};
 
 use crate::alone::is_stored;
-use crate::opened::{Opened, files, open_machine, read};
+use crate::opened::{Opened, files, open_machine, open_refusing, read};
 use std::alloc::{AllocError, Global};
 use std::process::Abort;
 use std::sync::Wait;
+use std::sync::atomic::{AtomicU64, Ordering};
 use std::test::Fail;
+use std::thread;
 use std::thread::Threads;
+use std::time::{Clock, Duration};
 use tm_call_input::Loaded;
 use tm_core::Machine;
 use tm_desk::{Desk, book_code};
@@ -24,17 +27,20 @@ use tm_steal::steal_all;
 use tm_types::step::{Query, Run};
 use tomoyo::rerun;
 
+const LEARNING: &str = "0-CONFIG={ mode=learning grant_log=no reject_log=no }\n";
+
+const READS_A: &str = "<kernel>\nfile read /a\n";
+
+const FORKS: &str =
+    "tree 7 <kernel>\nfork 7 8\ndo 7 file read /a\ndo 7 file read /b\ndo 7 file read /b\n";
+
+const ALL_YES: &str = "rule yes : any : any\n";
+
 // What only one process asks has one order of steps, whoever plays it.
 const FORKED: [(FileName, &str); 3] = [
-    (
-        FileName::Profile,
-        "0-CONFIG={ mode=learning grant_log=no reject_log=no }\n",
-    ),
-    (FileName::DomainPolicy, "<kernel>\nfile read /a\n"),
-    (
-        FileName::Trace,
-        "tree 7 <kernel>\nfork 7 8\ndo 7 file read /a\ndo 7 file read /b\ndo 7 file read /b\n",
-    ),
+    (FileName::Profile, LEARNING),
+    (FileName::DomainPolicy, READS_A),
+    (FileName::Trace, FORKS),
 ];
 
 // The text of a run, and whether the machine is at its last version.
@@ -148,10 +154,91 @@ fn has_failed<W: Threads + Wait + Sync>(
     Ok(played.is_err())
 }
 
+// Whether a play by two workers that share the processes ends, and without a result, where no line
+// can be learned.
+fn has_learned_nothing<W: Threads + Wait + Sync>(
+    rt: &W,
+    alloc: Global,
+    texts: &[(FileName, &str)],
+) -> Result<bool, NoMemory> {
+    let Opened {
+        machine,
+        trace,
+        book,
+    } = open_refusing(alloc, texts)?;
+    let desk = Desk::new(&book, |query: &Query| book_code(&book, query));
+    let played = steal_all(rt, alloc, machine, &trace, 2, &desk, &NoGate);
+    Ok(played.is_err())
+}
+
+// Looks at whether something has ended, and ends the test where it hasn't for half a minute.
+fn watch<W: Clock + Abort>(rt: &W, ended: &AtomicU64) {
+    for _ in 0..3000_u64 {
+        if ended.load(Ordering::SeqCst) == 1 {
+            return;
+        }
+        thread::sleep(rt, Duration::from_millis(10));
+    }
+    panic!(rt; "somebody waits for ever");
+}
+
+// The one or the other while it is watched.
+fn has_failed_in_time<W: Threads + Wait + Abort + Clock + Sync>(
+    rt: &W,
+    alloc: Global,
+    texts: &[(FileName, &str)],
+    learns: bool,
+) -> Result<bool, NoMemory> {
+    let ended = AtomicU64::new(0);
+    let (failed, ()) = thread::join(
+        rt,
+        || {
+            let failed = if learns {
+                has_learned_nothing(rt, alloc, texts)
+            } else {
+                has_failed(rt, alloc, texts)
+            };
+            ended.store(1, Ordering::SeqCst);
+            failed
+        },
+        || watch(rt, &ended),
+    );
+    failed
+}
+
+const SUPERVISED: [(FileName, &str); 4] = [
+    (FileName::Profile, LEARNING),
+    (FileName::DomainPolicy, READS_A),
+    (FileName::Trace, FORKS),
+    (FileName::Answers, ALL_YES),
+];
+
 #[test]
 fn a_worker_that_fails_lets_nobody_wait(rt: HostRuntime) -> Result<(), Fail> {
     for _ in 0..10 {
-        assert!(&rt; has_failed(&rt, rt.alloc(), &FORKED)?);
+        assert!(&rt; has_failed_in_time(&rt, rt.alloc(), &FORKED, false)?);
+        assert!(&rt; has_failed_in_time(&rt, rt.alloc(), &SUPERVISED, false)?);
+    }
+    Ok(())
+}
+
+// Whoever plays tree 7 has a line to learn, and fails; the other worker has soon played what is
+// left, and looks for more until all have ended or one has given up.
+const ONE_LEARNS: [(FileName, &str); 4] = [
+    (FileName::Profile, LEARNING),
+    (FileName::DomainPolicy, READS_A),
+    (
+        FileName::Trace,
+        "tree 7 <kernel>\ndo 7 file read /b\ntree 8 <kernel>\ndo 8 file read /a\ntree 9 <kernel>\ndo 9 file read /a\n",
+    ),
+    (FileName::Answers, ALL_YES),
+];
+
+#[test]
+fn a_worker_that_fails_lets_nobody_look_for_more(rt: HostRuntime) -> Result<(), Fail> {
+    for _ in 0..10 {
+        assert!(&rt; has_failed_in_time(&rt, rt.alloc(), &ONE_LEARNS[..3], true)?);
+        assert!(&rt; has_failed_in_time(&rt, rt.alloc(), &ONE_LEARNS, true)?);
     }
     Ok(())
 }

@@ -14,3 +14,5 @@ mod joint;
 mod looks;
 #[cfg(test)]
 mod opened;
+#[cfg(test)]
+mod refusing;
