@@ -8,7 +8,7 @@ import re
 from uses import scope_of
 
 ITEM = re.compile(r"\"[^\"]*\"|[^\s(){}\[\],;.\"]+|[(){}\[\],;.]")
-LEAST_OF_A_DEFINITION, LEAST_OF_A_FUNCTION = 16, 30
+LEAST_OF_A_DEFINITION, LEAST_OF_A_FUNCTION = 14, 24
 KEYWORDS = set("""as break const continue else enum false fn for if impl in let loop match mod move
     mut pub ref return self Self static struct super true type use where while Ok Err Some None
     u8 u16 u32 u64 u128 usize bool Vec String Option Result""".split())
