@@ -66,7 +66,7 @@ def code_shape(function):
     names by their number."""
     numbers, tokens = {}, function.tokens
     for before, token, after in zip(["", *tokens], tokens, [*tokens[1:], ""]):
-        if token == function.name and after == "(":
+        if token == function.name and after == "(" and before != ".":
             yield "itself"
         elif (not re.match(r"[a-z_]", token) or token in KEYWORDS or before in (".", ":")
               or after in ("(", ":", "!")):
