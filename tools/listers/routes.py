@@ -74,13 +74,14 @@ def by_code(sources):
 
 
 def by_definitions(sources):
-    """The detours of definitions, lemmas and clauses, likewise; what a Lib passes on isn't one."""
+    """The detours of definitions, lemmas and clauses, likewise. A file that passes names on one by
+    one is there to be imported in their place."""
     for file in sources.files():
         for one in file.imports:
             if one.is_passed_on:
                 continue
             for name in one.names.values() if one.names else [""]:
-                origin = sources.origin(one.module, name)
-                if origin[0].split(".")[1] != one.module.split(".")[1]:
+                own = sources.own(one.module)
+                if own.split(".")[1] != one.module.split(".")[1]:
                     yield (file, one.line, ".".join([one.module, name]).rstrip("."),
-                           ".".join(origin).rstrip("."))
+                           ".".join([own, name]).rstrip("."))
