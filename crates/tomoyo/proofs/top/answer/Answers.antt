@@ -10,5 +10,5 @@ returns-in-Ok g c =
     let h = c.perform.ensures in
     record {
       called = rw c.in-Ok.is
-      (called-of c.in-Ok.command (outside g.S.Shelf g.K.Sink c.args.shelf.now c.args.out.now) (outside g.S.Shelf g.K.Sink c.perform.new.shelf c.perform.new.out) c.perform.result h.ends h.fetches h.stores h.stores_last);
+          (called-of c.in-Ok.command (outside g.S.Shelf g.K.Sink c.args.shelf.now c.args.out.now) (outside g.S.Shelf g.K.Sink c.perform.new.shelf c.perform.new.out) c.perform.result h.ends h.fetches h.stores h.stores_last);
     }
