@@ -1,6 +1,6 @@
 -- What a worker has stolen, event by event.
 use Rattle.std.proofs.Common.{◌≡◌, ℕ, true, List, [], ◌∷◌, ◌++◌, map, ap, ◌∙◌, subst, sym, append_assoc, append-nil}
-use Rattle.std.specs.Prelude.{Result, Ok, Err, IfOk}
+use Rattle.std.specs.Prelude.{Option, Some, Result, Ok, Err, IfOk, IfSome}
 use Rattle.std.specs.List.{AllByRecursion}
 use Rattle.std.proofs.lemmas.List.{map-append}
 use Rattle.tm_types.specs.declared.request.Request.{Request}
@@ -17,6 +17,10 @@ use Rattle.tm_steal_rows.specs.declared.played.PlayedTake.{PlayedTake}
 use Rattle.tm_steal_rows.specs.Playing.{Event, IsStealing, StealsOn, events_of, IsTakeOf, IsOfProcess}
 use Rattle.tm_steal_rows.proofs.Stealing.{events-more}
 use Rattle.tm_steal.specs.Boards.{GoesOn, GoesOnWith}
+
+-- what holds of what was found
+pub found-so : {A : Type 0} (P : A → Type 0) (found : Option A) (x : A) → found ≡ Some x → IfSome found P → P x
+found-so P found x is h = subst (λ o. IfSome o P) is h
 
 -- what holds holds for each hand
 pub for-each : {H : Type 0} (P : Type 0) (hands : List H) → P → AllByRecursion (λ (hand : H). P) hands
