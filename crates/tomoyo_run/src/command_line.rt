@@ -142,8 +142,8 @@ usage: tomoyo_run [-C DIR] gen SEED SIZE
 Generates the policy files and a trace of SIZE trees of processes, stores them,
 and does what step does on them, without edits, answers and schedule. The same
 words always make the same files. SEED is a number below 2^64, SIZE is 1 to
-4096, both decimal without leading zeros. The run of some thousand trees has
-more than 16,777,216 bytes, and is too long for verify.
+4096, both decimal without leading zeros. From a SIZE of about 3,900 on the run
+has more than 16,777,216 bytes, and is too long for verify.
 
 Reads    nothing
 Stores   profile, exception_policy, domain_policy, manager and trace, over
