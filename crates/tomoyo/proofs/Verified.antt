@@ -1,5 +1,5 @@
 -- What was played leaves a legal run, and of a legal run `verify` says yes.
-use Rattle.std.proofs.Common.{◌≡◌, ◌∙◌, ℕ, List, [], ◌∷◌, Bool, false, Ok, refl, sym, ap, subst}
+use Rattle.std.proofs.Common.{◌≡◌, ◌∙◌, ℕ, List, [], ◌∷◌, Bool, true, false, Ok, refl, sym, ap, subst}
 use Rattle.std.specs.Prelude.{Option, Some, None, Result, MatchOption}
 use Rattle.tm_io.specs.declared.names.FileName.{FileName}
 use Rattle.tm_io.specs.Files.{FileState, Files}

@@ -9,7 +9,7 @@ use Rattle.tm_verify.specs.Scenes as scenes
 use Rattle.tm_verify.specs.Players.{course_of, player_of}
 use Rattle.tm_gen_laws.specs.Reading.{start_of}
 use Rattle.tomoyo.proofs.Playing.{reached, play-of}
-use Rattle.tomoyo.proofs.ways.run_by_turns.Goals as goal
+use Rattle.tomoyo.proofs.runs.run_by_turns.Goals as goal
 
 pub play_out-requires-clause-reached : goal.play_out-requires-clause-reached
 play_out-requires-clause-reached c =
