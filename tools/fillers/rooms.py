@@ -4,30 +4,16 @@ Behind a line `<!-- room: CRATE .. -->` of the page stands a line for each of th
 sentence of its root file. Each crate of crates.txt is in one room. Behind the line
 `<!-- crates of laws -->` stand those whose functions have no body: they are laws alone."""
 import glob
-import os
 import re
 import textwrap
 
 from crates import listed
-from pages import Fault, TOP
+from pages import Fault
+from roots import purpose, source
 
 ROOM = re.compile(r"<!-- room: ([\w ]+) -->")
 LAWS = "<!-- crates of laws -->"
 FUNCTION = re.compile(r"^\s*(?:pub )?fn \w+.*?(\{\}|\{|;)$", re.MULTILINE | re.DOTALL)
-
-
-def source(crate, name):
-    return os.path.join(TOP, "crates", crate, "src", name)
-
-
-def sentence(crate):
-    """What a crate is for: the first sentence of its root file."""
-    for name in ("lib.rt", "main.rt"):
-        if os.path.isfile(source(crate, name)):
-            with open(source(crate, name), encoding="utf-8") as file:
-                lines = [line[4:].rstrip("\n") for line in file if line.startswith("//! ")]
-            return re.match(r"(.*?)\.( |$)", " ".join(lines)).group(1)
-    raise Fault("crate %s has no root file" % crate)
 
 
 def is_law(crate):
@@ -47,7 +33,7 @@ def wrapped(text, indent=""):
 def room(crates):
     lines = []
     for crate in crates:
-        lines += wrapped("`%s`: %s." % (crate, sentence(crate)), "- ")
+        lines += wrapped("`%s`: %s" % (crate, purpose(crate)), "- ")
     return lines
 
 

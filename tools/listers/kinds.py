@@ -26,15 +26,21 @@ def uncited(sources, kept):
 
 
 def proofs(sources, kept):
-    """Definitions of specs that no clause of the code stands on, and only proofs cite.
+    """Definitions of specs that no clause of the code stands on, and only one file of proofs cites.
 
-    They belong to the proofs that cite them."""
+    They belong to that file. Specs is where several files share a definition."""
     uses = Uses(sources)
     alone = {one for one in uses.cites if one.file.part == "specs" and not kept.has_definition(one)}
     alone -= uses.reached(uses.by_clauses) | set(uses.uncited(set()))
-    yield "definitions that only proofs cite: %d with %d lines" % (
-        len(alone), sum(one.length for one in alone)), [
-            "%s, %d lines" % (one, one.length) for one in sorted(alone)]
+    files = collections.defaultdict(set)
+    for one, cited_ones in uses.cites.items():
+        for other in alone & cited_ones:
+            files[other].add(one.file.path)
+    found = sorted(one for one, paths in files.items()
+                   if len(paths) == 1 and one.file.path not in paths)
+    yield "definitions that one file of proofs alone cites: %d with %d lines" % (
+        len(found), sum(one.length for one in found)), [
+            "%s, %d lines" % (one, one.length) for one in found]
 
 
 def uncalled(sources, kept):
@@ -92,25 +98,19 @@ def crates(sources, _):
 
 
 def imports(sources, _):
-    """Imports of a definition or an item through another crate than its own.
+    """Imports of a definition or an item through another crate than its own, which is listed.
 
     A crate passes on what those above it need, so that they don't list what stands below it. Where
-    the own crate is listed all the same, the detour serves nothing."""
-    rest = []
+    the own crate is listed all the same, the detour serves nothing, unless by it one file passes
+    definitions of several crates on."""
     for what, detours, sign in (("items", routes.by_code, "::"),
                                 ("definitions and lemmas", routes.by_definitions, ".")):
-        found = collections.defaultdict(list)
+        found = []
         for file, line, path, origin in detours(sources):
             own = origin.removeprefix("Rattle.").split(sign)[0]
-            is_listed = own in sources.crates[file.crate].stands_on
-            found[is_listed].append("%s:%d %s is %s" % (file.path, line, path, origin))
-        for is_listed, head in (True, "whose own crate is listed"), (False, "of crates below"):
-            part = "imports of %s %s: %d" % (what, head, len(found[is_listed])), found[is_listed]
-            if is_listed:
-                yield part
-            else:
-                rest.append(part)
-    yield from rest
+            if own in sources.crates[file.crate].stands_on:
+                found.append("%s:%d %s is %s" % (file.path, line, path, origin))
+        yield "imports of %s: %d" % (what, len(found)), found
 
 
 def same(sources, kept):

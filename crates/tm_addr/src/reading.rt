@@ -9,7 +9,7 @@ ghost use Rattle.tm_number.specs.declared.AddrRange.{AddrRange};
 
 use thiserror::Error;
 use tm_number::word::{cut_at, has_byte, place_of};
-use tm_number::{Addr, AddrRange, is_numeral, plain_number, value_of_digits};
+use tm_number::{Addr, AddrRange, is_at_most, is_numeral, plain_number, value_of_digits};
 
 /// Why a text is no address or no range of addresses. A single address meets the first alone.
 #[derive(Clone, Copy, PartialEq, Eq, Debug, Error)]
@@ -266,18 +266,6 @@ fn same_family(low: Addr, high: Addr) -> bool
     match (low, high) {
         (Addr::V4(_), Addr::V4(_)) => true,
         (Addr::V6(_), Addr::V6(_)) => true,
-        (Addr::V4(_), Addr::V6(_)) => false,
-        (Addr::V6(_), Addr::V4(_)) => false,
-    }
-}
-
-/// Whether the first address stands at or before the second, in one family.
-fn is_at_most(first: Addr, second: Addr) -> bool
-    ensures { result ≡ addr_le first second }
-{
-    match (first, second) {
-        (Addr::V4(first), Addr::V4(second)) => first <= second,
-        (Addr::V6(first), Addr::V6(second)) => first <= second,
         (Addr::V4(_), Addr::V6(_)) => false,
         (Addr::V6(_), Addr::V4(_)) => false,
     }

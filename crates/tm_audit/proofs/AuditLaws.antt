@@ -2,21 +2,10 @@
 use Rattle.std.proofs.Common.{◌≡◌, ℕ, Bool, true, false, refl, sym, ap, ◌∙◌}
 use Rattle.std.specs.Prelude.{Option, Some, None, option_map, if◌then◌else◌, ◌&&◌}
 use Rattle.std.specs.Option.{option_and_then}
-use Rattle.tm_word.specs.Words.{Text}
-use Rattle.tm_types.specs.declared.policy.Domain.{Domain}
-use Rattle.tm_types.specs.declared.policy.Function.{Function}
-use Rattle.tm_types.specs.declared.policy.Logs.{Logs}
-use Rattle.tm_types.specs.declared.policy.Mode.{Mode}
-use Rattle.tm_types.specs.declared.policy.Policy.{Policy}
-use Rattle.tm_types.specs.declared.request.Proc.{Proc}
-use Rattle.tm_types.specs.declared.request.Request.{Request}
-use Rattle.tm_types.specs.declared.verdict.Verdict.{Verdict}
-use Rattle.tm_types.specs.Functions.{function_of}
+use Rattle.tm_word.specs.Prelude.{Text}
+use Rattle.tm_rules.specs.Types.{Domain, Function, Logs, Mode, Policy, Proc, Request, Verdict, function_of}
 use Rattle.tm_change_domains.specs.Standing.{Standing, StandsIn}
-use Rattle.tm_rules.specs.Grammar.{Grammar}
-use Rattle.tm_rules.specs.Mode.{logs_of}
-use Rattle.tm_rules.specs.Policy.{domain_at, profile_of}
-use Rattle.tm_rules.specs.Audit.{is_logged, audit_lines, audit_in, audit_text}
+use Rattle.tm_rules.specs.Prelude.{Grammar, audit_in, audit_lines, audit_text, domain_at, is_logged, logs_of, profile_of}
 use Rattle.tm_audit.specs.Parts.{PrintsRequests, is_audited, logged, lines}
 
 and_then_map : {A B C : Type 0} (l : B → C) (f : A → Option C) (g : A → Option B) → ((x : A) → f x ≡ option_map l (g x)) → (o : Option A) → option_and_then f o ≡ option_map l (option_and_then g o)

@@ -2,29 +2,9 @@
 use Rattle.std.proofs.Common.{◌≡◌, ℕ, Bool, true, false, List, [], ◌∷◌, ◌++◌, Some, None, refl}
 use Rattle.std.specs.Prelude.{codes, Option, Err}
 use Rattle.std.specs.Fmt.{digits}
-use Rattle.tm_word.specs.Words.{Text}
-use Rattle.tm_word.specs.Printing.{literal, spelled_pattern}
-use Rattle.tm_types.specs.declared.entry.Args.{Args}
-use Rattle.tm_types.specs.declared.entry.Entry.{Entry}
-use Rattle.tm_types.specs.declared.entry.LineKind.{LineKind}
-use Rattle.tm_types.specs.declared.unions.NamePlace.{NamePlace}
-use Rattle.tm_types.specs.declared.unions.NameUnion.{NameUnion}
-use Rattle.tm_types.specs.declared.policy.Domain.{Domain}
-use Rattle.tm_types.specs.declared.policy.Mode.{Mode}
-use Rattle.tm_types.specs.declared.policy.Namespace.{Namespace}
-use Rattle.tm_types.specs.declared.policy.Policy.{Policy}
-use Rattle.tm_types.specs.declared.policy.Profile.{Profile}
-use Rattle.tm_types.specs.declared.request.Attributes.{Attributes}
-use Rattle.tm_types.specs.declared.request.Proc.{Proc}
-use Rattle.tm_types.specs.declared.request.Request.{Request}
-use Rattle.tm_types.specs.declared.verdict.EntryPlace.{EntryPlace}
-use Rattle.tm_types.specs.declared.verdict.Move.{Move}
-use Rattle.tm_types.specs.declared.verdict.Reason.{Reason}
-use Rattle.tm_types.specs.declared.verdict.Verdict.{Verdict}
-use Rattle.tm_types.specs.Functions.{function_of}
-use Rattle.tm_rules.specs.Grammar.{Grammar}
-use Rattle.tm_rules.specs.Mode.{config_of}
-use Rattle.tm_rules.specs.Policy.{namespace_named}
+use Rattle.tm_word.specs.Prelude.{Text, literal, spelled_pattern}
+use Rattle.tm_rules.specs.Types.{Args, Attributes, Domain, Entry, EntryPlace, LineKind, Mode, Move, NamePlace, NameUnion, Namespace, Policy, Proc, Profile, Reason, Request, Verdict, function_of}
+use Rattle.tm_rules.specs.Prelude.{Grammar, audit_text, config_of, namespace_named}
 use Rattle.tm_line.specs.Permissions.{perm_on}
 use Rattle.tm_line.specs.Printing.{name_spelling}
 use Rattle.tm_grammar.specs.FileLines.{file_words}
@@ -32,7 +12,6 @@ use Rattle.tm_grammar.specs.NetLines.{net_words}
 use Rattle.tm_grammar.specs.Entries.{acl_words}
 use Rattle.tm_grammar.specs.Attributes.{attr_text}
 use Rattle.tm_grammar.specs.Printing.{attribute_words, request_words, request_text, attributes_text}
-use Rattle.tm_rules.specs.Audit.{audit_text}
 use Rattle.tm_audit.specs.Parts.{PrintsRequests}
 
 -- all definitions that are shut elsewhere, opened by naming this one

@@ -1,9 +1,9 @@
 -- Texts that are put together.
 use Rattle.std.proofs.Common.{◌≡◌, ◌++◌, append_assoc}
 use Rattle.std.specs.Prelude.{codes, decimal}
-use Rattle.tm_word.specs.Words.{Text}
-use Rattle.tm_types.specs.declared.request.Proc.{Proc}
-use Rattle.tm_rules.specs.Audit.{ids_text}
+use Rattle.tm_word.specs.Prelude.{Text}
+use Rattle.tm_rules.specs.Types.{Proc}
+use Rattle.tm_rules.specs.Prelude.{ids_text}
 
 regrouped : (o a b c d e f g h i j k l m n p q r s t u : Text)
     → o ++ a ++ b ++ c ++ d ++ e ++ f ++ g ++ h ++ i ++ j ++ k ++ l ++ m ++ n ++ p ++ q ++ r ++ s ++ t ++ u

@@ -1,19 +1,10 @@
 -- The parts of an audit text: where one is made, and its lines.
 use Rattle.std.specs.Prelude.{◌≡◌, Bool, true, false, ◌&&◌, [], ◌∷◌, ◌++◌, Option, Some, None, if◌then◌else◌, decimal, codes}
 use Rattle.std.specs.Option.{option_and_then}
-use Rattle.tm_word.specs.Words.{Text}
-use Rattle.tm_types.specs.declared.policy.Mode.{Mode}
-use Rattle.tm_types.specs.declared.policy.Domain.{Domain}
-use Rattle.tm_types.specs.declared.request.Proc.{Proc}
-use Rattle.tm_types.specs.declared.request.Request.{Request}
-use Rattle.tm_types.specs.declared.verdict.Reason.{Reason}
-use Rattle.tm_types.specs.declared.verdict.Verdict.{Verdict}
-use Rattle.tm_types.specs.Functions.{function_of}
-use Rattle.tm_rules.specs.Grammar.{Grammar}
-use Rattle.tm_rules.specs.Mode.{logs_of}
+use Rattle.tm_word.specs.Prelude.{Text}
+use Rattle.tm_rules.specs.Types.{Domain, Mode, Proc, Reason, Request, Verdict, function_of, mode_text}
+use Rattle.tm_rules.specs.Prelude.{Grammar, granted_text, ids_text, is_logged, logs_of, reason_text}
 use Rattle.tm_change_domains.specs.Standing.{Standing}
-use Rattle.tm_types.specs.Texts.{mode_text}
-use Rattle.tm_rules.specs.Audit.{is_logged, granted_text, reason_text, ids_text}
 use Rattle.tm_grammar.specs.Printing.{request_text, attributes_text}
 
 -- a grammar that prints requests and their attributes as a trace does

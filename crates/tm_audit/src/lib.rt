@@ -1,14 +1,15 @@
 //! Audit texts: what is written of a request once it is decided.
 //! Stands on tm_change_domains for where a look stands, on tm_profile, and on tm_trace's printing.
+//! Of its own, so that verdicts (tm_verdict) don't stand on audit texts, nor these on verdicts.
 //! Promises that the text is the defined one, and that no memory is taken where there is none.
 #![tactic(auto)]
 
 ghost use Rattle.std.specs.Prelude.{◌≡◌, ◌++◌, Ok, None, IfOk, OnOk, decimal};
 ghost use Rattle.std.specs.Option.{option_copied};
-ghost use Rattle.tm_types.specs.declared.policy.Policy.{Policy};
+ghost use Rattle.tm_rules.specs.Types.{Policy};
 ghost use Rattle.tm_change_domains.specs.Standing.{StandsIn};
 ghost use Rattle.tm_grammar.specs.Tomoyo.{tomoyo_grammar};
-ghost use Rattle.tm_rules.specs.Audit.{grant_logged, is_logged, granted_text, reason_text, ids_text, audit_text};
+ghost use Rattle.tm_rules.specs.Prelude.{audit_text, grant_logged, granted_text, ids_text, is_logged, reason_text};
 ghost use Rattle.tm_audit.specs.Parts.{is_audited, logged, header, lines};
 
 use std::alloc::Global;
@@ -200,9 +201,10 @@ pub fn audit_in(
 
 /// The audit text of a request of this process in the domain of this number, on which this is the
 /// verdict of this policy: the header with the attributes, the domain's name, the request's line,
-/// and an empty line. None for a manual transition, in mode disabled, and where the log of the
-/// verdict's reason is off: for a grant by an entry its own `grant_log` or else the profile's grant
-/// log, for every other reason the profile's reject log. Takes no memory where there is no text.
+/// and an empty line. None where the domain or its profile isn't there, for a manual transition, in
+/// mode disabled, and where the log of the verdict's reason is off: for a grant by an entry its own
+/// `grant_log` or else the profile's grant log, for every other reason the profile's reject log.
+/// Takes no memory where there is no text. Errors: want of memory.
 #[tactic(auto, using(crate::proofs::AuditLaws::audit_nowhere))]
 pub fn audit_text(
     alloc: Global,

@@ -1,16 +1,16 @@
 -- The order of fetches and stores, call by call.
-use Rattle.std.proofs.Common.{◌∙◌, ◌<◌, ◌+◌, ℕ, List, [], ◌∷◌, ◌++◌, refl, sym, ap, subst, length, get_or, take, drop, append_assoc, append-nil, take-append-drop}
+use Rattle.std.proofs.Common.{◌∙◌, ◌<◌, ◌+◌, ℕ, List, [], ◌∷◌, ◌++◌, sym, ap, subst, length, get_or, take, drop, append_assoc, append-nil, take-append-drop}
 use Rattle.std.specs.Prelude.{map}
 use Rattle.std.proofs.lemmas.List.{take_more, drop_more, map-append}
 use Rattle.tm_io.specs.declared.names.FileName.{FileName}
-use Rattle.tm_io.specs.Files.{FileState, Files}
+use Rattle.tm_io.specs.Files.{FileState}
 use Rattle.tm_io.specs.Notes.{Noted}
 use Rattle.tm_io.proofs.NoteLaws.{noted-both}
 use Rattle.tm_call.specs.declared.status.Status.{Status}
 use Rattle.tm_call.specs.declared.status.OutName.{OutName}
 use Rattle.tm_call.specs.declared.fetches.Want.{Want}
 use Rattle.tm_call.specs.declared.carry.Outcome.{Outcome}
-use Rattle.tm_call.specs.Fetches.{FetchCause, FetchStops}
+use Rattle.tm_call.specs.Fetches.{FetchCause}
 use Rattle.tm_call.specs.Calls.{Names, FirstCalls, LastCall, FetchesOf, StoresOf}
 use Rattle.tm_call.specs.Ends.{Outside, CarriedOut}
 
@@ -44,10 +44,6 @@ first-last files name a b last = record { made = last.before ++ name ∷ []; lef
 pub first-all : (files : List FileName) (a b : Names) → Noted files a b → FirstCalls files a b
 first-all files a b noted = record { made = files; left = []; all = sym (append-nil files); noted = noted }
 
--- no call is made first
-pub first-none : (files : List FileName) (a b : Names) → Noted [] a b → FirstCalls files a b
-first-none files a b noted = record { made = []; left = files; all = refl; noted = noted }
-
 -- the fetch that decides is the last one
 pub fetches-stopped : (files : List FileName) (want : Want) (state : FileState) (rose : Type 0) (status : Status) (a b : Names) → FetchCause want state rose status → LastCall files want.name a b → FetchesOf files status a b
 fetches-stopped files want state rose Status.Done a b cause last = absurd cause
@@ -65,24 +61,6 @@ fetches-stopped files want state rose (Status.BadAudit line) a b cause last = ab
 fetches-stopped files want state rose (Status.BadRun line) a b cause last = absurd cause
 fetches-stopped files want state rose (Status.WriteFault name) a b cause last = absurd cause
 fetches-stopped files want state rose Status.OutOfMemory a b cause last = first-last files want.name a b last
-
--- a fetch decides before anything is stored
-pub stores-unfetched : (files : List FileName) (held : Files) (wants : List Want) (rose : Type 0) (status : Status) (a b : Names) → FetchStops held wants rose status → Noted [] a b → StoresOf files status a b
-stores-unfetched files held wants rose Status.Done a b stops none = absurd stops.cause
-stores-unfetched files held wants rose (Status.BadWords place) a b stops none = none
-stores-unfetched files held wants rose (Status.ReadFault name) a b stops none = none
-stores-unfetched files held wants rose (Status.Absent name) a b stops none = none
-stores-unfetched files held wants rose (Status.TooLong name) a b stops none = none
-stores-unfetched files held wants rose (Status.BadPolicy file line reply) a b stops none = none
-stores-unfetched files held wants rose (Status.UndefinedProfile domain) a b stops none = none
-stores-unfetched files held wants rose (Status.BadTrace line kind) a b stops none = none
-stores-unfetched files held wants rose (Status.BadScript name line kind) a b stops none = none
-stores-unfetched files held wants rose (Status.TooMany what) a b stops none = none
-stores-unfetched files held wants rose (Status.BadRules line kind) a b stops none = none
-stores-unfetched files held wants rose (Status.BadAudit line) a b stops none = none
-stores-unfetched files held wants rose (Status.BadRun line) a b stops none = none
-stores-unfetched files held wants rose (Status.WriteFault name) a b stops none = absurd stops.cause
-stores-unfetched files held wants rose Status.OutOfMemory a b stops none = first-none files a b none
 
 -- an outcome is carried out after all fetches
 pub fetches-carried : (files : List FileName) (outcome : Outcome) (old new : Outside) (status : Status) (a b : Names) → CarriedOut outcome old new status → Noted files a b → FetchesOf files status a b

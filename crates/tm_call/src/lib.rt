@@ -1,5 +1,6 @@
 //! A call: its words, what it fetches, how it ends, and how its outcome is stored and put.
 //! Stands on tm_io for files and standard output, and on tm_types for what faults name.
+//! Of its own, on no policy and no trace: it is the same whatever a command does with its files.
 //! Promises that the first fetch that gives nothing ends a call, and that stores come in their
 //! order.
 #![tactic(auto)]

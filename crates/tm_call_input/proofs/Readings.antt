@@ -2,18 +2,9 @@
 use Rattle.std.proofs.Common.{◌≡◌, ℕ, ◌+◌, Bool, true, false, not, ◌&&◌, List, [], ◌∷◌, length, refl, sym, ap, ◌∙◌, subst}
 use Rattle.std.specs.Prelude.{Option, Some, None, Result, Ok, Err, IsSome, is_some, nat_lt, if◌then◌else◌}
 use Rattle.std.specs.List.{AllByRecursion, position_from, list_all}
-use Rattle.tm_word.specs.Words.{Text}
-use Rattle.tm_word.specs.Gives.{◌>>=◌}
-use Rattle.tm_rules.specs.Words.{Trace}
-use Rattle.tm_rules.specs.Policy.{live_domain}
-use Rattle.tm_types.specs.declared.policy.Policy.{Policy}
-use Rattle.tm_types.specs.declared.request.Tree.{Tree}
-use Rattle.tm_types.specs.declared.request.TraceKind.{TraceKind}
-use Rattle.tm_types.specs.declared.request.ScriptKind.{ScriptKind}
-use Rattle.tm_types.specs.declared.step.Book.{Book}
-use Rattle.tm_types.specs.declared.step.BookRule.{BookRule}
-use Rattle.tm_types.specs.declared.step.LoadFault.{LoadFault}
-use Rattle.tm_types.specs.declared.step.Turn.{Turn}
+use Rattle.tm_word.specs.Prelude.{Text, ◌>>=◌}
+use Rattle.tm_rules.specs.Prelude.{Trace, live_domain}
+use Rattle.tm_rules.specs.Types.{Book, BookRule, LoadFault, Policy, Run, ScriptKind, TraceKind, Tree, Turn}
 use Rattle.tm_call.specs.declared.status.Status.{Status}
 use Rattle.tm_io.specs.declared.names.FileName.{FileName}
 use Rattle.tm_core.specs.Tomoyo.{tomoyo_grammar}
@@ -22,13 +13,12 @@ use Rattle.tm_trace.specs.Reading.{trace_of}
 use Rattle.tm_trace.proofs.EachAsked.{requests_bounded}
 use Rattle.tm_trace.proofs.TraceRead.{trace_read}
 use Rattle.tm_run.specs.Reading as run
-use Rattle.tm_types.specs.declared.step.Run.{Run}
 use Rattle.tm_script.specs.Edits.{edits_of}
 use Rattle.tm_script.specs.Answers.{answers_of}
 use Rattle.tm_script.specs.Schedule.{schedule_of}
 use Rattle.tm_script.specs.Written.{is_rule, is_book, has_supervisor, edit_count}
 use Rattle.tm_script.proofs.ReadLaws.{books_right}
-use Rattle.tm_legal.specs.Play.{CanPlay, ends_so, book_ends}
+use Rattle.tm_legal.specs.Prelude.{CanPlay, book_ends, ends_so}
 use Rattle.tm_legal.proofs.Loads.{loads_opened}
 use Rattle.tm_call.specs.declared.status.What.{What}
 use Rattle.tm_call_input.specs.declared.reading.Loaded.{Loaded}

@@ -1,20 +1,13 @@
 -- How the readings of files are refused.
 use Rattle.std.proofs.Common.{◌≡◌, ℕ, Option, Some, None, Result, Ok, Err, ap, refl, sym, subst, ◌⊎◌, inl, inr, length}
 use Rattle.std.specs.Prelude.{unwrap_or}
-use Rattle.tm_word.specs.Words.{Text}
-use Rattle.tm_word.specs.Gives.{◌>>=◌, Fails}
+use Rattle.tm_word.specs.Prelude.{Fails, Text, ◌>>=◌}
 use Rattle.tm_io.specs.declared.names.FileName.{FileName}
 use Rattle.tm_call.specs.declared.status.Status.{Status}
 use Rattle.tm_call.specs.declared.status.What.{What}
 use Rattle.tm_call_input.specs.declared.reading.Loaded.{Loaded}
-use Rattle.tm_types.specs.declared.policy.Policy.{Policy}
-use Rattle.tm_types.specs.declared.request.ScriptKind.{ScriptKind}
-use Rattle.tm_types.specs.declared.request.TraceKind.{TraceKind}
-use Rattle.tm_types.specs.declared.step.FileKind.{FileKind}
-use Rattle.tm_types.specs.declared.step.EditReply.{EditReply}
-use Rattle.tm_types.specs.declared.step.LoadFault.{LoadFault}
+use Rattle.tm_rules.specs.Types.{EditReply, FileKind, LoadFault, Policy, Run, ScriptKind, TraceKind}
 use Rattle.tm_trace.specs.Reading.{trace_of, tree_line_at}
-use Rattle.tm_types.specs.declared.step.Run.{Run}
 use Rattle.tm_run.specs.Reading as run
 use Rattle.tm_script.specs.Edits.{edits_of}
 use Rattle.tm_script.specs.Answers.{answers_of}

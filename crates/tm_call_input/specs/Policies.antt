@@ -1,9 +1,7 @@
 -- The policy that the four policy files hold, and what is refused of them.
 use Rattle.std.specs.Prelude.{◌≡◌, Bool, false, nat_lt, Option, Some, None, Result, Ok, Err}
-use Rattle.tm_types.specs.declared.policy.Policy.{Policy}
-use Rattle.tm_types.specs.declared.step.PolicyFiles.{PolicyFiles}
-use Rattle.tm_types.specs.declared.step.LoadFault.{LoadFault}
-use Rattle.tm_rules.specs.Load.{load}
+use Rattle.tm_rules.specs.Types.{LoadFault, Policy, PolicyFiles}
+use Rattle.tm_rules.specs.Prelude.{load}
 use Rattle.tm_core.specs.Tomoyo.{tomoyo_grammar}
 use Rattle.tm_io.specs.declared.names.FileName.{FileName}
 use Rattle.tm_io.specs.Names.{file_place}

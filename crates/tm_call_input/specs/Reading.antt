@@ -1,16 +1,9 @@
 -- What is played of the files, and what is refused of them.
 use Rattle.std.specs.Prelude.{◌≡◌, ⊤, ℕ, ◌+◌, not, nat_lt, [], ◌∷◌, length, Option, Some, None, Result, Ok, Err, if◌then◌else◌, is_some, unwrap_or}
 use Rattle.std.specs.List.{position_from}
-use Rattle.tm_word.specs.Words.{Text}
-use Rattle.tm_word.specs.Gives.{◌>>=◌}
-use Rattle.tm_rules.specs.Words.{Trace}
-use Rattle.tm_rules.specs.Policy.{live_domain}
-use Rattle.tm_types.specs.declared.policy.Policy.{Policy}
-use Rattle.tm_types.specs.declared.request.Tree.{Tree}
-use Rattle.tm_types.specs.declared.request.TraceKind.{TraceKind}
-use Rattle.tm_types.specs.declared.request.ScriptKind.{ScriptKind}
-use Rattle.tm_types.specs.declared.step.Start.{Start}
-use Rattle.tm_types.specs.declared.step.LoadFault.{LoadFault}
+use Rattle.tm_word.specs.Prelude.{Text, ◌>>=◌}
+use Rattle.tm_rules.specs.Prelude.{Trace, live_domain}
+use Rattle.tm_rules.specs.Types.{LoadFault, Policy, ScriptKind, Start, TraceKind, Tree}
 use Rattle.tm_io.specs.declared.names.FileName.{FileName}
 use Rattle.tm_trace.specs.Reading.{trace_of, tree_line_at}
 use Rattle.tm_run.specs.Reading.{run_of}
@@ -18,7 +11,7 @@ use Rattle.tm_script.specs.Edits.{edits_of}
 use Rattle.tm_script.specs.Answers.{answers_of}
 use Rattle.tm_script.specs.Schedule.{schedule_of}
 use Rattle.tm_script.specs.Written.{edit_count, has_supervisor}
-use Rattle.tm_legal.specs.Legal.{Scene}
+use Rattle.tm_legal.specs.Prelude.{Scene}
 use Rattle.tm_core.specs.Scenes as scenes
 use Rattle.tm_call.specs.declared.status.Status.{Status}
 use Rattle.tm_call.specs.declared.status.What.{What}

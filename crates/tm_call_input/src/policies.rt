@@ -1,6 +1,6 @@
 //! The policy that the four policy files hold.
 ghost use Rattle.std.specs.Prelude.{◌≡◌, Ok, IfOk, IfErr};
-ghost use Rattle.tm_rules.specs.Few.{IsFew};
+ghost use Rattle.tm_rules.specs.Prelude.{IsFew};
 ghost use Rattle.tm_call_input.specs.Policies.{OthersStay, policy_files, policy_of, policy_refusal};
 ghost use Rattle.tm_call_input.specs.Reading.{RefusedBy};
 

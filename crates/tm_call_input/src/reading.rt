@@ -1,8 +1,8 @@
 //! What is played of the files: the policy, the trace, the edits, the supervisor's book and the
 //! schedule.
 ghost use Rattle.std.specs.Prelude.{◌≡◌, nat_lt, length, IfOk};
-ghost use Rattle.tm_rules.specs.Few.{IsFew};
-ghost use Rattle.tm_word.specs.Gives.{Gives};
+ghost use Rattle.tm_rules.specs.Prelude.{IsFew};
+ghost use Rattle.tm_word.specs.Prelude.{Gives};
 ghost use Rattle.tm_trace.specs.Reading.{trace_of};
 ghost use Rattle.tm_script.specs.Edits.{edits_of};
 ghost use Rattle.tm_script.specs.Answers.{answers_of};

@@ -1,14 +1,9 @@
 -- A change of a domain in its place.
 use Rattle.std.proofs.Common.{◌≡◌, ℕ, ◌+◌, ◌<◌, get_or, List, length, sum_by, sym, ap, ◌∙◌}
 use Rattle.std.specs.Prelude.{◌&&◌, Some, slice_set}
-use Rattle.tm_word.specs.Texts.{texts_equal}
-use Rattle.tm_types.specs.declared.entry.Entry.{Entry}
-use Rattle.tm_types.specs.declared.policy.Domain.{Domain}
-use Rattle.tm_types.specs.declared.policy.Policy.{Policy}
-use Rattle.tm_rules.specs.Words.{DomainName}
-use Rattle.tm_rules.specs.Policy.{domain_at, changed_at, with_domain, live_domain, adding}
-use Rattle.tm_rules.specs.Edit.{dead}
-use Rattle.tm_rules.specs.Changes.{count}
+use Rattle.tm_word.specs.Prelude.{texts_equal}
+use Rattle.tm_rules.specs.Types.{Domain, Entry, Policy}
+use Rattle.tm_rules.specs.Prelude.{DomainName, adding, changed_at, count, dead, domain_at, live_domain, with_domain}
 use Rattle.tm_change_entries.specs.Counting.{permissions_of}
 use Rattle.tm_change_domains.proofs.Lists.{get_there, stands, set_changed, get_changed, found_within}
 

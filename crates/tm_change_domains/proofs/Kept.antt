@@ -1,6 +1,6 @@
 -- What doesn't change is kept by every reply.
 use Rattle.std.proofs.Common.{refl}
-use Rattle.tm_types.specs.declared.step.EditReply.{EditReply}
+use Rattle.tm_rules.specs.Types.{EditReply}
 use Rattle.tm_change_domains.specs.Kept.{KeptIfRefused}
 
 pub kept_same : {A : Type 0} (reply : EditReply) (x : A) → KeptIfRefused reply x x

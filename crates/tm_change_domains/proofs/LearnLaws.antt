@@ -2,13 +2,8 @@
 use Rattle.std.proofs.Common.{◌≡◌, ℕ, true, List, map, refl, sym, ap}
 use Rattle.std.specs.Prelude.{Option, Some, None, option_map, unwrap_or}
 use Rattle.std.specs.Option.{option_and_then}
-use Rattle.tm_types.specs.declared.entry.Entry.{Entry}
-use Rattle.tm_types.specs.declared.policy.Profile.{Profile}
-use Rattle.tm_types.specs.declared.policy.Domain.{Domain}
-use Rattle.tm_types.specs.declared.policy.Policy.{Policy}
-use Rattle.tm_types.specs.declared.step.LearnReply.{LearnReply}
-use Rattle.tm_rules.specs.Policy.{domain_at, profile_of, changed_at, with_domain}
-use Rattle.tm_rules.specs.Changes.{learn, learn_reply, learned_domain, count}
+use Rattle.tm_rules.specs.Types.{Domain, Entry, LearnReply, Policy, Profile}
+use Rattle.tm_rules.specs.Prelude.{changed_at, count, domain_at, learn, learn_reply, learned_domain, profile_of, with_domain}
 use Rattle.tm_change_domains.proofs.Lists.{same_there, map_changed, map_there}
 
 -- a Learn that has this reply

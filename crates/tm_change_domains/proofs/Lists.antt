@@ -2,7 +2,7 @@
 use Rattle.std.proofs.Common.{◌≡◌, ℕ, zero, suc, ◌+◌, ◌<◌, get_or, arith, subst, Bool, true, false, List, [], ◌∷◌, ◌++◌, map, length, refl, sym, ap}
 use Rattle.std.specs.Prelude.{Some, slice_get, slice_set, if◌then◌else◌}
 use Rattle.std.specs.List.{position_from, AllByRecursion}
-use Rattle.tm_rules.specs.Policy.{changed_at}
+use Rattle.tm_rules.specs.Prelude.{changed_at}
 
 module _ {A : Type 0} where
   -- the element at a place that is there
@@ -58,12 +58,6 @@ module _ {A : Type 0} where
   each_at P [] k x each e = absurd cc
   each_at P (y ∷ ys) zero x each e = subst P (let same : y ≡ x = cc in same) each.0
   each_at P (y ∷ ys) (suc k) x each e = each_at P ys k x each.1 e
-
-  -- a change in a place keeps what each element has
-  pub each_set : (P : A → Type 0) (xs : List A) (k : ℕ) (y : A) → AllByRecursion P xs → P y → AllByRecursion P (slice_set xs k y)
-  each_set P [] k y each h = tt
-  each_set P (x ∷ xs) zero y each h = (h, each.1)
-  each_set P (x ∷ xs) (suc k) y each h = (each.0, each_set P xs k y each.1 h)
 
   -- and so does a new last one
   pub each_last : (P : A → Type 0) (xs : List A) (y : A) → AllByRecursion P xs → P y → AllByRecursion P (xs ++ y ∷ [])

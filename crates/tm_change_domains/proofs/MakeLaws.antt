@@ -2,13 +2,8 @@
 use Rattle.std.proofs.Common.{◌≡◌, ℕ, Bool, true, refl, ap, ◌∙◌}
 use Rattle.std.specs.Prelude.{Option, Some, None, IsSome, option_map, not}
 use Rattle.std.specs.Option.{option_and_then, option_map_or}
-use Rattle.tm_types.specs.declared.policy.Profile.{Profile}
-use Rattle.tm_types.specs.declared.policy.Domain.{Domain}
-use Rattle.tm_types.specs.declared.policy.Policy.{Policy}
-use Rattle.tm_types.specs.declared.step.MakeReply.{MakeReply}
-use Rattle.tm_rules.specs.Words.{DomainName}
-use Rattle.tm_rules.specs.Policy.{domain_at, profile_of, live_domain, with_domain}
-use Rattle.tm_rules.specs.Changes.{in_domain, make, made_new, fail}
+use Rattle.tm_rules.specs.Types.{Domain, MakeReply, Policy, Profile}
+use Rattle.tm_rules.specs.Prelude.{DomainName, domain_at, fail, in_domain, live_domain, made_new, make, profile_of, with_domain}
 
 module _ {A : Type 0} (policy : Policy) (change : Domain → Profile → A) where
   by-profile : (domain : Domain) (p : Option Profile) → IsSome (option_map (change domain) p) → (profile : Profile) × (option_map (change domain) p ≡ Some (change domain profile))

@@ -2,9 +2,8 @@
 use Rattle.std.proofs.Common.{◌≡◌, ℕ, suc, ◌+◌, true, false, refl}
 use Rattle.std.specs.Prelude.{Option, Some, None, unwrap_or}
 use Rattle.std.specs.List.{find, range_with_len}
-use Rattle.tm_types.specs.declared.entry.Entry.{Entry}
-use Rattle.tm_rules.specs.Policy.{has_permission}
-use Rattle.tm_rules.specs.Changes.{permission_place}
+use Rattle.tm_rules.specs.Types.{Entry}
+use Rattle.tm_rules.specs.Prelude.{has_permission, permission_place}
 
 -- the first place of all sixteen
 unfoldable pub first_place : ℕ → Option ℕ

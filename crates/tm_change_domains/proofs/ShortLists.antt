@@ -1,9 +1,8 @@
 -- What a change keeps few.
 use Rattle.std.proofs.Common.{◌≡◌, ℕ, [], ◌∷◌, ◌++◌}
 use Rattle.std.specs.Prelude.{Some, slice_get}
-use Rattle.tm_types.specs.declared.policy.Domain.{Domain}
-use Rattle.tm_types.specs.declared.policy.Policy.{Policy}
-use Rattle.tm_rules.specs.Few.{IsShort, IsFew}
+use Rattle.tm_rules.specs.Types.{Domain, Policy}
+use Rattle.tm_rules.specs.Prelude.{IsFew, IsShort}
 use Rattle.tm_change_domains.proofs.Lists.{each_at, each_last}
 
 -- the entries of a domain of a policy that is few

@@ -3,13 +3,9 @@ use Rattle.std.proofs.Common.{◌≡◌, Bool, true, false, List, [], ◌∷◌,
 use Rattle.std.specs.Prelude.{ℕ, Some, None, if◌then◌else◌, unwrap_or}
 use Rattle.std.specs.Option.{option_and_then}
 use Rattle.std.specs.List.{AllByRecursion, find}
-use Rattle.tm_word.specs.Words.{Text}
-use Rattle.tm_word.specs.Texts.{texts_equal}
-use Rattle.tm_types.specs.declared.policy.Domain.{Domain}
-use Rattle.tm_types.specs.declared.policy.Namespace.{Namespace}
-use Rattle.tm_types.specs.declared.policy.Policy.{Policy}
-use Rattle.tm_rules.specs.Few.{IsShort, IsFewHere, IsFew}
-use Rattle.tm_rules.specs.Policy.{at_key, empty_namespace, namespace_word, namespace_named, domain_at, profile_of}
+use Rattle.tm_word.specs.Prelude.{Text, texts_equal}
+use Rattle.tm_rules.specs.Types.{Domain, Namespace, Policy}
+use Rattle.tm_rules.specs.Prelude.{IsFew, IsFewHere, IsShort, at_key, domain_at, empty_namespace, namespace_named, namespace_word, profile_of}
 use Rattle.tm_change_domains.specs.Standing.{Standing, StandsIn}
 use Rattle.tm_change_domains.proofs.ShortLists.{short_entries}
 

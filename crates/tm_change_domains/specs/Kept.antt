@@ -1,6 +1,6 @@
 -- What a refused line leaves.
 use Rattle.std.specs.Prelude.{◌≡◌}
-use Rattle.tm_types.specs.declared.step.EditReply.{EditReply}
+use Rattle.tm_rules.specs.Types.{EditReply}
 
 -- after every reply but `done` it is as it was
 abbrev pub KeptIfRefused : {A : Type 0} → EditReply → A → A → Type 0

@@ -1,6 +1,6 @@
 -- Lines of the domain file that write what a domain has beside its name and its entries.
 use Rattle.std.specs.Prelude.{Bool, true, false}
-use Rattle.tm_types.specs.declared.policy.DomainRule.{DomainRule}
+use Rattle.tm_rules.specs.Types.{DomainRule}
 
 -- a profile, ACL groups and flags of the chosen domain
 abbrev pub is_property : DomainRule → Bool

@@ -1,12 +1,9 @@
 -- Where a look stands: a domain, its namespace and its profile.
 use Rattle.std.specs.Prelude.{◌≡◌, ℕ, Some}
 use Rattle.std.specs.List.{position_from}
-use Rattle.tm_word.specs.Texts.{texts_equal}
-use Rattle.tm_types.specs.declared.policy.Profile.{Profile}
-use Rattle.tm_types.specs.declared.policy.Namespace.{Namespace}
-use Rattle.tm_types.specs.declared.policy.Domain.{Domain}
-use Rattle.tm_types.specs.declared.policy.Policy.{Policy}
-use Rattle.tm_rules.specs.Policy.{domain_at, namespace_of, namespace_word, profile_of}
+use Rattle.tm_word.specs.Prelude.{texts_equal}
+use Rattle.tm_rules.specs.Types.{Domain, Namespace, Policy, Profile}
+use Rattle.tm_rules.specs.Prelude.{domain_at, namespace_of, namespace_word, profile_of}
 
 -- a domain with its number, its namespace with its place among the others, and its profile
 pub record Standing : Type 0 where

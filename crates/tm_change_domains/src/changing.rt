@@ -1,12 +1,8 @@
 //! Changes of one domain in its place: no domain and no list is copied.
 ghost use Rattle.std.specs.Prelude.{◌≡◌, ◌<◌, ◌≤◌, ◌+◌, length, true, false, Some, IfOk, IfSome, OnOk, OnErr, option_map};
 ghost use Rattle.std.specs.List.{position_from};
-ghost use Rattle.tm_types.specs.declared.entry.Entry.{Entry};
-ghost use Rattle.tm_types.specs.declared.policy.Domain.{Domain};
-ghost use Rattle.tm_rules.specs.Few.{IsShort, IsFew};
-ghost use Rattle.tm_rules.specs.Policy.{domain_at, with_domain, changed_at, adding, deleting, same_line};
-ghost use Rattle.tm_rules.specs.Edit.{chosen, dead, put_key, remove_key};
-ghost use Rattle.tm_rules.specs.Changes.{count};
+ghost use Rattle.tm_rules.specs.Types.{Domain, Entry};
+ghost use Rattle.tm_rules.specs.Prelude.{IsFew, IsShort, adding, changed_at, chosen, count, dead, deleting, domain_at, put_key, remove_key, same_line, with_domain};
 
 use tm_change_entries::{Change, add_at, remove};
 use tm_list::{NoMemory, Seq};

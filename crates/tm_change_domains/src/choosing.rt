@@ -1,9 +1,7 @@
 //! Lines that speak of a domain by its name. The live domain of that name was looked up.
 ghost use Rattle.std.specs.Prelude.{◌≡◌, [], IfOk, OnErr, is_some};
-ghost use Rattle.tm_types.specs.declared.policy.DomainRule.{DomainRule};
-ghost use Rattle.tm_rules.specs.Few.{IsFew};
-ghost use Rattle.tm_rules.specs.Policy.{live_domain, namespace_word, profile_numbered};
-ghost use Rattle.tm_rules.specs.Edit.{Edited, new_domain, domain_line};
+ghost use Rattle.tm_rules.specs.Types.{DomainRule};
+ghost use Rattle.tm_rules.specs.Prelude.{Edited, IsFew, domain_line, live_domain, namespace_word, new_domain, profile_numbered};
 ghost use Rattle.tm_change_domains.specs.Kept.{KeptIfRefused};
 
 use crate::changing::kill;

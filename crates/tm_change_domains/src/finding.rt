@@ -2,11 +2,9 @@
 ghost use Rattle.std.specs.Prelude.{◌≡◌, ◌&&◌, is_some, option_map};
 ghost use Rattle.std.specs.List.{find};
 ghost use Rattle.std.specs.Option.{option_copied};
-ghost use Rattle.tm_types.specs.declared.policy.Namespace.{Namespace};
-ghost use Rattle.tm_word.specs.Texts.{texts_equal};
-ghost use Rattle.tm_rules.specs.Audit.{entry_at};
-ghost use Rattle.tm_rules.specs.Few.{IsShort};
-ghost use Rattle.tm_rules.specs.Policy.{domain_at, profile_numbered, profile_of, live_domain};
+ghost use Rattle.tm_rules.specs.Types.{Namespace};
+ghost use Rattle.tm_word.specs.Prelude.{texts_equal};
+ghost use Rattle.tm_rules.specs.Prelude.{IsShort, domain_at, entry_at, live_domain, profile_numbered, profile_of};
 
 use tm_profile::domain::namespace;
 use tm_types::entry::Entry;

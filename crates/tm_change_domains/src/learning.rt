@@ -1,13 +1,8 @@
 //! What a learned line does to a domain.
 ghost use Rattle.std.specs.Prelude.{◌≡◌, Some, IsSome, option_map, map, IfOk, OnOk, OnErr};
 ghost use Rattle.std.specs.List.{position_from};
-ghost use Rattle.tm_types.specs.declared.entry.Entry.{Entry};
-ghost use Rattle.tm_types.specs.declared.policy.Domain.{Domain};
-ghost use Rattle.tm_types.specs.declared.policy.Policy.{Policy};
-ghost use Rattle.tm_types.specs.declared.step.LearnReply.{LearnReply};
-ghost use Rattle.tm_rules.specs.Few.{IsFew};
-ghost use Rattle.tm_rules.specs.Policy.{domain_at, with_domain, changed_at, adding, has_line, has_permission, same_line};
-ghost use Rattle.tm_rules.specs.Changes.{permission_place, is_learning, learns, count, is_full, learn_reply, learn};
+ghost use Rattle.tm_rules.specs.Types.{Domain, Entry, LearnReply, Policy};
+ghost use Rattle.tm_rules.specs.Prelude.{IsFew, adding, changed_at, count, domain_at, has_line, has_permission, is_full, is_learning, learn, learn_reply, learns, permission_place, same_line, with_domain};
 
 use crate::changing::{add_line, set_quota};
 use crate::finding::{domain_at, profile_of};

@@ -1,5 +1,6 @@
 //! Where a policy has a domain, and what lines, Learns, Makes and Fails do to domains and managers.
 //! Stands on tm_rules, whose definitions it computes, on tm_change_entries, and on tm_profile.
+//! Of its own, below tm_rep and tm_audit, which both go by where it finds that a look stands.
 //! Promises that a change is the defined one or none, that a refused line does none, and few lists.
 #![tactic(auto)]
 

@@ -1,8 +1,7 @@
 //! Lines of the domain file that add entries and take them out, and all lines of that file.
 ghost use Rattle.std.specs.Prelude.{◌≡◌, true, false, IfOk, OnErr};
-ghost use Rattle.tm_types.specs.declared.policy.DomainRule.{DomainRule};
-ghost use Rattle.tm_rules.specs.Few.{IsShort, IsFew};
-ghost use Rattle.tm_rules.specs.Edit.{Edited, domain_line};
+ghost use Rattle.tm_rules.specs.Types.{DomainRule};
+ghost use Rattle.tm_rules.specs.Prelude.{Edited, IsFew, IsShort, domain_line};
 ghost use Rattle.tm_change_domains.specs.Kept.{KeptIfRefused};
 
 use crate::changing::{add_line, chosen, remove_line};

@@ -1,9 +1,6 @@
 //! What a Make and a Fail do: a domain that is entered, and the flag of one that wasn't left.
 ghost use Rattle.std.specs.Prelude.{◌≡◌, Some, IsSome, IfOk, OnErr};
-ghost use Rattle.tm_rules.specs.Few.{IsFew};
-ghost use Rattle.tm_rules.specs.Policy.{live_domain};
-ghost use Rattle.tm_rules.specs.Edit.{new_domain};
-ghost use Rattle.tm_rules.specs.Changes.{make, fail};
+ghost use Rattle.tm_rules.specs.Prelude.{IsFew, fail, live_domain, make, new_domain};
 
 use crate::changing::set_failed;
 use crate::finding::domain_at;

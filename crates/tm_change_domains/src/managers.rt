@@ -1,13 +1,9 @@
 //! Manager lines, and who is a manager.
 ghost use Rattle.std.specs.Prelude.{◌≡◌, ◌||◌, true, false, OnOk, OnErr, IfOk};
 ghost use Rattle.std.specs.List.{list_any};
-ghost use Rattle.tm_types.specs.declared.policy.ManagerRule.{ManagerRule};
-ghost use Rattle.tm_types.specs.declared.step.Editor.{Editor};
-ghost use Rattle.tm_word.specs.Texts.{texts_equal};
-ghost use Rattle.tm_word.specs.Spelling.{spell};
-ghost use Rattle.tm_rules.specs.Few.{IsFew};
-ghost use Rattle.tm_rules.specs.Edit.{Edited, joining, leaving, manager_line};
-ghost use Rattle.tm_rules.specs.Changes.{is_manager};
+ghost use Rattle.tm_rules.specs.Types.{Editor, ManagerRule};
+ghost use Rattle.tm_word.specs.Prelude.{spell, texts_equal};
+ghost use Rattle.tm_rules.specs.Prelude.{Edited, IsFew, is_manager, joining, leaving, manager_line};
 ghost use Rattle.tm_change_domains.specs.Kept.{KeptIfRefused};
 
 use tm_list::{NoMemory, Seq};

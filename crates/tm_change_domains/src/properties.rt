@@ -1,9 +1,7 @@
 //! Lines of the domain file that write a profile, an ACL group or a flag of the chosen domain.
 ghost use Rattle.std.specs.Prelude.{◌≡◌, true, false, is_some, IfOk, OnErr};
-ghost use Rattle.tm_types.specs.declared.policy.DomainRule.{DomainRule};
-ghost use Rattle.tm_rules.specs.Few.{IsFew};
-ghost use Rattle.tm_rules.specs.Policy.{at_key};
-ghost use Rattle.tm_rules.specs.Edit.{Edited, domain_line};
+ghost use Rattle.tm_rules.specs.Types.{DomainRule};
+ghost use Rattle.tm_rules.specs.Prelude.{Edited, IsFew, at_key, domain_line};
 ghost use Rattle.tm_change_domains.specs.Kept.{KeptIfRefused};
 ghost use Rattle.tm_change_domains.specs.Properties.{is_property};
 

@@ -2,9 +2,9 @@
 ghost use Rattle.std.specs.Prelude.{◌≡◌, None, MatchOption, option_map};
 ghost use Rattle.std.specs.List.{find, position_from};
 ghost use Rattle.std.specs.Option.{option_and_then};
-ghost use Rattle.tm_types.specs.declared.policy.Namespace.{Namespace};
-ghost use Rattle.tm_word.specs.Texts.{texts_equal};
-ghost use Rattle.tm_rules.specs.Policy.{domain_at, profile_of};
+ghost use Rattle.tm_rules.specs.Types.{Namespace};
+ghost use Rattle.tm_word.specs.Prelude.{texts_equal};
+ghost use Rattle.tm_rules.specs.Prelude.{domain_at, profile_of};
 ghost use Rattle.tm_change_domains.specs.Standing.{StandsIn};
 
 use crate::finding::domain_at;

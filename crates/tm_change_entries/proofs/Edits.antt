@@ -5,8 +5,8 @@ use Rattle.std.proofs.lemmas.Bool.{ne_eqb}
 use Rattle.std.proofs.lemmas.List.{get_or_default}
 use Rattle.std.specs.Prelude.{Some, None, if◌then◌else◌, ◌==◌, slice_set, bit_or}
 use Rattle.std.specs.List.{position_from, remove}
-use Rattle.tm_types.specs.declared.entry.Entry.{Entry}
-use Rattle.tm_rules.specs.Policy.{adding, deleting, same_line, without_permissions, unless_empty}
+use Rattle.tm_rules.specs.Types.{Entry}
+use Rattle.tm_rules.specs.Prelude.{adding, deleting, same_line, unless_empty, without_permissions}
 
 -- the first element that passes is changed, or a new one goes last
 abbrev changing : {A : Type 0} → (A → Bool) → (A → A) → A → List A → List A

@@ -1,13 +1,13 @@
 //! A list of entries, changed in place: how a line enters it, leaves it, and whether it is there.
 //! Stands on tm_rules, whose definitions it computes, and on tm_learn for permissions that count.
+//! Of its own, since ACL groups (tm_change_namespaces) and domains (tm_change_domains) need it.
 //! Promises that a change is the defined one or none; only a line that goes last takes memory.
 #![tactic(auto)]
 
 ghost use Rattle.std.specs.Prelude.{◌≡◌, ◌<◌, ◌≤◌, ◌+◌, ◌==◌, ◌&&◌, not, length, sum_by, bit_and, Some, IfOk, IfSome, OnOk, OnErr};
 ghost use Rattle.std.specs.List.{position_from};
-ghost use Rattle.tm_types.specs.declared.entry.Entry.{Entry};
-ghost use Rattle.tm_rules.specs.Few.{IsShort};
-ghost use Rattle.tm_rules.specs.Policy.{adding, deleting, has_line, has_part, same_line};
+ghost use Rattle.tm_rules.specs.Types.{Entry};
+ghost use Rattle.tm_rules.specs.Prelude.{IsShort, adding, deleting, has_line, has_part, same_line};
 ghost use Rattle.tm_learn.specs.Counting.{permissions_of};
 
 use std::alloc::AllocError;
@@ -141,8 +141,8 @@ pub fn remove(entries: &mut Seq<Entry>, line: &Entry)
     }
 }
 
-// Whether an entry has all of a line.
-fn has_all(entry: &Entry, line: &Entry) -> bool
+/// Whether an entry has all of a line: it shares it, and has each of its permissions. Takes no memory.
+pub fn has_all(entry: &Entry, line: &Entry) -> bool
     ensures { result ≡
         (same_line entry.now line.now
         && bit_and entry.now.perms.bits line.now.perms.bits == line.now.perms.bits) }

@@ -1,9 +1,8 @@
 -- What a profile line does, by its profile's number.
 use Rattle.std.proofs.Common.{◌≡◌, ℕ, ap, refl}
 use Rattle.std.specs.Prelude.{Some, None}
-use Rattle.tm_types.specs.declared.policy.Namespace.{Namespace}
-use Rattle.tm_types.specs.declared.policy.ProfileEffect.{ProfileEffect}
-use Rattle.tm_rules.specs.Edit.{on_profile, profile_line}
+use Rattle.tm_rules.specs.Types.{Namespace, ProfileEffect}
+use Rattle.tm_rules.specs.Prelude.{on_profile, profile_line}
 use Rattle.tm_change_namespaces.specs.Effects.{number_of, profile_after}
 
 abbrev changed : ProfileEffect → Namespace → ℕ → Namespace

@@ -2,12 +2,9 @@
 use Rattle.std.proofs.Common.{◌≡◌, true, false, List, refl, sym, ap, ◌∙◌}
 use Rattle.std.specs.Prelude.{Option, None, unwrap_or}
 use Rattle.std.specs.List.{find, position_from}
-use Rattle.tm_word.specs.Words.{Text}
-use Rattle.tm_word.specs.Texts.{texts_equal}
-use Rattle.tm_types.specs.declared.policy.ExceptRule.{ExceptRule}
-use Rattle.tm_types.specs.declared.policy.Namespace.{Namespace}
-use Rattle.tm_rules.specs.Policy.{empty_namespace}
-use Rattle.tm_rules.specs.Edit.{except_there}
+use Rattle.tm_word.specs.Prelude.{Text, texts_equal}
+use Rattle.tm_rules.specs.Types.{ExceptRule, Namespace}
+use Rattle.tm_rules.specs.Prelude.{empty_namespace, except_there}
 use Rattle.tm_change_namespaces.specs.Named.{named}
 use Rattle.tm_change_namespaces.proofs.Places.{none_found}
 

@@ -2,17 +2,13 @@
 use Rattle.std.proofs.Common.{◌≡◌, ℕ, zero, suc, ◌+◌, ◌<◌, ◌^◌, arith, subst, length, get_or, Bool, true, false, List, [], ◌∷◌, refl, sym, ap, ◌∙◌}
 use Rattle.std.specs.Prelude.{Option, Some, None, if◌then◌else◌, unwrap_or, bit_or, slice_get}
 use Rattle.std.specs.List.{find, position_from}
-use Rattle.tm_word.specs.Words.{Text}
-use Rattle.tm_word.specs.Texts.{texts_equal}
-use Rattle.tm_types.specs.declared.entry.Entry.{Entry}
-use Rattle.tm_types.specs.declared.policy.Namespace.{Namespace}
-use Rattle.tm_rules.specs.Policy.{adding, deleting, empty_namespace, at_key, has_part, same_line}
-use Rattle.tm_rules.specs.Edit.{acl_group, put_group, put_key, remove_key}
+use Rattle.tm_word.specs.Prelude.{Text, texts_equal}
+use Rattle.tm_rules.specs.Types.{Entry, Namespace}
+use Rattle.tm_rules.specs.Prelude.{IsShort, acl_group, adding, at_key, deleting, empty_namespace, has_part, put_group, put_key, remove_key, same_line}
 use Rattle.tm_change_namespaces.specs.Named.{named}
 use Rattle.tm_change_namespaces.proofs.Places.{none_found}
 use Rattle.tm_change_namespaces.specs.AclGroups.{AreShort, Rising}
 use Rattle.tm_change_namespaces.proofs.MapLaws.{each_put, each_without, each_at, put_twice, without_none, without_put}
-use Rattle.tm_rules.specs.Few.{IsShort}
 
 -- entries that are there are put in their place
 pub put_some : (n : ℕ) (entries : List Entry) (groups : List (ℕ × List Entry)) → (entries ≡ [] → ⊥) → put_key n entries groups ≡ put_group n entries groups
@@ -28,10 +24,6 @@ added_some line (x ∷ xs) e = go (same_line x line) e
     go : (b : Bool) → (if b then record x { perms = record { bits = bit_or x.perms.bits line.perms.bits } } ∷ xs else x ∷ adding line xs) ≡ [] → ⊥
     go true e = cc
     go false e = cc
-
--- no entries are no group
-pub put_none : (n : ℕ) (entries : List Entry) (groups : List (ℕ × List Entry)) → entries ≡ [] → remove_key n groups ≡ put_group n entries groups
-put_none n entries groups e = ap (λ (t : List Entry). put_group n t groups) (sym e)
 
 -- the entries of a group with a line more
 pub group_with : (n : ℕ) (line : Entry) (entries made : List Entry) (o : Option (List Entry)) (groups after : List (ℕ × List Entry)) → after ≡ put_key n made groups → made ≡ adding line entries → entries ≡ unwrap_or o []

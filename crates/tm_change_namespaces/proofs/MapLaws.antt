@@ -5,8 +5,7 @@ use Rattle.std.specs.List.{AllByRecursion}
 use Rattle.std.proofs.lemmas.Bool.{ne_eqb, eqb-true, ltb-true, ltb-false}
 use Rattle.tm_list.specs.Map.{AllAbove}
 use Rattle.tm_change_namespaces.specs.AclGroups.{Rising}
-use Rattle.tm_rules.specs.Policy.{at_key}
-use Rattle.tm_rules.specs.Edit.{put_key, remove_key}
+use Rattle.tm_rules.specs.Prelude.{at_key, put_key, remove_key}
 
 -- what was put is there
 pub put_there : {A : Type 0} (n : ℕ) (v : A) (xs : List (ℕ × A)) → at_key (put_key n v xs) n ≡ Some v

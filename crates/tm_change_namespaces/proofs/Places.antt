@@ -2,11 +2,9 @@
 use Rattle.std.proofs.Common.{◌≡◌, ℕ, zero, suc, ◌+◌, get_or, arith, Bool, true, false, List, [], ◌∷◌, ◌++◌, refl, sym, ap, ◌∙◌}
 use Rattle.std.specs.Prelude.{Some, None, if◌then◌else◌, slice_set}
 use Rattle.std.specs.List.{position_from, find}
-use Rattle.tm_word.specs.Words.{Text}
-use Rattle.tm_word.specs.Texts.{texts_equal}
-use Rattle.tm_types.specs.declared.policy.Namespace.{Namespace}
-use Rattle.tm_rules.specs.Policy.{changed_at, empty_namespace}
-use Rattle.tm_rules.specs.Edit.{in_namespace}
+use Rattle.tm_word.specs.Prelude.{Text, texts_equal}
+use Rattle.tm_rules.specs.Types.{Namespace}
+use Rattle.tm_rules.specs.Prelude.{changed_at, empty_namespace, in_namespace}
 
 -- the element that is changed, put back in its place
 pub changed_there : {A : Type 0} (change : A → A) (xs : List A) (k : ℕ) (x y : A) → x ≡ get_or xs k x → y ≡ change x → slice_set xs k y ≡ changed_at k change xs

@@ -1,11 +1,9 @@
 -- What a test of equality answers.
 use Rattle.std.proofs.Common.{◌≡◌, Bool}
 use Rattle.std.specs.Prelude.{IsTrue, ◌↔◌}
-use Rattle.tm_word.specs.Words.{Pattern}
-use Rattle.tm_number.specs.declared.Range.{Range}
-use Rattle.tm_number.specs.declared.AddrRange.{AddrRange}
-use Rattle.tm_rules.specs.Equality.{patterns_equal, ranges_equal}
-use Rattle.tm_rules.specs.Edit.{same_addr_range}
+use Rattle.tm_word.specs.Prelude.{Pattern}
+use Rattle.tm_rules.specs.Types.{AddrRange, Range}
+use Rattle.tm_rules.specs.Prelude.{patterns_equal, ranges_equal, same_addr_range}
 use Rattle.tm_rules.proofs.EqualityLaws.{is_test, same_patterns, same_ranges, same_addr_ranges}
 
 pub patterns_are_same : (r : Bool) (x y : Pattern) → IsTrue r ↔ (x ≡ y) → r ≡ patterns_equal x y

@@ -1,13 +1,9 @@
 -- The entries of ACL groups: what a line adds to them and takes from them.
 use Rattle.std.specs.Prelude.{ℕ, List}
 use Rattle.std.specs.List.{AllByRecursion}
-use Rattle.tm_types.specs.declared.entry.Entry.{Entry}
-use Rattle.tm_types.specs.declared.policy.GroupLine.{GroupLine}
-use Rattle.tm_types.specs.declared.policy.Namespace.{Namespace}
-use Rattle.tm_rules.specs.Few.{IsShort}
+use Rattle.tm_rules.specs.Types.{Entry, GroupLine, Namespace}
+use Rattle.tm_rules.specs.Prelude.{IsShort, acl_group, adding, deleting, with_group}
 use Rattle.tm_list.specs.Map.{Rises}
-use Rattle.tm_rules.specs.Policy.{adding, deleting}
-use Rattle.tm_rules.specs.Edit.{acl_group, with_group}
 
 -- the namespace with a line more in its group
 abbrev pub line_added : GroupLine → Namespace → Namespace

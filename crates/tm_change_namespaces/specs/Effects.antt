@@ -1,8 +1,7 @@
 -- What a profile line does to its profile.
 use Rattle.std.specs.Prelude.{ℕ, Option, Some, None, unwrap_or}
-use Rattle.tm_types.specs.declared.policy.Profile.{Profile}
-use Rattle.tm_types.specs.declared.policy.ProfileEffect.{ProfileEffect}
-use Rattle.tm_rules.specs.Edit.{set_config, set_slot}
+use Rattle.tm_rules.specs.Types.{Profile, ProfileEffect}
+use Rattle.tm_rules.specs.Prelude.{set_config, set_slot}
 
 -- the profile that a line speaks of
 abbrev pub number_of : ProfileEffect → Option ℕ

@@ -1,11 +1,8 @@
 //! Lists without repetition: a member joins once, and leaves wherever it stands.
 ghost use Rattle.std.specs.Prelude.{◌≡◌, OnOk, OnErr};
 ghost use Rattle.std.specs.List.{list_any};
-ghost use Rattle.tm_rules.specs.Equality.{options_equal};
-ghost use Rattle.tm_rules.specs.Edit.{joining, leaving};
-ghost use Rattle.tm_rules.specs.Few.{IsShort};
-ghost use Rattle.tm_rules.specs.Transition.{kind_number};
-ghost use Rattle.tm_word.specs.Texts.{texts_equal};
+ghost use Rattle.tm_rules.specs.Prelude.{IsShort, joining, kind_number, leaving, options_equal};
+ghost use Rattle.tm_word.specs.Prelude.{texts_equal};
 ghost use Rattle.tm_change_namespaces.specs.Pairs.{is_pair, leaving_pair};
 
 use std::alloc::AllocError;
@@ -26,7 +23,7 @@ pub trait Alike: Drop {
 }
 
 impl Alike for Word {
-    ghost use Rattle.tm_word.specs.Texts.{texts_equal};
+    ghost use Rattle.tm_word.specs.Prelude.{texts_equal};
 
     ghost alike = { texts_equal };
 
@@ -36,7 +33,7 @@ impl Alike for Word {
 }
 
 impl Alike for Pattern {
-    ghost use Rattle.tm_rules.specs.Equality.{patterns_equal};
+    ghost use Rattle.tm_rules.specs.Prelude.{patterns_equal};
 
     ghost alike = { patterns_equal };
 
@@ -46,7 +43,7 @@ impl Alike for Pattern {
 }
 
 impl Alike for Range {
-    ghost use Rattle.tm_rules.specs.Equality.{ranges_equal};
+    ghost use Rattle.tm_rules.specs.Prelude.{ranges_equal};
 
     ghost alike = { ranges_equal };
 
@@ -57,7 +54,7 @@ impl Alike for Range {
 }
 
 impl Alike for AddrRange {
-    ghost use Rattle.tm_rules.specs.Edit.{same_addr_range};
+    ghost use Rattle.tm_rules.specs.Prelude.{same_addr_range};
 
     ghost alike = { same_addr_range };
 
@@ -101,7 +98,7 @@ fn sides_equal(left: &Option<Text>, right: &Option<Text>) -> bool
 }
 
 impl Alike for Control {
-    ghost use Rattle.tm_rules.specs.Edit.{same_control};
+    ghost use Rattle.tm_rules.specs.Prelude.{same_control};
 
     ghost alike = { same_control };
 

@@ -1,11 +1,8 @@
 //! What the line of an ACL group does to the entries of its group.
 ghost use Rattle.std.specs.Prelude.{◌≡◌, ◌<◌, [], true, length, slice_get, unwrap_or, Some, IsSome, OnOk, OnErr};
 ghost use Rattle.std.specs.List.{AllByRecursion, position_from};
-ghost use Rattle.tm_types.specs.declared.entry.Entry.{Entry};
-ghost use Rattle.tm_types.specs.declared.policy.Namespace.{Namespace};
-ghost use Rattle.tm_rules.specs.Few.{IsFewHere};
-ghost use Rattle.tm_rules.specs.Policy.{adding, at_key, changed_at, deleting, has_part, same_line};
-ghost use Rattle.tm_rules.specs.Edit.{acl_group, in_namespace, put_group};
+ghost use Rattle.tm_rules.specs.Types.{Entry, Namespace};
+ghost use Rattle.tm_rules.specs.Prelude.{IsFewHere, acl_group, adding, at_key, changed_at, deleting, has_part, in_namespace, put_group, same_line};
 ghost use Rattle.tm_change_namespaces.specs.Named.{named};
 ghost use Rattle.tm_change_namespaces.specs.AclGroups.{AreShort, Rising, line_added, line_taken};
 
@@ -66,8 +63,7 @@ fn add_to_group(
 }
 
 impl Change for NewLine {
-    ghost use Rattle.tm_rules.specs.Policy.{adding};
-    ghost use Rattle.tm_rules.specs.Edit.{acl_group, with_group};
+    ghost use Rattle.tm_rules.specs.Prelude.{acl_group, adding, with_group};
 
     ghost changed = { λ line ns. with_group line.group
         (adding line.entry (acl_group ns line.group)) ns };

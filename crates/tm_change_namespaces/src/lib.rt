@@ -1,5 +1,6 @@
 //! What profile lines, exception lines and lines of ACL groups do to namespaces, in place.
 //! Stands on tm_rules, whose definitions it computes, and on tm_change_entries for ACL groups.
+//! Of its own, beside tm_change_domains, so that a change of one doesn't prove the other anew.
 //! Promises that a change is the defined one or none, copies no namespace, and keeps lists short.
 #![tactic(auto)]
 

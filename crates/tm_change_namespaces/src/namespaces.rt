@@ -2,11 +2,9 @@
 ghost use Rattle.std.specs.Prelude.{◌≡◌, ◌<◌, length, IfSome, OnOk, OnErr};
 ghost use Rattle.std.specs.List.{AllByRecursion, find, position_from};
 ghost use Rattle.std.specs.Option.{option_copied};
-ghost use Rattle.tm_types.specs.declared.policy.Namespace.{Namespace};
-ghost use Rattle.tm_word.specs.Texts.{texts_equal};
-ghost use Rattle.tm_rules.specs.Few.{IsFewHere};
-ghost use Rattle.tm_rules.specs.Policy.{changed_at, empty_namespace};
-ghost use Rattle.tm_rules.specs.Edit.{in_namespace};
+ghost use Rattle.tm_rules.specs.Types.{Namespace};
+ghost use Rattle.tm_word.specs.Prelude.{texts_equal};
+ghost use Rattle.tm_rules.specs.Prelude.{IsFewHere, changed_at, empty_namespace, in_namespace};
 
 use std::alloc::Global;
 use tm_list::{Map, NoMemory, Seq};
@@ -17,8 +15,8 @@ use tm_word::{Text, bytes_equal};
 /// What a line does to the namespace that it speaks of. Errors: want of memory; the namespace is
 /// then as before.
 pub(crate) trait Change: Drop {
-    ghost use Rattle.tm_types.specs.declared.policy.Namespace.{Namespace};
-    ghost use Rattle.tm_rules.specs.Few.{IsFewHere};
+    ghost use Rattle.tm_rules.specs.Types.{Namespace};
+    ghost use Rattle.tm_rules.specs.Prelude.{IsFewHere};
 
     ghost changed: { Self → Namespace → Namespace };
 

@@ -1,11 +1,8 @@
 //! What a profile line does.
 ghost use Rattle.std.specs.Prelude.{◌≡◌, OnOk, OnErr, true, option_map, unwrap_or};
 ghost use Rattle.std.specs.List.{AllByRecursion};
-ghost use Rattle.tm_types.specs.declared.policy.Config.{Config};
-ghost use Rattle.tm_rules.specs.Mode.{slot};
-ghost use Rattle.tm_rules.specs.Few.{IsFewHere};
-ghost use Rattle.tm_rules.specs.Policy.{at_key};
-ghost use Rattle.tm_rules.specs.Edit.{in_namespace, new_profile, profile_line, put_key, set_config, set_slot};
+ghost use Rattle.tm_rules.specs.Types.{Config};
+ghost use Rattle.tm_rules.specs.Prelude.{IsFewHere, at_key, in_namespace, new_profile, profile_line, put_key, set_config, set_slot, slot};
 ghost use Rattle.tm_change_namespaces.specs.Effects.{number_of, profile_after};
 
 use crate::namespaces::{Change, in_namespace};
@@ -142,7 +139,7 @@ fn on_profile(
 }
 
 impl Change for ProfileEffect {
-    ghost use Rattle.tm_rules.specs.Edit.{profile_line};
+    ghost use Rattle.tm_rules.specs.Prelude.{profile_line};
 
     ghost changed = { profile_line };
 

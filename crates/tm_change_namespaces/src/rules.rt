@@ -1,9 +1,7 @@
 //! What an exception line does.
 ghost use Rattle.std.specs.Prelude.{◌≡◌, ◌<◌, true, length, OnOk, OnErr};
 ghost use Rattle.std.specs.List.{AllByRecursion};
-ghost use Rattle.tm_rules.specs.Few.{IsFewHere};
-ghost use Rattle.tm_rules.specs.Policy.{changed_at};
-ghost use Rattle.tm_rules.specs.Edit.{except_added, except_removed, except_there, in_namespace};
+ghost use Rattle.tm_rules.specs.Prelude.{IsFewHere, changed_at, except_added, except_removed, except_there, in_namespace};
 ghost use Rattle.tm_change_namespaces.specs.Named.{named};
 
 use crate::alike::{is_pair_there, is_there, join, leave, leave_pair};
@@ -14,7 +12,7 @@ use tm_types::policy::{ExceptRule, Namespace};
 use tm_word::Text;
 
 impl Change for ExceptRule {
-    ghost use Rattle.tm_rules.specs.Edit.{except_added};
+    ghost use Rattle.tm_rules.specs.Prelude.{except_added};
 
     ghost changed = { except_added };
 

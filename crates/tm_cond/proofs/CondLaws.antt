@@ -6,13 +6,8 @@ use Rattle.std.proofs.lemmas.List.{append-nil}
 use Rattle.std.proofs.lemmas.List.Folds.{list_all-append}
 use Rattle.std.proofs.lemmas.List.Quantifiers.{position-Some}
 use Rattle.std.proofs.lemmas.Iterator.Adapters.{position_from-zero}
-use Rattle.tm_word.specs.Words.{Text}
-use Rattle.tm_types.specs.declared.entry.LineKind.{LineKind}
-use Rattle.tm_types.specs.declared.entry.Attr.{Attr}
-use Rattle.tm_types.specs.declared.entry.Right.{Right}
-use Rattle.tm_types.specs.declared.entry.Clause.{Clause}
-use Rattle.tm_types.specs.declared.entry.Cond.{Cond}
-use Rattle.tm_word.specs.Gives.{◌>>=◌}
+use Rattle.tm_word.specs.Prelude.{Text, ◌>>=◌}
+use Rattle.tm_rules.specs.Types.{Attr, Clause, Cond, LineKind, Right}
 use Rattle.tm_line.proofs.Steps.{bind_ok, ok_is, both, all, not_true}
 use Rattle.tm_cond.specs.Attributes.{attr_word, attr_text, numeric_word, other_word, without_last}
 use Rattle.tm_cond.specs.Reading.{right_word, right_text, clause, operated, left_side, sides, clause_at, clause_word, operator, clause_text, cond_with, log_table, log_word, logged, with_word, cond_from, cond_of, log_words, cond_words}

@@ -8,18 +8,13 @@ use Rattle.std.specs.Str.Parse.{AllDigits}
 use Rattle.std.proofs.lemmas.Bool.{eqb-true, ne_eqb, ltb-true, lt-ltb}
 use Rattle.std.proofs.lemmas.Fmt.{decimal_is_IsNumeral}
 use Rattle.std.proofs.lemmas.List.Folds.{list_all-append}
-use Rattle.tm_word.specs.Words.{Text}
-use Rattle.tm_word.specs.Spelling.{spelling_of, spell, spelled_word}
+use Rattle.tm_word.specs.Prelude.{Text, after, spell, spelled_word, spelling_of, ◌>>=◌}
 use Rattle.tm_number.specs.Numbers.{plain_of}
 use Rattle.tm_number.proofs.NumberLaws.{plain_again, plain_small}
 use Rattle.tm_word.proofs.Spelled.{word_found, word_again, word_small}
-use Rattle.tm_types.specs.declared.entry.LineKind.{LineKind}
-use Rattle.tm_types.specs.declared.entry.StatPlace.{StatPlace}
-use Rattle.tm_types.specs.declared.entry.Attr.{Attr}
-use Rattle.tm_word.specs.Gives.{◌>>=◌}
+use Rattle.tm_rules.specs.Types.{Attr, LineKind, StatPlace}
 use Rattle.tm_line.proofs.Steps.{bind_ok, ok_is, both, all}
 use Rattle.tm_cond.specs.Attributes.{or_wrong, without_last, quoted, attr_text, numeric_word, other_table, other_word, argv_word, envp_word, or_read, or_rest, field_word, attr_word}
-use Rattle.tm_word.specs.Texts.{after}
 use Rattle.tm_cond.specs.Written.{is_name_byte, is_attr}
 use Rattle.tm_cond.proofs.PieceLaws.{or_wrong_ok, after_found, without_last_again, without_last_other, without_last_found, quoted_again, quoted_found, named_fits}
 use Rattle.tm_cond.proofs.NumericLaws.{IsLeft, numeric_again, numeric_read}

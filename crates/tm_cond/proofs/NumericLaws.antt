@@ -4,17 +4,11 @@ use Rattle.std.proofs.Common.{◌≡◌, ◌==◌, true, not, Option, Some, None
 use Rattle.std.specs.Prelude.{map, codes, option_map}
 use Rattle.std.specs.Option.{option_or}
 use Rattle.std.specs.List.{list_all}
-use Rattle.tm_word.specs.Words.{Text}
+use Rattle.tm_word.specs.Prelude.{Text, after, named, row_of}
 use Rattle.tm_number.specs.Numbers.{number_of, value_of, range_of}
-use Rattle.tm_types.specs.declared.entry.IdField.{IdField}
-use Rattle.tm_types.specs.declared.entry.StatPlace.{StatPlace}
-use Rattle.tm_types.specs.declared.entry.StatField.{StatField}
-use Rattle.tm_types.specs.declared.entry.Attr.{Attr}
-use Rattle.tm_types.specs.declared.entry.Right.{Right}
+use Rattle.tm_rules.specs.Types.{Attr, IdField, Right, StatField, StatPlace}
 use Rattle.tm_line.specs.Arguments.{range_word, number_word}
 use Rattle.tm_cond.specs.Attributes.{without_last, id_word, field_word, parent_word, field_text, parent_fields, place_text, attr_text, task_at, field_at, stat_at, count_table, numeric_word, attr_word}
-use Rattle.tm_word.specs.Closed.{named, row_of}
-use Rattle.tm_word.specs.Texts.{after}
 use Rattle.tm_cond.specs.Reading.{or_numeric}
 use Rattle.tm_cond.specs.Written.{has_field, is_attr, is_numeric}
 use Rattle.tm_cond.proofs.PieceLaws.{then_some, map_some, either_some, named_fits}

@@ -5,12 +5,10 @@ use Rattle.std.specs.Option.{option_or}
 use Rattle.std.proofs.lemmas.Bool.{eqb-true, ltb-true, lt-ltb}
 use Rattle.std.proofs.Math.Seq.{take-append_seam, get_or-append_seam, take-length}
 use Rattle.std.proofs.lemmas.List.{length-append, take_more}
-use Rattle.tm_word.specs.Words.{Text}
-use Rattle.tm_types.specs.declared.entry.LineKind.{LineKind}
-use Rattle.tm_word.specs.Texts.{texts_equal, after}
+use Rattle.tm_word.specs.Prelude.{Text, after, named, texts_equal}
+use Rattle.tm_rules.specs.Types.{LineKind}
 use Rattle.tm_rules.proofs.EqualityLaws.{same_texts}
 use Rattle.tm_cond.specs.Attributes.{or_wrong, ends_in, without_last, quoted}
-use Rattle.tm_word.specs.Closed.{named}
 
 -- ---- options
 
@@ -35,10 +33,6 @@ either_some P (Some x) p y e f g = f e
 either_some P None p y e f g = g e
 
 -- ---- a front
-
-pub after_again : (front text : Text) → after front (front ++ text) ≡ Some text
-after_again [] text = refl
-after_again (a ∷ front) text = rw (eq-eqb a a refl) (after_again front text)
 
 pub after_found : (front text rest : Text) → after front text ≡ Some rest → text ≡ front ++ rest
 after_found [] text rest e = some_is text rest e

@@ -1,17 +1,9 @@
 -- Right sides: what is written is read again, and what is read can be written.
 use Rattle.std.proofs.Common.{◌≡◌, ◌==◌, Bool, true, false, cond, [], ◌∷◌, ◌++◌, Result, Ok, Err, refl, subst}
 use Rattle.std.specs.Prelude.{codes}
-use Rattle.tm_word.specs.Words.{Text, Word, Pattern}
-use Rattle.tm_word.specs.Printing.{spelled_pattern}
+use Rattle.tm_word.specs.Prelude.{Pattern, Text, Word, spelled_pattern, texts_equal, ◌>>=◌}
 use Rattle.tm_union.specs.Grammar.{is_right}
-use Rattle.tm_types.specs.declared.entry.LineKind.{LineKind}
-use Rattle.tm_types.specs.declared.entry.FileKindWord.{FileKindWord}
-use Rattle.tm_types.specs.declared.entry.Attr.{Attr}
-use Rattle.tm_types.specs.declared.entry.Right.{Right}
-use Rattle.tm_types.specs.declared.unions.NameUnion.{NameUnion}
-use Rattle.tm_types.specs.declared.unions.NumberUnion.{NumberUnion}
-use Rattle.tm_word.specs.Texts.{texts_equal}
-use Rattle.tm_word.specs.Gives.{◌>>=◌}
+use Rattle.tm_rules.specs.Types.{Attr, FileKindWord, LineKind, NameUnion, NumberUnion, Right}
 use Rattle.tm_line.specs.Arguments.{kinded, group_word, pattern_word, number_word}
 use Rattle.tm_line.proofs.Steps.{bind_ok, done, ok_is, kinded_ok, both, all}
 use Rattle.tm_line.proofs.GroupLaws.{group_found, group_again}

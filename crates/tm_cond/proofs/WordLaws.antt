@@ -5,24 +5,11 @@ use Rattle.std.specs.List.{list_all}
 use Rattle.std.specs.Fmt.{decimal}
 use Rattle.std.proofs.lemmas.Bool.{lt-ltb, le-leb, ltb-true}
 use Rattle.std.proofs.lemmas.List.Folds.{list_all-append}
-use Rattle.tm_word.specs.Words.{Text}
-use Rattle.tm_word.specs.Spelling.{spell}
-use Rattle.tm_word.specs.Printing.{spelled_pattern}
-use Rattle.tm_number.specs.declared.Base.{Base}
+use Rattle.tm_word.specs.Prelude.{Text, is_solid, is_word, spell, spelled_pattern}
+use Rattle.tm_rules.specs.Types.{Attr, Base, Clause, Cond, FileKindWord, IdField, NameUnion, NumberUnion, Right, StatField, StatPlace}
 use Rattle.tm_number.specs.Numbers.{number, range, range_spelling}
-use Rattle.tm_types.specs.declared.entry.IdField.{IdField}
-use Rattle.tm_types.specs.declared.entry.StatPlace.{StatPlace}
-use Rattle.tm_types.specs.declared.entry.StatField.{StatField}
-use Rattle.tm_types.specs.declared.entry.FileKindWord.{FileKindWord}
-use Rattle.tm_types.specs.declared.entry.Attr.{Attr}
-use Rattle.tm_types.specs.declared.entry.Right.{Right}
-use Rattle.tm_types.specs.declared.entry.Clause.{Clause}
-use Rattle.tm_types.specs.declared.entry.Cond.{Cond}
-use Rattle.tm_types.specs.declared.unions.NameUnion.{NameUnion}
-use Rattle.tm_types.specs.declared.unions.NumberUnion.{NumberUnion}
 use Rattle.tm_line.specs.Printing.{number_spelling}
 use Rattle.tm_line.specs.Written.{is_number}
-use Rattle.tm_word.specs.Texts.{is_solid, is_word}
 use Rattle.tm_line.proofs.Steps.{both, all}
 use Rattle.tm_line.proofs.WholeLaws.{solid_append, word_from, spell_solid, spelled_solid, pattern_solid, number_is}
 use Rattle.tm_cond.specs.Attributes.{id_text, field_text, kind_text, place_text, attr_text}

@@ -2,16 +2,9 @@
 use Rattle.std.proofs.Common.{◌≡◌, ◌+◌, ◌==◌, Bool, true, false, [], ◌∷◌, take, drop, Option, Some, None, Result, Ok, Err, refl, ap, subst, inl, inr}
 use Rattle.std.specs.Prelude.{ℕ, ◌^◌, ◌⊎◌, codes, if◌then◌else◌}
 use Rattle.std.specs.List.{position}
-use Rattle.tm_word.specs.Words.{Text}
-use Rattle.tm_word.specs.Spelling.{spelled_word}
-use Rattle.tm_word.specs.Texts.{texts_equal, after}
-use Rattle.tm_word.specs.Gives.{◌>>=◌, Fails}
+use Rattle.tm_word.specs.Prelude.{Fails, Text, after, spelled_word, texts_equal, ◌>>=◌}
 use Rattle.tm_number.specs.Numbers.{plain_of}
-use Rattle.tm_types.specs.declared.entry.LineKind.{LineKind}
-use Rattle.tm_types.specs.declared.entry.Attr.{Attr}
-use Rattle.tm_types.specs.declared.entry.Cond.{Cond}
-use Rattle.tm_types.specs.declared.step.LineFault.{LineFault}
-use Rattle.tm_types.specs.declared.unions.NumberUnion.{NumberUnion}
+use Rattle.tm_rules.specs.Types.{Attr, Cond, LineFault, LineKind, NumberUnion}
 use Rattle.tm_line.specs.Lines.{line_cause}
 use Rattle.tm_line.specs.Arguments.{kinded, group_word, pattern_word, number_word}
 use Rattle.tm_cond.specs.Attributes.{or_wrong, without_last, quoted, kind_word, numeric_word, other_word, argv_word, envp_word, or_read, or_rest, attr_word}

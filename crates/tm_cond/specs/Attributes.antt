@@ -2,18 +2,9 @@
 use Rattle.std.specs.Prelude.{ℕ, ◌-◌, ◌^◌, ◌==◌, nat_lt, ◌&&◌, Bool, if◌then◌else◌, List, [], ◌∷◌, ◌++◌, length, get_or, take, codes, Option, Some, None, option_map, option_and_then, Result, Ok, Err}
 use Rattle.std.specs.Option.{option_or}
 use Rattle.std.specs.Fmt.{decimal}
-use Rattle.tm_word.specs.Words.{Text}
-use Rattle.tm_word.specs.Spelling.{spell, spelled_word}
+use Rattle.tm_word.specs.Prelude.{Text, after, named, of_word, spell, spelled_word, ◌>>=◌}
 use Rattle.tm_number.specs.Numbers.{plain_of}
-use Rattle.tm_types.specs.declared.entry.LineKind.{LineKind}
-use Rattle.tm_types.specs.declared.entry.IdField.{IdField}
-use Rattle.tm_types.specs.declared.entry.StatPlace.{StatPlace}
-use Rattle.tm_types.specs.declared.entry.StatField.{StatField}
-use Rattle.tm_types.specs.declared.entry.FileKindWord.{FileKindWord}
-use Rattle.tm_types.specs.declared.entry.Attr.{Attr}
-use Rattle.tm_word.specs.Closed.{named, of_word}
-use Rattle.tm_word.specs.Texts.{after}
-use Rattle.tm_word.specs.Gives.{◌>>=◌}
+use Rattle.tm_rules.specs.Types.{Attr, FileKindWord, IdField, LineKind, StatField, StatPlace}
 use Rattle.tm_line.specs.Lines.{or_kind}
 
 -- Pieces of a word

@@ -3,18 +3,9 @@ use Rattle.std.specs.Prelude.{Bool, false, not, ◌&&◌, ◌==◌, List, Option
 use Rattle.std.specs.Bool.{beq}
 use Rattle.std.specs.Option.{option_map_or}
 use Rattle.std.specs.List.{find}
-use Rattle.tm_word.specs.Words.{Word}
-use Rattle.tm_word.specs.Texts.{texts_equal}
-use Rattle.tm_types.specs.declared.entry.Attr.{Attr}
-use Rattle.tm_types.specs.declared.entry.FileKindWord.{FileKindWord}
-use Rattle.tm_types.specs.declared.unions.Groups.{Groups}
-use Rattle.tm_types.specs.declared.unions.NameUnion.{NameUnion}
-use Rattle.tm_types.specs.declared.unions.NumberUnion.{NumberUnion}
-use Rattle.tm_types.specs.declared.request.Proc.{Proc}
-use Rattle.tm_types.specs.declared.request.Request.{Request}
-use Rattle.tm_rules.specs.Equality.{kind_place}
-use Rattle.tm_rules.specs.Group.{name_in, number_in}
-use Rattle.tm_rules.specs.Condition.{is_execute, judged, number_of, word_of, stat_kind, first_of_all}
+use Rattle.tm_word.specs.Prelude.{Word, texts_equal}
+use Rattle.tm_rules.specs.Types.{Attr, FileKindWord, Groups, NameUnion, NumberUnion, Proc, Request}
+use Rattle.tm_rules.specs.Prelude.{first_of_all, is_execute, judged, kind_place, name_in, number_in, number_of, stat_kind, word_of}
 
 -- the value of the first name of an environment that is this one
 abbrev pub value_in : List (Word × Word) → Word → Option Word

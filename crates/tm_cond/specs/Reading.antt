@@ -1,19 +1,8 @@
 -- Conditions of a line, read and written.
 use Rattle.std.specs.Prelude.{ℕ, ◌+◌, ◌==◌, Bool, true, false, if◌then◌else◌, List, [], ◌∷◌, ◌++◌, map, take, drop, codes, Option, Some, None, Result, Ok, Err}
 use Rattle.std.specs.List.{position}
-use Rattle.tm_word.specs.Words.{Text}
-use Rattle.tm_word.specs.Spelling.{spell}
-use Rattle.tm_word.specs.Printing.{spelled_pattern}
-use Rattle.tm_types.specs.declared.entry.LineKind.{LineKind}
-use Rattle.tm_types.specs.declared.entry.Attr.{Attr}
-use Rattle.tm_types.specs.declared.entry.Right.{Right}
-use Rattle.tm_types.specs.declared.entry.Clause.{Clause}
-use Rattle.tm_types.specs.declared.entry.Cond.{Cond}
-use Rattle.tm_types.specs.declared.unions.NameUnion.{NameUnion}
-use Rattle.tm_types.specs.declared.unions.NumberUnion.{NumberUnion}
-use Rattle.tm_word.specs.Closed.{named}
-use Rattle.tm_word.specs.Texts.{texts_equal}
-use Rattle.tm_word.specs.Gives.{◌>>=◌}
+use Rattle.tm_word.specs.Prelude.{Text, named, spell, spelled_pattern, texts_equal, ◌>>=◌}
+use Rattle.tm_rules.specs.Types.{Attr, Clause, Cond, LineKind, NameUnion, NumberUnion, Right}
 use Rattle.tm_line.specs.Arguments.{kinded, group_word, pattern_word, number_word}
 use Rattle.tm_line.specs.Printing.{number_spelling}
 use Rattle.tm_cond.specs.Attributes.{or_wrong, quoted, without_last, numeric_word, attr_word, attr_text, kind_word, kind_text}

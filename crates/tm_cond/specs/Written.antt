@@ -1,15 +1,9 @@
 -- The conditions that a line can write: those that are read from some words.
 use Rattle.std.specs.Prelude.{ℕ, ◌^◌, ◌==◌, nat_lt, Bool, true, false, ◌&&◌, not}
 use Rattle.std.specs.List.{list_all}
-use Rattle.tm_types.specs.declared.entry.StatPlace.{StatPlace}
-use Rattle.tm_types.specs.declared.entry.StatField.{StatField}
-use Rattle.tm_types.specs.declared.entry.Attr.{Attr}
-use Rattle.tm_types.specs.declared.entry.Right.{Right}
-use Rattle.tm_types.specs.declared.entry.Clause.{Clause}
-use Rattle.tm_types.specs.declared.entry.Cond.{Cond}
-use Rattle.tm_types.specs.declared.unions.NameUnion.{NameUnion}
+use Rattle.tm_rules.specs.Types.{Attr, Clause, Cond, NameUnion, Right, StatField, StatPlace}
 use Rattle.tm_union.specs.Grammar.{is_right}
-use Rattle.tm_rules.specs.Equality.{field_place}
+use Rattle.tm_rules.specs.Prelude.{field_place}
 use Rattle.tm_line.specs.Written.{is_group, is_number}
 
 -- any byte but `=`

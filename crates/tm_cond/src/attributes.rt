@@ -1,8 +1,7 @@
 //! The attributes of a process and its request.
 ghost use Rattle.std.specs.Prelude.{◌≡◌};
 ghost use Rattle.std.specs.Option.{option_copied};
-ghost use Rattle.tm_rules.specs.Equality.{stat_place, field_place, kind_place};
-ghost use Rattle.tm_rules.specs.Condition.{id_of, stat_value, stat_kind, first_of_all, number_of, word_of};
+ghost use Rattle.tm_rules.specs.Prelude.{field_place, first_of_all, id_of, kind_place, number_of, stat_kind, stat_place, stat_value, word_of};
 ghost use Rattle.tm_cond.specs.Parts.{value_in};
 
 use tm_rules::is_execute;

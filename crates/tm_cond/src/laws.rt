@@ -1,9 +1,8 @@
 //! Conditions that are read and printed, as laws over every list of words.
 ghost use Rattle.std.specs.Prelude.{◌≡◌, List, true, Ok};
-ghost use Rattle.tm_word.specs.Words.{Text};
-ghost use Rattle.tm_types.specs.declared.entry.Cond.{Cond};
+ghost use Rattle.tm_word.specs.Prelude.{Text, is_word};
+ghost use Rattle.tm_rules.specs.Types.{Cond};
 ghost use Rattle.std.specs.List.{list_all};
-ghost use Rattle.tm_word.specs.Texts.{is_word};
 ghost use Rattle.tm_cond.specs.Reading.{cond_of, cond_words};
 ghost use Rattle.tm_cond.specs.Written.{is_cond};
 

@@ -1,8 +1,7 @@
 //! Reading attributes, the left words of conditions.
 ghost use Rattle.std.specs.Prelude.{◌≡◌};
-ghost use Rattle.tm_word.specs.Gives.{Gives, GivesNow};
+ghost use Rattle.tm_word.specs.Prelude.{Gives, GivesNow, named};
 ghost use Rattle.tm_line.specs.Lines.{line_cause};
-ghost use Rattle.tm_word.specs.Closed.{named};
 ghost use Rattle.tm_cond.specs.Attributes.{place_text, task_at, field_at, stat_at, count_table, numeric_word, other_word, argv_word, envp_word, attr_word};
 
 use crate::words::{closed, field_word, id_word, parent_word, quoted};

@@ -1,7 +1,6 @@
 //! Printing conditions.
 ghost use Rattle.std.specs.Prelude.{◌≡◌, ◌++◌, [], ◌∷◌, map, IfOk, OnOk, OnErr};
-ghost use Rattle.tm_word.specs.Spelling.{spell};
-ghost use Rattle.tm_word.specs.Printing.{spelled_pattern};
+ghost use Rattle.tm_word.specs.Prelude.{spell, spelled_pattern};
 ghost use Rattle.tm_line.specs.Lines.{spaced};
 ghost use Rattle.tm_cond.specs.Attributes.{id_text, field_text, kind_text, attr_text};
 ghost use Rattle.tm_cond.specs.Reading.{right_text, operator, clause_text, log_words, cond_words};

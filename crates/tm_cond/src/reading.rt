@@ -1,6 +1,6 @@
 //! Reading conditions.
 ghost use Rattle.std.specs.Prelude.{◌≡◌, ◌⊎◌, option_map, IfErr};
-ghost use Rattle.tm_word.specs.Gives.{Gives};
+ghost use Rattle.tm_word.specs.Prelude.{Gives};
 ghost use Rattle.tm_line.specs.Lines.{line_cause};
 ghost use Rattle.tm_cond.specs.Reading.{quoted_name, name_or_group, or_numeric, right_word, left_side, sides, clause_word, log_word, with_word, cond_of};
 ghost use Rattle.tm_line.specs.Arguments.{number_word};

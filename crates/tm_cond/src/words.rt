@@ -1,6 +1,6 @@
 //! Pieces of a condition's word, and the words of one table.
 ghost use Rattle.std.specs.Prelude.{◌≡◌, Some, None, MatchOption};
-ghost use Rattle.tm_word.specs.Gives.{GivesNow};
+ghost use Rattle.tm_word.specs.Prelude.{GivesNow};
 ghost use Rattle.tm_line.specs.Lines.{line_cause};
 ghost use Rattle.tm_cond.specs.Attributes.{or_wrong, without_last, quoted, id_word, field_word, parent_word, kind_word};
 

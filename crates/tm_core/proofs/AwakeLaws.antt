@@ -8,13 +8,10 @@ use Rattle.std.specs.BTreeMap.{get}
 use Rattle.std.specs.List.Sorted.{IsStrictlySortedBy}
 use Rattle.std.proofs.lemmas.List.{take-map, get_or-map}
 use Rattle.std.proofs.lemmas.Bool.{eqb-true, eq-eqb, ltb-true, leb-true, lt-ltb, le-leb}
-use Rattle.tm_types.specs.declared.step.Book.{Book}
-use Rattle.tm_types.specs.declared.step.Start.{Start}
-use Rattle.tm_types.specs.declared.step.Turn.{Turn}
-use Rattle.tm_rules.specs.Words.{Trace}
+use Rattle.tm_rules.specs.Types.{Book, Start, Turn}
+use Rattle.tm_rules.specs.Prelude.{Trace}
 use Rattle.tm_audit.specs.Tomoyo.{tomoyo_grammar}
-use Rattle.tm_legal.specs.Legal.{Scene}
-use Rattle.tm_legal.specs.Play.{Player, Settled, settle, supervisor_step, player_event, tree_event, event, turns, numbers_to}
+use Rattle.tm_legal.specs.Prelude.{Player, Scene, Settled, event, numbers_to, player_event, settle, supervisor_step, tree_event, turns}
 use Rattle.tm_machine.specs.Machine.{Course}
 use Rattle.tm_core.specs.Scenes.{scene_of, IsReached, Answers}
 use Rattle.tm_core.specs.Rounds.{HasPlayed, one_round}

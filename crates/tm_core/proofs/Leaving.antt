@@ -5,43 +5,13 @@ use Rattle.std.specs.Option.{option_and_then, option_map_or}
 use Rattle.std.specs.List.{AllByRecursion, list_any}
 use Rattle.std.proofs.lemmas.Bool.{lt-ltb, le-leb, eq-eqb}
 use Rattle.std.proofs.lemmas.Option.{slice_get_within}
-use Rattle.tm_word.specs.Words.{Text}
-use Rattle.tm_types.specs.declared.policy.Policy.{Policy}
-use Rattle.tm_types.specs.declared.request.Item.{Item}
-use Rattle.tm_types.specs.declared.request.Request.{Request}
-use Rattle.tm_types.specs.declared.step.FileKind.{FileKind}
-use Rattle.tm_types.specs.declared.step.Step.{Step}
-use Rattle.tm_types.specs.declared.step.Reply.{Reply}
-use Rattle.tm_types.specs.declared.step.Held.{Held}
-use Rattle.tm_types.specs.declared.step.Answered.{Answered}
-use Rattle.tm_types.specs.declared.step.AnswerFault.{AnswerFault}
-use Rattle.tm_types.specs.declared.step.Editor.{Editor}
-use Rattle.tm_types.specs.declared.step.Look.{Look}
-use Rattle.tm_types.specs.declared.step.Turn.{Turn}
-use Rattle.tm_types.specs.declared.verdict.Verdict.{Verdict}
-use Rattle.tm_types.specs.declared.verdict.Reason.{Reason}
-use Rattle.tm_types.specs.declared.verdict.Move.{Move}
-use Rattle.tm_types.specs.declared.entry.Entry.{Entry}
-use Rattle.tm_rules.specs.Words.{DomainName}
-use Rattle.tm_rules.specs.Grammar.{Grammar}
-use Rattle.tm_rules.specs.Edit.{put_member}
-use Rattle.tm_rules.specs.Policy.{changed_at}
-use Rattle.tm_rules.specs.Changes.{learn, make, fail, in_domain, is_manager}
-use Rattle.tm_rules.specs.Queries.{Standing, Queries, numbered, answer_of, ask, answer, answer_coded, answer_fault, with_answer, attach}
-use Rattle.tm_legal.specs.Verdict.{verdict, is_granting}
-use Rattle.tm_legal.specs.Run.{Situation, Situations, at_start}
-use Rattle.tm_legal.specs.Steps.{State, Applied, unfit, on_policy, on_queries, edit_step, fits_entry, fits_name, apply}
-use Rattle.tm_legal.specs.Legal.{steps_of_line, steps_of_move, is_attach}
-use Rattle.tm_legal.specs.Play.{Stage, InProgress, Way, Player, Settled, settle, going_on, after_step, after_answer, look_at, on_way, passed, end_tree, first_look, stage_event, tree_event, line_event, editor_event, supervisor_step, player_event, desk_turn, has_step, is_first}
-use Rattle.tm_legal.specs.Legal.{Scene}
-use Rattle.tm_legal.specs.Play.{CanPlay, start_of, event, turn, turns}
-use Rattle.tm_types.specs.declared.step.Book.{Book}
-use Rattle.tm_types.specs.declared.request.Tree.{Tree}
-use Rattle.tm_rules.specs.Search.{when}
+use Rattle.tm_word.specs.Prelude.{Text}
+use Rattle.tm_rules.specs.Types.{AnswerFault, Answered, Book, Editor, Entry, FileKind, Held, Item, Look, Move, Policy, Reason, Reply, Request, Step, Tree, Turn, Verdict}
+use Rattle.tm_rules.specs.Prelude.{DomainName, Grammar, Queries, Standing, answer, answer_coded, answer_fault, answer_of, ask, attach, changed_at, fail, in_domain, is_manager, learn, make, numbered, put_member, when, with_answer}
+use Rattle.tm_legal.specs.Prelude.{Applied, CanGoOn, CanPlay, InProgress, IsJudged, Needs, NextIsJudged, Player, Scene, Settled, Situation, Situations, Stage, StageFits, State, TreeFits, Way, after_answer, after_step, apply, at_start, desk_turn, edit_step, editor_event, end_tree, event, first_look, fits_entry, fits_name, going_on, has_step, is_attach, is_first, is_granting, line_event, look_at, on_policy, on_queries, on_way, passed, player_event, settle, stage_event, start_of, steps_of_line, steps_of_move, supervisor_step, tree_event, turn, turns, unfit, verdict}
 use Rattle.tm_legal.proofs.PlayLaws.{turns-append}
 use Rattle.tm_legal.proofs.NeedsLaws.{can-go-on}
 use Rattle.tm_take.specs.Taking.{serial_of}
-use Rattle.tm_legal.specs.Needs.{IsJudged, NextIsJudged, StageFits, TreeFits, Needs, CanGoOn}
 
 -- Options
 

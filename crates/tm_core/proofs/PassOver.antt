@@ -1,14 +1,12 @@
 -- Trees that rest, and turns that are passed over.
-use Rattle.std.proofs.Common.{◌≡◌, ◌≤◌, ◌<◌, ℕ, zero, suc, ◌+◌, List, [], ◌∷◌, ◌++◌, map, Bool, true, false, not, true≢false, refl, sym, ap, ◌∙◌, subst, arith}
+use Rattle.std.proofs.Common.{◌≡◌, ◌≤◌, ◌<◌, ℕ, zero, suc, ◌+◌, List, [], ◌∷◌, ◌++◌, map, Bool, true, false, not, refl, sym, ap, ◌∙◌, subst, arith}
 use Rattle.std.specs.Prelude.{Option, Some, None, option_map, is_some, if◌then◌else◌, ◌==◌, ◌||◌, unwrap_or}
 use Rattle.std.specs.Option.{option_and_then}
 use Rattle.std.specs.List.{AllByRecursion, list_any}
 use Rattle.std.proofs.lemmas.Bool.{eqb-true, eqb-false, ne_eqb}
-use Rattle.tm_types.specs.declared.step.Turn.{Turn}
-use Rattle.tm_rules.specs.Grammar.{Grammar}
-use Rattle.tm_legal.specs.Play.{Player, Settled, settle, tree_event, supervisor_step, player_event}
-use Rattle.tm_legal.specs.Legal.{Scene}
-use Rattle.tm_legal.specs.Play.{event, turn, turns, numbers_to}
+use Rattle.tm_rules.specs.Types.{Turn}
+use Rattle.tm_rules.specs.Prelude.{Grammar}
+use Rattle.tm_legal.specs.Prelude.{CanGoOn, Player, Scene, Settled, event, numbers_to, player_event, settle, supervisor_step, tree_event, turn, turns}
 use Rattle.std.specs.Ordering.{nat_cmp, is_eq}
 use Rattle.std.specs.Cmp.{ranked, nat_cmp_is}
 use Rattle.std.specs.List.Sorted.{IsStrictlySortedBy}
@@ -18,7 +16,6 @@ use Rattle.tm_legal.proofs.PlayLaws.{turns-append}
 use Rattle.tm_core.specs.Resting.{Rests}
 use Rattle.tm_core.specs.Rounds.{HasPlayed}
 use Rattle.tm_core.proofs.Leaving.{Goes, Leaves, stays-still, tree-goes, editor-goes, supervisor-goes, answered_by, StaysOn, nothing-is, All-both, All-later, Led, led-own, led-can, led-turn}
-use Rattle.tm_legal.specs.Needs.{CanGoOn}
 
 -- it rests where others have moved, and its query wasn't answered
 pub rests-on : (g : Grammar) (desk : Bool) (p q : Player) (tree_of : ℕ → Option ℕ) (number : ℕ) (moved : ℕ → Bool) (heard : Option ℕ) → CanGoOn g p → Goes moved heard p q → ((t : ℕ) → number ≡ suc t → moved t ≡ false)
@@ -107,9 +104,6 @@ equal-is t k is = go (nat_cmp t k) refl is
     go Equal e is = ranked t k Equal (sym e)
     go Greater e is = absurd cc
 
-pub equal-at : (k : ℕ) → is_eq (nat_cmp k k) ≡ true
-equal-at k = rw (← nat_cmp_is k k Equal refl) refl
-
 pub same-among : (k : ℕ) (ks : List ℕ) → is_among (k ∷ ks) k ≡ true
 same-among k ks = rw (← nat_cmp_is k k Equal refl) refl
 
@@ -135,24 +129,6 @@ all-above k (y ∷ ks) all = (ranked k y Less (sym all.0), all-above k ks all.1)
 below-among : (t : ℕ) (ks : List ℕ) → AllByRecursion (λ y. t < y) ks → is_among ks t ≡ false
 below-among t [] all = refl
 below-among t (y ∷ ks) all = not-among y t ks (below-among t ks all.1) (λ e. let lt = all.0 in absurd (omega (arith, lt, e)))
-
-further : (lo : ℕ) (ks : List ℕ) → AllByRecursion (λ y. lo < y) ks → is_among ks (suc lo) ≡ false → AllByRecursion (λ y. suc lo < y) ks
-further lo [] all not = tt
-further lo (y ∷ ks) all not = (go (suc lo == y) refl, further lo ks all.1 (rest not))
-  where
-    rest : is_among (y ∷ ks) (suc lo) ≡ false → is_among ks (suc lo) ≡ false
-    rest not = or_right (is_eq (nat_cmp (suc lo) y)) (is_among ks (suc lo)) not
-      where
-        or_right : (b c : Bool) → (b || c) ≡ false → c ≡ false
-        or_right true c h = absurd cc
-        or_right false c h = h
-
-    go : (b : Bool) → (suc lo == y) ≡ b → suc lo < y
-    go true e = let same : suc lo ≡ y = eqb-true (suc lo) y e in absurd (true≢false (sym (same-among y ks) ∙ ap (is_among (y ∷ ks)) (sym same) ∙ not))
-    go false e = let lt = all.0 in let ne = eqb-false (suc lo) y e in above lo y lt ne
-      where
-        above : (lo y : ℕ) → lo < y → (suc lo ≡ y → ⊥) → suc lo < y
-        above lo y lt ne = omega (arith, lt, ne)
 
 module _ (scene : Scene) (tree_of : ℕ → Option ℕ) where
   -- each of so many numbers after this one rests, or is among these

@@ -2,25 +2,11 @@
 use Rattle.std.proofs.Common.{◌≡◌, ℕ, zero, suc, ◌-◌, ◌<◌, ◌≤◌, Bool, true, false, not, List, [], ◌∷◌, ◌++◌, length, map, refl, sym, ap, ◌∙◌, subst, inl, inr, arith}
 use Rattle.std.specs.Prelude.{Option, Some, None, Result, Ok, Err, IfOk, OnOk, IsSome, option_map, is_some, slice_get, slice_set, slice_index_or, unwrap_or, if◌then◌else◌}
 use Rattle.std.specs.Option.{option_and_then, option_map_or}
-use Rattle.tm_word.specs.Words.{Text}
-use Rattle.tm_rules.specs.Words.{Trace}
-use Rattle.tm_types.specs.declared.step.FileKind.{FileKind}
-use Rattle.tm_types.specs.declared.step.Book.{Book}
-use Rattle.tm_types.specs.declared.step.Editor.{Editor}
-use Rattle.tm_types.specs.declared.step.Maker.{Maker}
-use Rattle.tm_types.specs.declared.step.Start.{Start}
-use Rattle.tm_types.specs.declared.step.Step.{Step}
-use Rattle.tm_types.specs.declared.step.Reply.{Reply}
-use Rattle.tm_types.specs.declared.step.Turn.{Turn}
+use Rattle.tm_word.specs.Prelude.{Text}
+use Rattle.tm_rules.specs.Prelude.{Cursor, Trace, is_manager, numbered, when}
+use Rattle.tm_rules.specs.Types.{Book, Editor, FileKind, Maker, Reply, Start, Step, Turn}
 use Rattle.tm_audit.specs.Tomoyo.{tomoyo_grammar}
-use Rattle.tm_rules.specs.Words.{Cursor}
-use Rattle.tm_rules.specs.Changes.{is_manager}
-use Rattle.tm_rules.specs.Search.{when}
-use Rattle.tm_rules.specs.Queries.{numbered}
-use Rattle.tm_legal.specs.Steps.{State, Applied, unfit, edit_step, opening, apply}
-use Rattle.tm_legal.specs.Legal.{Scene}
-use Rattle.tm_legal.specs.Play.{Way, Player, CanPlay, tree_event, line_event, editor_event, supervisor_step, player_event, own_turn, own_turns, start_of}
-use Rattle.tm_legal.specs.Needs.{Needs, CanGoOn}
+use Rattle.tm_legal.specs.Prelude.{Applied, CanGoOn, CanPlay, Needs, Player, Scene, State, Way, apply, edit_step, editor_event, line_event, opening, own_turn, own_turns, player_event, start_of, supervisor_step, tree_event, unfit}
 use Rattle.tm_legal.proofs.NeedsLaws.{can-go-on, own-turns-can}
 use Rattle.tm_machine.specs.Machine.{Course}
 use Rattle.tm_take.specs.Ways.{awaited}
@@ -56,14 +42,6 @@ map-length f [] = refl
 map-length f (x ∷ xs) = ap suc (map-length f xs)
 
 -- Results
-
-pub if_ok : {A E : Type 0} (P Q : A → Type 0) (r : Result A E) → ((x : A) → P x → Q x) → IfOk r P → IfOk r Q
-if_ok P Q (Ok x) f h = f x h
-if_ok P Q (Err e) f h = tt
-
-pub ok_if : {A E Q : Type 0} (P : A → Type 0) (r : Result A E) → ((x : A) → P x → Q) → IfOk r P → OnOk r Q
-ok_if P (Ok x) f h = f x h
-ok_if P (Err e) f h = tt
 
 -- The beginning
 

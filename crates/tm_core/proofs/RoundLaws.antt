@@ -3,13 +3,10 @@ use Rattle.std.proofs.Common.{◌≡◌, ◌≤◌, ◌<◌, ℕ, suc, ◌+◌, 
 use Rattle.std.specs.Prelude.{Option, Some, None, Result, Ok, Err, IfOk, is_some, if◌then◌else◌}
 use Rattle.std.specs.List.{AllByRecursion}
 use Rattle.std.proofs.lemmas.List.{take_all, take_more}
-use Rattle.tm_rules.specs.Words.{Trace}
-use Rattle.tm_types.specs.declared.step.Book.{Book}
-use Rattle.tm_types.specs.declared.step.Start.{Start}
-use Rattle.tm_types.specs.declared.step.Turn.{Turn}
+use Rattle.tm_rules.specs.Prelude.{Trace}
+use Rattle.tm_rules.specs.Types.{Book, Start, Turn}
 use Rattle.tm_audit.specs.Tomoyo.{tomoyo_grammar}
-use Rattle.tm_legal.specs.Legal.{Scene, Legal, final_policy}
-use Rattle.tm_legal.specs.Play.{Player, CanPlay, start_of, run_of, event, player_event, desk_turn, turn, turns, everybody, rounds, play_left, NobodyCanMove, Plays}
+use Rattle.tm_legal.specs.Prelude.{CanPlay, Legal, NobodyCanMove, Player, Plays, Scene, desk_turn, event, everybody, final_policy, play_left, player_event, rounds, run_of, start_of, turn, turns}
 use Rattle.tm_legal.proofs.Players.{PlayHolds}
 use Rattle.tm_legal.proofs.AllPlays.{rounds-hold}
 use Rattle.tm_legal.proofs.PlayLaws.{turns-append, rounds-suc, every_play_is_legal, every_event_is_work, reached_holds}

@@ -3,29 +3,15 @@ use Rattle.std.proofs.Common.{◌≡◌, ℕ, zero, suc, ◌-◌, ◌<◌, ◌�
 use Rattle.std.specs.Prelude.{Option, Some, None, Result, Ok, Err, IfOk, OnOk, IsSome, is_none, option_map, slice_get, slice_set}
 use Rattle.std.specs.Option.{option_and_then, option_map_or}
 use Rattle.std.proofs.lemmas.List.{map-append}
-use Rattle.tm_word.specs.Words.{Text}
-use Rattle.tm_types.specs.declared.step.FileKind.{FileKind}
-use Rattle.tm_types.specs.declared.step.Made.{Made}
-use Rattle.tm_types.specs.declared.step.Maker.{Maker}
-use Rattle.tm_types.specs.declared.step.Step.{Step}
-use Rattle.tm_types.specs.declared.step.Reply.{Reply}
-use Rattle.tm_types.specs.declared.step.Look.{Look}
-use Rattle.tm_types.specs.declared.request.Item.{Item}
-use Rattle.tm_types.specs.declared.request.Request.{Request}
-use Rattle.tm_types.specs.declared.verdict.Verdict.{Verdict}
+use Rattle.tm_word.specs.Prelude.{Text}
+use Rattle.tm_rules.specs.Types.{FileKind, Item, Look, Made, Maker, Reply, Request, Step, Verdict}
 use Rattle.tm_audit.specs.Tomoyo.{tomoyo_grammar}
-use Rattle.tm_legal.specs.Verdict.{verdict}
-use Rattle.tm_legal.specs.Steps.{State, Applied, apply}
-use Rattle.tm_legal.specs.Run.{Situation, Situations}
-use Rattle.tm_legal.specs.Play.{Stage, InProgress, Way, Settled, settle, going_on, look_at, end_tree, after_step, after_answer, stage_event, tree_event}
-use Rattle.tm_legal.specs.Needs.{Needs, TreeFits, StageFits, IsJudged, NextIsJudged}
-use Rattle.tm_rules.specs.Requests.{is_request}
-use Rattle.tm_rules.specs.Queries.{answer_of}
+use Rattle.tm_legal.specs.Prelude.{Applied, InProgress, IsJudged, Needs, NextIsJudged, Settled, Situation, Situations, Stage, StageFits, State, TreeFits, Way, after_answer, after_step, apply, end_tree, going_on, look_at, settle, stage_event, tree_event, verdict}
+use Rattle.tm_rules.specs.Prelude.{answer_of, audit_text, is_request}
 use Rattle.std.proofs.lemmas.Bool.{lt-ltb, le-leb}
 use Rattle.tm_machine.specs.Machine.{Course, history_of}
 use Rattle.tm_take.specs.Ways.{IsPassed, PassesTo}
-use Rattle.tm_core.specs.declared.judging.Judged.{Judged}
-use Rattle.tm_rules.specs.Audit.{audit_text}
+use Rattle.tm_take.specs.declared.judged.Judged.{Judged}
 use Rattle.tm_take.specs.Taking.{begun_with, rest_of, serial_of}
 use Rattle.tm_take.proofs.TreeEvents.{begins_with, ends_when_passed, makes_own, hears, waits_on, goes_on_alike}
 use Rattle.tm_core.specs.Judging.{judged, looked}
@@ -251,17 +237,10 @@ ends-event course later desk number old passed_to (Err e) some idle past ends = 
 pub put-back-same : (old new : Way) (b : InProgress) → new ≡ record old { begun = None } → old.begun ≡ Some b → record new { begun = Some b } ≡ old
 put-back-same old new b out begun = ap (λ (w : Way). (let v : Way = record w { begun = Some b } in v)) out ∙ ap (λ (o : Option InProgress). (let v : Way = record old { begun = o } in v)) (sym begun)
 
-pub none-out-same : (old new : Way) → new ≡ record old { begun = None } → old.begun ≡ None → new ≡ old
-none-out-same old new out begun = out ∙ ap (λ (o : Option InProgress). (let v : Way = record old { begun = o } in v)) (sym begun)
-
 pub put-back-event : {E : Type 0} (course later : Course) (desk : Bool) (t : ℕ) (old out new : Way) (b : InProgress) (result : Result Bool E) → out ≡ record old { begun = None } → old.begun ≡ Some b
     → IfOk result (λ moved. (desk : Bool) (t : ℕ) → TreeMoves desk t moved course (record out { begun = Some b }) later new) → IfOk result (λ moved. TreeMoves desk t moved course old later new)
 put-back-event course later desk t old out new b (Ok moved) left begun h = subst (λ (w : Way). TreeMoves desk t moved course w later new) (put-back-same old out b left begun) (h desk t)
 put-back-event course later desk t old out new b (Err e) left begun h = tt
-
--- what the take that was taken out needs
-pub begun-fits : (s : State) (old : Way) (b : InProgress) → Needs tomoyo_grammar s old → old.begun ≡ Some b → (is_request tomoyo_grammar.is_path b.request ≡ true) × StageFits tomoyo_grammar s b b.stage
-begun-fits s old b needs begun = subst (TreeFits tomoyo_grammar s old) begun needs.fits
 
 -- a tree that is there can end
 pub end-fits : (s : State) (number : ℕ) → 0 < number → number ≤ s.trees → IsSome (apply tomoyo_grammar s (Step.End number)).reply

@@ -1,26 +1,16 @@
 -- What a look shows: the verdict on a request at a state, and the audit text that goes with it.
 use Rattle.std.specs.Prelude.{◌≡◌, ℕ, suc, Option, Some, option_map, List, [], ◌∷◌, ◌++◌, length}
 use Rattle.std.specs.Option.{option_and_then}
-use Rattle.tm_types.specs.declared.request.Proc.{Proc}
-use Rattle.tm_types.specs.declared.request.Request.{Request}
-use Rattle.tm_types.specs.declared.verdict.Verdict.{Verdict}
-use Rattle.tm_types.specs.declared.step.Look.{Look}
-use Rattle.tm_rules.specs.Audit.{audit_text}
+use Rattle.tm_rules.specs.Types.{Look, Proc, Request, Verdict}
+use Rattle.tm_rules.specs.Prelude.{audit_text}
 use Rattle.tm_audit.specs.Tomoyo.{tomoyo_grammar}
-use Rattle.tm_legal.specs.Verdict.{verdict}
-use Rattle.tm_legal.specs.Steps.{State}
-use Rattle.tm_legal.specs.Run.{Situation}
-use Rattle.tm_legal.specs.Play.{InProgress, Way, going_on}
+use Rattle.tm_legal.specs.Prelude.{InProgress, Situation, State, Way, going_on}
 use Rattle.tm_machine.specs.Machine.{Course}
 use Rattle.tm_take.specs.declared.requests.PendingLook.{PendingLook}
+use Rattle.tm_take.specs.Looking.{verdict_at}
 use Rattle.tm_take.specs.Situations.{situation_of}
 use Rattle.tm_take.specs.Taking.{begun_with}
-use Rattle.tm_core.specs.declared.judging.Judged.{Judged}
-
--- the verdict at a state, where the domain and its profile are there
-abbrev pub verdict_at : State → ℕ → Proc → Request → Option Verdict
-verdict_at s d process request =
-    verdict tomoyo_grammar.is_path s.policy s.queries.attached d process request
+use Rattle.tm_take.specs.declared.judged.Judged.{Judged}
 
 -- the verdict, where there is one, with its audit text
 abbrev pub judged : State → ℕ → Proc → Request → Option Judged

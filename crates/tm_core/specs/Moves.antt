@@ -2,18 +2,11 @@
 use Rattle.std.specs.Prelude.{◌≡◌, ◌⊎◌, ℕ, suc, true, false, Bool, not, ◌||◌, ◌==◌, List, [], ◌∷◌, ◌++◌, length, Some, None, is_none, slice_get, slice_set}
 use Rattle.std.specs.Option.{IsSomeAnd, option_map_or}
 use Rattle.std.specs.List.{list_any}
-use Rattle.tm_word.specs.Words.{Text}
-use Rattle.tm_types.specs.declared.step.FileKind.{FileKind}
-use Rattle.tm_types.specs.declared.step.Made.{Made}
-use Rattle.tm_types.specs.declared.step.Maker.{Maker}
-use Rattle.tm_types.specs.declared.step.Step.{Step}
-use Rattle.tm_types.specs.declared.step.Reply.{Reply}
-use Rattle.tm_types.specs.declared.step.Answered.{Answered}
-use Rattle.tm_types.specs.declared.step.Turn.{Turn}
-use Rattle.tm_rules.specs.Queries.{answer_of}
+use Rattle.tm_word.specs.Prelude.{Text}
+use Rattle.tm_rules.specs.Types.{Answered, FileKind, Made, Maker, Reply, Step, Turn}
+use Rattle.tm_rules.specs.Prelude.{answer_of}
 use Rattle.tm_audit.specs.Tomoyo.{tomoyo_grammar}
-use Rattle.tm_legal.specs.Steps.{State, apply}
-use Rattle.tm_legal.specs.Play.{InProgress, Way, Player, going_on, after_step, after_answer, tree_event}
+use Rattle.tm_legal.specs.Prelude.{InProgress, Player, State, Way, after_answer, after_step, apply, going_on, tree_event}
 use Rattle.tm_machine.specs.Machine.{Course, history_of}
 use Rattle.tm_take.specs.Taking.{TakesOut, rest_of}
 use Rattle.tm_take.specs.Ways.{awaited}

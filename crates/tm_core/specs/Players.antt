@@ -1,13 +1,10 @@
 -- What the code's player stands for.
 use Rattle.std.specs.Prelude.{ℕ, ◌==◌, Bool, false, [], Option, None, option_map, map}
 use Rattle.std.specs.Option.{option_and_then, option_map_or}
-use Rattle.tm_types.specs.declared.request.Tree.{Tree}
-use Rattle.tm_types.specs.declared.policy.Policy.{Policy}
-use Rattle.tm_legal.specs.Run.{at_start}
-use Rattle.tm_types.specs.declared.step.Turn.{Turn}
-use Rattle.tm_rules.specs.Queries.{Queries, first_query}
+use Rattle.tm_rules.specs.Types.{Policy, Tree, Turn}
+use Rattle.tm_legal.specs.Prelude.{Player, Settled, Way, at_start, settle, supervisor_step}
+use Rattle.tm_rules.specs.Prelude.{Queries, first_query}
 use Rattle.tm_audit.specs.Tomoyo.{tomoyo_grammar}
-use Rattle.tm_legal.specs.Play.{Way, Player, Settled, settle, supervisor_step}
 use Rattle.tm_machine.specs.Machine.{Course}
 use Rattle.tm_take.specs.Ways.{way_of}
 use Rattle.tm_core.specs.declared.player.Player as code

@@ -1,12 +1,9 @@
 -- What turns do to the code's player, each in one word.
 use Rattle.std.specs.Prelude.{◌≡◌, ℕ, Bool, List}
-use Rattle.tm_rules.specs.Words.{Trace}
-use Rattle.tm_types.specs.declared.step.Book.{Book}
-use Rattle.tm_types.specs.declared.step.Made.{Made}
-use Rattle.tm_types.specs.declared.step.Turn.{Turn}
+use Rattle.tm_rules.specs.Prelude.{Trace}
+use Rattle.tm_rules.specs.Types.{Book, Made, Turn}
 use Rattle.tm_audit.specs.Tomoyo.{tomoyo_grammar}
-use Rattle.tm_legal.specs.Legal.{Scene, Legal, final_policy}
-use Rattle.tm_legal.specs.Play.{start_of, run_of, event, player_event, turns, Plays}
+use Rattle.tm_legal.specs.Prelude.{Legal, Plays, Scene, event, final_policy, player_event, run_of, start_of, turns}
 use Rattle.tm_core.specs.declared.player.Player as code
 use Rattle.tm_core.specs.Moves.{AddsAtMost, IsMadeBy}
 use Rattle.tm_core.specs.Players.{course_of, player_of}

@@ -5,12 +5,10 @@ use Rattle.std.specs.Option.{option_and_then, option_map_or}
 use Rattle.std.specs.Ordering.{nat_cmp}
 use Rattle.std.specs.BTreeSet.{contains}
 use Rattle.std.specs.BTreeMap.{get}
-use Rattle.tm_types.specs.declared.step.Start.{Start}
-use Rattle.tm_types.specs.declared.step.Turn.{Turn}
-use Rattle.tm_rules.specs.Grammar.{Grammar}
-use Rattle.tm_rules.specs.Queries.{numbered}
+use Rattle.tm_rules.specs.Types.{Start, Turn}
+use Rattle.tm_rules.specs.Prelude.{Grammar, numbered}
 use Rattle.tm_audit.specs.Tomoyo.{tomoyo_grammar}
-use Rattle.tm_legal.specs.Play.{Player, tree_event}
+use Rattle.tm_legal.specs.Prelude.{Player, tree_event}
 use Rattle.tm_take.specs.Ways.{awaited}
 use Rattle.tm_core.specs.declared.awake.Awake.{Awake}
 

@@ -1,9 +1,8 @@
 -- Turns one after another, and rounds of them.
 use Rattle.std.specs.Prelude.{◌≡◌, ◌≤◌, ◌+◌, ◌++◌, ◌∷◌, [], ℕ, Bool, false, List, None, if◌then◌else◌, map}
 use Rattle.std.specs.List.{AllByRecursion}
-use Rattle.tm_types.specs.declared.step.Turn.{Turn}
-use Rattle.tm_legal.specs.Legal.{Scene}
-use Rattle.tm_legal.specs.Play.{Player, event, turns, numbers_to, rounds, play_left, NobodyCanMove}
+use Rattle.tm_rules.specs.Types.{Turn}
+use Rattle.tm_legal.specs.Prelude.{NobodyCanMove, Player, Scene, event, numbers_to, play_left, rounds, turns}
 
 -- these turns were played, and whether one of them had an event
 pub record HasPlayed (scene : Scene) (old now : Player) (list : List Turn)

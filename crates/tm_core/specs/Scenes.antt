@@ -1,12 +1,9 @@
 -- The scenes of a machine, and the players that turns have led to.
 use Rattle.std.specs.Prelude.{◌≡◌, Bool, true, false, List, length, Option, Some, None, if◌then◌else◌}
-use Rattle.tm_rules.specs.Words.{Trace}
-use Rattle.tm_types.specs.declared.step.Book.{Book}
-use Rattle.tm_types.specs.declared.step.Start.{Start}
-use Rattle.tm_types.specs.declared.step.Turn.{Turn}
+use Rattle.tm_rules.specs.Prelude.{Trace}
+use Rattle.tm_rules.specs.Types.{Book, Start, Turn}
 use Rattle.tm_audit.specs.Tomoyo.{tomoyo_grammar}
-use Rattle.tm_legal.specs.Legal.{Scene}
-use Rattle.tm_legal.specs.Play.{Player, CanPlay, start_of, turns, own_turns}
+use Rattle.tm_legal.specs.Prelude.{CanPlay, Player, Scene, own_turns, start_of, turns}
 use Rattle.tm_machine.specs.Machine.{Course}
 
 -- what a machine that was started so plays with a trace; the book counts where a supervisor stands

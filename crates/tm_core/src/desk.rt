@@ -2,7 +2,7 @@
 ghost use Rattle.std.specs.Prelude.{◌≡◌};
 ghost use Rattle.tm_desk.specs.Desks.{desk_book, IsDesk};
 ghost use Rattle.tm_audit.specs.Tomoyo.{tomoyo_grammar};
-ghost use Rattle.tm_legal.specs.Play.{desk_turn, is_reached};
+ghost use Rattle.tm_legal.specs.Prelude.{desk_turn, is_reached};
 ghost use Rattle.tm_core.specs.Players.{player_of};
 
 use crate::player::Player;

@@ -1,29 +1,22 @@
 //! One look: the verdict on a request and its audit text.
 ghost use Rattle.std.specs.Prelude.{◌≡◌, true, Some, IsSome, IfOk};
 ghost use Rattle.tm_audit.specs.Standing.{StandsIn};
-ghost use Rattle.tm_rules.specs.Requests.{is_request};
+ghost use Rattle.tm_rules.specs.Prelude.{is_request};
 ghost use Rattle.tm_audit.specs.Tomoyo.{tomoyo_grammar};
-ghost use Rattle.tm_legal.specs.Play.{IsNamed};
-ghost use Rattle.tm_core.specs.Judging.{judged, verdict_at};
+ghost use Rattle.tm_legal.specs.Prelude.{IsNamed};
+ghost use Rattle.tm_take.specs.Looking.{verdict_at};
+ghost use Rattle.tm_core.specs.Judging.{judged};
 
 use std::alloc::Global;
 use tm_audit::audit_in;
 use tm_audit::change_domains::{Standing, standing_at};
 use tm_list::NoMemory;
 use tm_machine::Machine;
+use tm_take::Judged;
 use tm_types::request::{Proc, Request};
 use tm_types::verdict::Verdict;
 use tm_verdict::rep::Rep;
 use tm_verdict::{verdict_in, verdict_of};
-use tm_word::Text;
-
-/// What a look shows: the verdict, and the audit text that is written of it if the take ends with
-/// this look.
-#[derive(Drop)]
-pub struct Judged {
-    pub verdict: Verdict,
-    pub audit: Option<Text>,
-}
 
 // Judges a request of a process where the look's standing is known.
 fn judge_in<R: Rep>(

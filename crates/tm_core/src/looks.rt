@@ -1,16 +1,16 @@
 //! A look of a tree: the take that it begins.
 ghost use Rattle.std.specs.Prelude.{◌≡◌, true, IsSome, IfOk, OnOk};
-ghost use Rattle.tm_rules.specs.Requests.{is_request};
+ghost use Rattle.tm_rules.specs.Prelude.{is_request};
 ghost use Rattle.tm_audit.specs.Tomoyo.{tomoyo_grammar};
-ghost use Rattle.tm_legal.specs.Play.{IsNamed};
+ghost use Rattle.tm_legal.specs.Prelude.{IsNamed};
 ghost use Rattle.tm_take.specs.Ways.{way_of};
 ghost use Rattle.tm_core.specs.Judging.{begun_by, first_looked, looked_again, GoesOn};
 
-use crate::judging::{Judged, judge};
+use crate::judging::judge;
 use std::alloc::Global;
 use tm_list::NoMemory;
 use tm_machine::Machine;
-use tm_take::{PendingLook, RequestInProgress, TreeOnWay, begin};
+use tm_take::{Judged, PendingLook, RequestInProgress, TreeOnWay, begin};
 use tm_types::request::Request;
 use tm_verdict::rep::Rep;
 

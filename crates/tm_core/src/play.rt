@@ -1,9 +1,9 @@
 //! A play from its first turn to its end, and what it leaves.
 ghost use Rattle.std.specs.Prelude.{◌≡◌, ◌++◌, IfOk, OnOk, flat_map, length, map};
-ghost use Rattle.tm_rules.specs.Few.{IsFew};
+ghost use Rattle.tm_rules.specs.Prelude.{IsFew};
 ghost use Rattle.tm_desk.specs.Desks.{desk_book, IsDesk};
-ghost use Rattle.tm_types.specs.declared.step.Take.{Take};
-ghost use Rattle.tm_legal.specs.Play.{Way, run_of};
+ghost use Rattle.tm_rules.specs.Types.{Take};
+ghost use Rattle.tm_legal.specs.Prelude.{Way, run_of};
 ghost use Rattle.tm_take.specs.Ways.{way_of};
 ghost use Rattle.tm_core.specs.Players.{course_of, player_of};
 ghost use Rattle.tm_core.specs.Playing.{SameStart, ReachedBy, PlayedOut, PlaysSchedule, PlaysLegally, EndsWithPolicy};

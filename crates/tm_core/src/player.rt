@@ -1,16 +1,11 @@
 //! A machine and a trace at play: one event at a time, by turns.
 ghost use Rattle.std.specs.Prelude.{◌≡◌, List, [], length, IfOk, OnOk, map};
-ghost use Rattle.tm_word.specs.Words.{Text};
-ghost use Rattle.tm_types.specs.declared.step.FileKind.{FileKind};
-ghost use Rattle.tm_types.specs.declared.step.Maker.{Maker};
-ghost use Rattle.tm_types.specs.declared.step.Book.{Book};
+ghost use Rattle.tm_word.specs.Prelude.{Text};
+ghost use Rattle.tm_rules.specs.Types.{Book, Editor, FileKind, Maker};
 ghost use Rattle.tm_audit.specs.Tomoyo.{tomoyo_grammar};
-ghost use Rattle.tm_legal.specs.Steps.{opening};
-ghost use Rattle.tm_legal.specs.Needs.{CanGoOn};
-ghost use Rattle.tm_legal.specs.Play.{tree_event, editor_event, supervisor_step, start_of};
+ghost use Rattle.tm_legal.specs.Prelude.{CanGoOn, editor_event, opening, start_of, supervisor_step, tree_event};
 ghost use Rattle.tm_legal.specs.Play as play;
 ghost use Rattle.tm_take.specs.Ways.{way_of};
-ghost use Rattle.tm_types.specs.declared.step.Editor.{Editor};
 ghost use Rattle.tm_core.specs.Scenes.{scene_of, Answers};
 ghost use Rattle.tm_core.specs.Resting.{awaited_by};
 ghost use Rattle.tm_core.specs.Moves.{at_course};

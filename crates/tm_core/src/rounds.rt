@@ -1,7 +1,7 @@
 //! Turns one after another, and rounds of all activities until nobody can move.
 ghost use Rattle.std.specs.Prelude.{◌≡◌, ◌<◌, ◌≤◌, true, is_some, length, IfOk, OnOk, IfSome, map};
 ghost use Rattle.tm_desk.specs.Desks.{desk_book, IsDesk};
-ghost use Rattle.tm_legal.specs.Play.{numbers_to};
+ghost use Rattle.tm_legal.specs.Prelude.{numbers_to};
 ghost use Rattle.tm_core.specs.Rounds.{one_round};
 ghost use Rattle.tm_core.specs.Players.{course_of, player_of};
 ghost use Rattle.tm_core.specs.Resting.{OthersRest};

@@ -16,8 +16,8 @@ pub(crate) struct Script {
 
 impl Model for Script {
     ghost use Rattle.std.specs.Prelude.{List};
-    ghost use Rattle.tm_word.specs.Words.{Text};
-    ghost use Rattle.tm_types.specs.declared.step.FileKind.{FileKind};
+    ghost use Rattle.tm_word.specs.Prelude.{Text};
+    ghost use Rattle.tm_rules.specs.Types.{FileKind};
 
     ghost Value = { List (FileKind × Text) };
 

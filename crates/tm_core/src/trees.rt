@@ -1,10 +1,9 @@
 //! The event of a tree: its next look, its next own step, the taking of its answer, or its end.
 ghost use Rattle.std.specs.Prelude.{◌≡◌, ◌≤◌, ◌<◌, ◌-◌, ◌∷◌, ℕ, Bool, true, List, Some, None, IfOk, OnOk};
-ghost use Rattle.tm_types.specs.declared.step.Step.{Step};
+ghost use Rattle.tm_rules.specs.Types.{Step};
 ghost use Rattle.tm_audit.specs.Tomoyo.{tomoyo_grammar};
-ghost use Rattle.tm_rules.specs.Requests.{is_request};
-ghost use Rattle.tm_legal.specs.Play.{Stage, IsNamed};
-ghost use Rattle.tm_legal.specs.Needs.{Needs, StageFits};
+ghost use Rattle.tm_rules.specs.Prelude.{is_request};
+ghost use Rattle.tm_legal.specs.Prelude.{IsNamed, Needs, Stage, StageFits};
 ghost use Rattle.tm_take.specs.Ways.{way_of};
 ghost use Rattle.tm_core.specs.Moves.{MakesOwn, Hears, Ends, TreeMoves, is_waiting};
 

@@ -1,10 +1,11 @@
 //! A supervisor's desk: a book beside a closure that answers with the book's codes.
 //! Stands on tm_script for what a book answers.
+//! Of its own, since plays by turns (tm_core) and the supervisor at an engine (tm_serve) share it.
 //! Promises that a desk's code of a query is the code of the book's answer.
 #![tactic(auto)]
 
 ghost use Rattle.std.specs.Prelude.{◌≡◌};
-ghost use Rattle.tm_rules.specs.Book.{book_answer, code_of};
+ghost use Rattle.tm_rules.specs.Prelude.{book_answer, code_of};
 
 pub use tm_script::book_code;
 use tm_types::step::{Book, Query};

@@ -1,4 +1,3 @@
-pub mod Cuts
 pub mod NameLaws
 pub use Rattle.tm_pattern.proofs.GrammarLaws
 pub use Rattle.tm_pattern.proofs.LexLaws

@@ -8,7 +8,7 @@ use Rattle.std.specs.List.{slice_split, list_all, list_any, suffix_len}
 use Rattle.std.proofs.lemmas.Bool.{eqb-true}
 use Rattle.tm_pattern.specs.Words.{Text}
 use Rattle.tm_pattern.specs.Texts.{texts_equal}
-use Rattle.tm_rules.specs.Transition.{is_namespace_word, is_domain_name, root_name}
+use Rattle.tm_rules.specs.Prelude.{is_domain_name, is_namespace_word, root_name}
 use Rattle.tm_domain.specs.declared.DomainFault.TheVariants.{NoNamespace, TooLong}
 use Rattle.tm_domain.specs.Names.{is_path, bad_path, paths_or_fault, domain_at, domain_of, is_read}
 

@@ -3,11 +3,11 @@ use Rattle.std.specs.Prelude.{◌≡◌, ℕ, ◌==◌, nat_le, Bool, true, fals
 use Rattle.std.specs.List.{position_from, slice_split}
 use Rattle.std.specs.Result.{is_ok}
 use Rattle.tm_pattern.specs.Reading.{pattern_of}
-use Rattle.tm_rules.specs.Prefer.{Prefer}
+use Rattle.tm_rules.specs.Types.{Prefer}
 use Rattle.tm_pattern.specs.Words.{Text}
 use Rattle.tm_pattern.specs.Texts.{begins_with_byte, texts_equal}
-use Rattle.tm_rules.specs.Words.{DomainName}
-use Rattle.tm_rules.specs.Transition.{By_preference, target_name, has_parent, parent_name, is_namespace_word}
+use Rattle.tm_rules.specs.Prelude.{DomainName, has_parent, is_namespace_word, parent_name, target_name}
+use Rattle.tm_rules.specs.Transition.{By_preference}
 use Rattle.tm_domain.specs.declared.DomainFault.{DomainFault}
 use Rattle.tm_domain.specs.declared.DomainFault.TheVariants.{NoNamespace, BadPath, TooLong, NoMemory}
 

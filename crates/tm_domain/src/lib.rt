@@ -1,14 +1,14 @@
 //! Domain names as text, and the names that transitions make from names.
-//! It stands on the patterns of `tm_pattern` and on the rules of `tm_rules`, whose names it makes.
-//! It promises the grammar with the first fault, and for each made name the one of its rule.
+//! Stands on the patterns of `tm_pattern` and on the rules of `tm_rules`, whose names it makes.
+//! Of its own, below tm_line, so that tm_log_processes has names of domains without lines.
+//! Promises the grammar with the first fault, and for each made name the one of its rule.
 #![tactic(auto)]
 
 ghost use Rattle.std.specs.Prelude.{◌≡◌, ◌+◌, ◌-◌, ◌<◌, ◌≤◌, ◌==◌, ℕ, List, [], ◌∷◌, ◌++◌, length, Bool, true, not, ◌&&◌, ◌||◌, ◌↔◌, codes, false, Some, None, Ok, Err, MatchOption, IfOk, IsTrue};
 ghost use Rattle.std.specs.List.{position, slice_split, suffix_len, list_any};
 ghost use Rattle.tm_pattern.specs.Words.{Text};
 ghost use Rattle.tm_pattern.specs.Texts.{texts_equal, begins_with_byte};
-ghost use Rattle.tm_rules.specs.Policy.{namespace_word, last_word};
-ghost use Rattle.tm_rules.specs.Transition.{child_name, initial_name, root_name, is_namespace_word, is_domain_name};
+ghost use Rattle.tm_rules.specs.Prelude.{child_name, initial_name, is_domain_name, is_namespace_word, last_word, namespace_word, root_name};
 ghost use Rattle.tm_pattern.specs.Gives.{Gives, GivesNow};
 ghost use Rattle.tm_domain.specs.Names.{HasNoBrackets, IsInBrackets, domain_cause, is_read, short_name, is_path, bad_path, domain_of, parent_of, preferred_name};
 ghost use Rattle.tm_domain.specs.declared.DomainFault.TheVariants.{NoMemory};

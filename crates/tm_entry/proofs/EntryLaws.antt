@@ -1,18 +1,9 @@
 -- Entries: what is written is read again, and what is read can be written.
 use Rattle.std.proofs.Common.{◌≡◌, ℕ, Bool, true, false, cond, ◌&&◌, ◌||◌, List, [], ◌∷◌, ◌++◌, Option, Some, None, Ok, Err, refl, subst, ◌∙◌}
 use Rattle.std.specs.Prelude.{codes, map}
-use Rattle.tm_word.specs.Words.{Text}
-use Rattle.tm_types.specs.declared.entry.LineKind.{LineKind}
-use Rattle.tm_types.specs.declared.entry.Args.{Args}
-use Rattle.tm_types.specs.declared.entry.Perms.{Perms}
-use Rattle.tm_types.specs.declared.entry.StatPlace.{StatPlace}
-use Rattle.tm_types.specs.declared.entry.Attr.{Attr}
-use Rattle.tm_types.specs.declared.entry.Clause.{Clause}
-use Rattle.tm_types.specs.declared.entry.Cond.{Cond}
-use Rattle.tm_types.specs.declared.entry.Entry.{Entry}
-use Rattle.tm_word.specs.Texts.{texts_equal, begins}
+use Rattle.tm_word.specs.Prelude.{Text, begins, texts_equal, ◌>>=◌}
+use Rattle.tm_rules.specs.Types.{Args, Attr, Clause, Cond, Entry, LineKind, Perms, StatPlace}
 use Rattle.tm_file.specs.Lines.{is_last}
-use Rattle.tm_word.specs.Gives.{◌>>=◌}
 use Rattle.tm_file.proofs.Steps.{bind_ok, ok_is, both, all}
 use Rattle.tm_file.specs.FileLines.{file_line, file_words, is_file}
 use Rattle.tm_file.specs.Preferences.{no_prefer}

@@ -2,11 +2,8 @@
 use Rattle.std.proofs.Common.{◌≡◌, ◌||◌, Bool, true, false, cond, refl, ◌∙◌}
 use Rattle.std.specs.List.{list_all}
 use Rattle.std.proofs.lemmas.List.Folds.{list_all-append}
-use Rattle.tm_word.specs.Spelling.{words_of, joined}
-use Rattle.tm_types.specs.declared.entry.Args.{Args}
-use Rattle.tm_types.specs.declared.entry.Perms.{Perms}
-use Rattle.tm_types.specs.declared.entry.Entry.{Entry}
-use Rattle.tm_word.specs.Texts.{is_word}
+use Rattle.tm_word.specs.Prelude.{is_word, joined, words_of}
+use Rattle.tm_rules.specs.Types.{Args, Entry, Perms}
 use Rattle.tm_file.proofs.Steps.{both, all}
 use Rattle.tm_file.proofs.WholeLaws.{words_again}
 use Rattle.tm_file.specs.FileLines.{file_words, is_file}

@@ -2,15 +2,11 @@
 use Rattle.std.proofs.Common.{◌≡◌, Bool, true, false, List, [], ◌∷◌, Result, Ok, Err, refl}
 use Rattle.std.specs.Prelude.{codes}
 use Rattle.std.specs.List.{list_all}
-use Rattle.tm_word.specs.Words.{Text}
-use Rattle.tm_word.specs.Printing.{spelled_pattern}
+use Rattle.tm_word.specs.Prelude.{Text, head_of, lists_equal, spelled_pattern, spelled_word, texts_equal, word_of}
 use Rattle.tm_types.specs.Numbers.{number_of, value_of, range_of, plain_of}
 use Rattle.tm_file.specs.Tokens.{token_at}
 use Rattle.tm_file.specs.Reading.{step, ended, parsed, pattern_of}
-use Rattle.tm_word.specs.Spelling.{spelled_word, word_of, head_of}
-use Rattle.tm_types.specs.declared.entry.LineKind.{LineKind}
-use Rattle.tm_types.specs.declared.entry.Entry.{Entry}
-use Rattle.tm_word.specs.Texts.{texts_equal, lists_equal}
+use Rattle.tm_rules.specs.Types.{Entry, LineKind}
 use Rattle.tm_file.specs.Names.{is_path, domain_of}
 use Rattle.tm_file.specs.Permissions.{perms_of, perm_on}
 use Rattle.tm_file.specs.Arguments.{group_word, pattern_word, path_word, range_word, name_word, number_word, address_word, name_at, number_at, address_at}

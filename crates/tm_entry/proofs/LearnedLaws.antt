@@ -6,25 +6,10 @@ use Rattle.std.specs.List.{list_all}
 use Rattle.std.proofs.lemmas.Bool.{eqb-true}
 use Rattle.std.proofs.lemmas.List.Folds.{list_all-append}
 use Rattle.std.proofs.lemmas.Option.{slice_get_within}
-use Rattle.tm_word.specs.Words.{Word}
-use Rattle.tm_word.specs.Matching.{is_empty}
-use Rattle.tm_word.specs.Printing.{literal, spelled_pattern}
+use Rattle.tm_word.specs.Prelude.{Word, are_bytes, is_empty, literal, spelled_pattern}
 use Rattle.tm_file.specs.Grammar.{is_right}
-use Rattle.tm_types.specs.Functions.{row_functions, inet_functions, unix_functions, function_of}
-use Rattle.tm_types.specs.declared.entry.Args.{Args}
-use Rattle.tm_types.specs.declared.entry.InetKind.{InetKind}
-use Rattle.tm_types.specs.declared.entry.UnixKind.{UnixKind}
-use Rattle.tm_types.specs.declared.entry.Attr.{Attr}
-use Rattle.tm_types.specs.declared.entry.Clause.{Clause}
-use Rattle.tm_types.specs.declared.unions.NameUnion.{NameUnion}
-use Rattle.tm_types.specs.declared.request.Attributes.{Attributes}
-use Rattle.tm_types.specs.declared.request.Request.{Request}
-use Rattle.tm_rules.specs.Condition.{is_execute, is_manual}
-use Rattle.tm_rules.specs.Search.{path_of}
-use Rattle.tm_rules.specs.Transition.{is_domain_name}
-use Rattle.tm_rules.specs.Learned.{is_word, learned_line}
-use Rattle.tm_rules.specs.Requests.{is_path_word, is_name, is_number, is_addr, are_literal, is_symlink, has_bytes, bytes_if, has_exec, has_no_exec, may_have, is_stat, has_its_attributes, is_request}
-use Rattle.tm_word.specs.Spelling.{are_bytes}
+use Rattle.tm_rules.specs.Types.{Args, Attr, Attributes, Clause, InetKind, NameUnion, Request, UnixKind, function_of, inet_functions, row_functions, unix_functions}
+use Rattle.tm_rules.specs.Prelude.{are_literal, bytes_if, has_bytes, has_exec, has_its_attributes, has_no_exec, is_addr, is_domain_name, is_execute, is_manual, is_name, is_number, is_path_word, is_request, is_stat, is_symlink, is_word, learned_line, may_have, path_of}
 use Rattle.tm_rules.proofs.LearnedLaws.{execute-first}
 use Rattle.tm_file.specs.Names.{is_path}
 use Rattle.tm_file.specs.Row.{Row}

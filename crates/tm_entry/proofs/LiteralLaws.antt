@@ -4,21 +4,13 @@ use Rattle.std.specs.Bool.{beq}
 use Rattle.std.specs.List.{list_any}
 use Rattle.std.proofs.lemmas.Bool.{eqb-true, ltb-true, le-leb}
 use Rattle.std.proofs.lemmas.List.Folds.{list_any-append}
-use Rattle.tm_word.specs.Words.{Text, Word, Pattern}
-use Rattle.tm_word.specs.Spelling.{spelling_of, spell, are_bytes}
-use Rattle.tm_word.specs.Matching.{is_empty}
-use Rattle.tm_word.specs.Printing.{spelled_pattern, literal, literal_word}
+use Rattle.tm_word.specs.Prelude.{Pattern, Text, Word, are_bytes, begins_with_byte, is_empty, literal, literal_word, spell, spelled_pattern, spelling_of}
 use Rattle.tm_word.proofs.Literals.{literal-spelled, literal-name}
-use Rattle.tm_types.specs.Addr.{Addr}
+use Rattle.tm_rules.specs.Types.{Addr, AddrUnion, NameUnion, NumberUnion}
 use Rattle.tm_types.specs.Addresses.{addr_le}
 use Rattle.tm_file.specs.Grammar.{is_right}
 use Rattle.tm_file.proofs.LiteralLaws.{literal_right}
-use Rattle.tm_types.specs.declared.unions.NameUnion.{NameUnion}
-use Rattle.tm_types.specs.declared.unions.NumberUnion.{NumberUnion}
-use Rattle.tm_types.specs.declared.unions.AddrUnion.{AddrUnion}
-use Rattle.tm_rules.specs.Equality.{numbers_equal, addrs_equal}
-use Rattle.tm_rules.specs.Requests.{is_literal, is_written, is_name, is_number, is_addr_value, is_addr}
-use Rattle.tm_word.specs.Texts.{begins_with_byte}
+use Rattle.tm_rules.specs.Prelude.{addrs_equal, is_addr, is_addr_value, is_literal, is_name, is_number, is_written, numbers_equal}
 use Rattle.tm_rules.proofs.EqualityLaws.{same_patterns, same_number, same_addrs}
 use Rattle.tm_file.specs.Written.{begins_name}
 use Rattle.tm_file.specs.Written as lines

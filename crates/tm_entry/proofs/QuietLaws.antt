@@ -6,19 +6,12 @@ use Rattle.std.specs.List.{slice_split}
 use Rattle.std.proofs.lemmas.Bool.{and_parts}
 use Rattle.std.proofs.lemmas.Nat.Bits.{bit_at_or, bit_at-zero, bit_at_lowest}
 use Rattle.std.proofs.Math.Nat.{mul-mod_left}
-use Rattle.tm_word.specs.Words.{Text}
-use Rattle.tm_types.specs.declared.entry.Args.{Args}
-use Rattle.tm_types.specs.declared.entry.Cond.{Cond}
-use Rattle.tm_types.specs.declared.entry.Entry.{Entry}
-use Rattle.tm_types.specs.declared.entry.LineKind.{LineKind}
-use Rattle.tm_types.specs.declared.entry.Perms.{Perms}
-use Rattle.tm_word.specs.Texts.{texts_equal, begins}
-use Rattle.tm_rules.specs.Policy.{has_permission}
-use Rattle.tm_rules.specs.Clean.{lets_execute, is_one_of, is_quiet_acl}
+use Rattle.tm_word.specs.Prelude.{Text, begins, texts_equal, ◌>>=◌}
+use Rattle.tm_rules.specs.Types.{Args, Cond, Entry, LineKind, Perms}
+use Rattle.tm_rules.specs.Prelude.{has_permission, is_one_of, is_quiet_acl, lets_execute}
 use Rattle.tm_rules.proofs.EqualityLaws.{same_texts}
 use Rattle.tm_file.specs.Row.{Row}
 use Rattle.tm_file.specs.Lines.{is_last, keyword_kind, keyword_at}
-use Rattle.tm_word.specs.Gives.{◌>>=◌}
 use Rattle.tm_file.specs.Arguments.{name_at, number_at}
 use Rattle.tm_file.specs.Permissions.{names, mask_from, mask_in, pieces_of, bits_of, bits_or_kind, perms_of, with_mask}
 use Rattle.tm_file.proofs.Steps.{bind_ok, done, ok_is, chosen, not_true}

@@ -1,10 +1,7 @@
 -- The text of an entry: its line, and each condition after a space.
 use Rattle.std.proofs.Common.{◌≡◌, List, ◌∷◌, ◌++◌, refl, sym, ap, ◌∙◌, append_assoc}
-use Rattle.tm_word.specs.Words.{Text}
-use Rattle.tm_word.specs.Spelling.{joined}
-use Rattle.tm_types.specs.declared.entry.Args.{Args}
-use Rattle.tm_types.specs.declared.entry.Perms.{Perms}
-use Rattle.tm_types.specs.declared.entry.Entry.{Entry}
+use Rattle.tm_word.specs.Prelude.{Text, joined}
+use Rattle.tm_rules.specs.Types.{Args, Entry, Perms}
 use Rattle.tm_file.specs.Lines.{spaced}
 use Rattle.tm_file.proofs.JoinLaws.{joined_more}
 use Rattle.tm_file.specs.FileLines.{file_words}

@@ -3,8 +3,8 @@
 use Rattle.std.proofs.Common.{◌≡◌, Bool, true, false, Result, Ok, refl, sym, ap, ◌∙◌}
 use Rattle.std.specs.Prelude.{◌↔◌, IfOk, IsTrue}
 use Rattle.std.proofs.lemmas.Result.{IfOk-weaker}
-use Rattle.tm_word.specs.Spelling.{words_of, joined}
-use Rattle.tm_types.specs.declared.entry.Entry.{Entry}
+use Rattle.tm_word.specs.Prelude.{joined, words_of}
+use Rattle.tm_rules.specs.Types.{Entry}
 use Rattle.tm_entry.specs.Entries.{entry_of, entry_words, is_entry}
 use Rattle.tm_entry.proofs.EntryLaws.{entry_again, entry_read}
 use Rattle.tm_entry.proofs.EntryText.{entry_found}

@@ -1,14 +1,8 @@
 -- The lines of access control entries: what reading gives, and the words that are printed.
 use Rattle.std.specs.Prelude.{Bool, true, false, ◌&&◌, ◌||◌, if◌then◌else◌, List, [], ◌∷◌, ◌++◌, codes, Result, Ok, Err}
-use Rattle.tm_word.specs.Words.{Text}
-use Rattle.tm_types.specs.declared.entry.Args.{Args}
-use Rattle.tm_types.specs.declared.entry.Cond.{Cond}
-use Rattle.tm_types.specs.declared.entry.Entry.{Entry}
-use Rattle.tm_types.specs.declared.entry.LineKind.{LineKind}
-use Rattle.tm_types.specs.declared.entry.Perms.{Perms}
-use Rattle.tm_word.specs.Texts.{texts_equal, begins}
+use Rattle.tm_word.specs.Prelude.{Text, begins, texts_equal, ◌>>=◌}
+use Rattle.tm_rules.specs.Types.{Args, Cond, Entry, LineKind, Perms}
 use Rattle.tm_file.specs.Lines.{is_last}
-use Rattle.tm_word.specs.Gives.{◌>>=◌}
 use Rattle.tm_file.specs.FileLines.{file_line, file_words, is_file}
 use Rattle.tm_net.specs.NetLines.{net_line, net_words, is_net}
 use Rattle.tm_cond.specs.Reading.{cond_of, cond_words}

@@ -1,22 +1,16 @@
 //! The lines of access control entries: an ACL line of any row and its conditions.
-//! It stands on `tm_line`, `tm_file`, `tm_net` and `tm_cond`, whose grammars and texts it joins.
-//! It promises the grammar, one text that is read again, and that a quiet line executes nothing.
+//! Stands on `tm_line`, `tm_file`, `tm_net` and `tm_cond`, whose grammars and texts it joins.
+//! Of its own, so that tm_trace, tm_run and tm_index have entries without the other policy lines.
+//! Promises the grammar, one text that is read again, and that a quiet line executes nothing.
 #![tactic(auto)]
 
 ghost use Rattle.std.specs.Prelude.{◌≡◌, ◌++◌, true, false, List, Ok, IfOk, OnOk, OnErr};
-ghost use Rattle.tm_word.specs.Words.{Text, Word};
+ghost use Rattle.tm_word.specs.Prelude.{Gives, Text, Word, is_word, joined, words_of};
 ghost use Rattle.std.specs.List.{list_all};
-ghost use Rattle.tm_word.specs.Spelling.{words_of, joined};
-ghost use Rattle.tm_types.specs.declared.entry.Entry.{Entry};
-ghost use Rattle.tm_types.specs.declared.request.Request.{Request};
-ghost use Rattle.tm_rules.specs.Clean.{lets_execute, is_quiet_acl};
-ghost use Rattle.tm_rules.specs.Condition.{is_execute};
-ghost use Rattle.tm_rules.specs.Learned.{learned_line};
-ghost use Rattle.tm_rules.specs.Requests.{is_path_word, is_request};
+ghost use Rattle.tm_rules.specs.Types.{Entry, Request};
+ghost use Rattle.tm_rules.specs.Prelude.{is_execute, is_path_word, is_quiet_acl, is_request, learned_line, lets_execute};
 ghost use Rattle.tm_file.specs.Names.{is_path};
-ghost use Rattle.tm_word.specs.Gives.{Gives};
 ghost use Rattle.tm_file.specs.Lines.{line_cause};
-ghost use Rattle.tm_word.specs.Texts.{is_word};
 ghost use Rattle.tm_entry.specs.Entries.{acl_line, with_cond, entry_of, is_of_file, acl_words, entry_words, is_entry};
 
 mod written;

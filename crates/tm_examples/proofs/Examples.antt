@@ -2,55 +2,10 @@
 use Rattle.std.specs.Prelude.{ℕ, ◌^◌, Bool, true, false, List, [], ◌∷◌, ◌++◌, map, flat_map, Some, None, Ok, Err, Result, ◌==◌, codes, unwrap_or, option_map}
 use Rattle.std.specs.List.{find}
 use Rattle.std.specs.Fmt.{digits}
-use Rattle.tm_word.specs.Words.{Text, Pattern}
-use Rattle.tm_types.specs.Request.{no_attributes}
-use Rattle.tm_types.specs.declared.unions.NameUnion.{NameUnion}
-use Rattle.tm_types.specs.declared.entry.Args.{Args}
-use Rattle.tm_types.specs.declared.entry.Attr.{Attr}
-use Rattle.tm_types.specs.declared.entry.Right.{Right}
-use Rattle.tm_types.specs.declared.entry.Clause.{Clause}
-use Rattle.tm_types.specs.declared.entry.Cond.{Cond}
-use Rattle.tm_types.specs.declared.entry.Entry.{Entry}
-use Rattle.tm_types.specs.declared.policy.Mode.{Mode}
-use Rattle.tm_types.specs.declared.policy.Profile.{Profile}
-use Rattle.tm_types.specs.declared.unions.Groups.{Groups}
-use Rattle.tm_types.specs.declared.policy.Namespace.{Namespace}
-use Rattle.tm_types.specs.declared.policy.Domain.{Domain}
-use Rattle.tm_types.specs.declared.policy.Policy.{Policy}
-use Rattle.tm_types.specs.declared.step.FileKind.{FileKind}
-use Rattle.tm_types.specs.declared.entry.LineKind.{LineKind}
-use Rattle.tm_types.specs.declared.request.Ids.{Ids}
-use Rattle.tm_types.specs.declared.request.Proc.{Proc}
-use Rattle.tm_types.specs.declared.request.Request.{Request}
-use Rattle.tm_types.specs.declared.request.Item.{Item}
-use Rattle.tm_types.specs.declared.request.Tree.{Tree}
-use Rattle.tm_word.specs.Texts.{texts_equal}
-use Rattle.tm_word.specs.Spelling.{words_of}
-use Rattle.tm_word.specs.Matching.{left_by, part_matches, component_matches, components_match, matches}
-use Rattle.tm_word.specs.Printing.{literal, literal_word, spelled_pattern}
-use Rattle.tm_rules.specs.Group.{name_in, number_in, addr_in}
-use Rattle.tm_rules.specs.Condition.{number_of, word_of, clause_holds, holds}
-use Rattle.tm_types.specs.Functions.{function_of}
-use Rattle.tm_rules.specs.Mode.{config_of}
-use Rattle.tm_rules.specs.Policy.{namespace_named, live_domain, adding, deleting, has_line, has_part}
-use Rattle.tm_rules.specs.Search.{aggregated, args_grant, grants, entries_of, first, written_name}
-use Rattle.tm_rules.specs.Transition.{candidate, control_matches, control_kind, decision, target_name, is_domain_name, can_enter}
-use Rattle.tm_types.specs.declared.policy.PolicyLine.{PolicyLine}
-use Rattle.tm_types.specs.declared.policy.DomainRule.{DomainRule}
-use Rattle.tm_rules.specs.Grammar.{Grammar}
-use Rattle.tm_rules.specs.Learned.{learned_line}
-use Rattle.tm_legal.specs.Verdict.{by_mode, move_to, manual_verdict, execute_verdict, verdict}
-use Rattle.tm_rules.specs.Edit.{profile_line, except_added, except_removed, except_there, except_line, domain_line, manager_line, apply_read, apply_line}
-use Rattle.tm_rules.specs.Changes.{count, learn_reply, learn, make, fail, is_manager}
-use Rattle.tm_rules.specs.Queries.{first_query, answer_of, ask, answer, attach, detach}
-use Rattle.tm_legal.specs.Steps.{edit_step, apply, after}
-use Rattle.tm_rules.specs.Book.{book_answer}
-use Rattle.tm_rules.specs.Audit.{audit_text}
-use Rattle.tm_legal.specs.Run.{tree_cases, cases_from}
-use Rattle.tm_legal.specs.Legal.{steps_asked}
-use Rattle.tm_rules.specs.Clean.{is_plain, is_quiet, is_clean}
-use Rattle.tm_legal.specs.Clean.{switched}
-use Rattle.tm_legal.specs.Play.{settle, look_at, end_tree, first_look, stage_event, tree_event, line_event, desk_turn, supervisor_step, player_event, event, turn, turns, rounds}
+use Rattle.tm_word.specs.Prelude.{Pattern, Text, component_matches, components_match, left_by, literal, literal_word, matches, part_matches, spelled_pattern, texts_equal, words_of}
+use Rattle.tm_rules.specs.Types.{Args, Attr, Clause, Cond, Domain, DomainRule, Entry, FileKind, Groups, Ids, Item, LineKind, Mode, NameUnion, Namespace, Policy, PolicyLine, Proc, Profile, Request, Right, Tree, function_of, no_attributes}
+use Rattle.tm_rules.specs.Prelude.{Grammar, adding, addr_in, aggregated, answer, answer_of, apply_line, apply_read, args_grant, ask, attach, audit_text, book_answer, can_enter, candidate, clause_holds, config_of, control_kind, control_matches, count, decision, deleting, detach, domain_line, entries_of, except_added, except_line, except_removed, except_there, fail, first, first_query, grants, has_line, has_part, holds, is_clean, is_domain_name, is_manager, is_plain, is_quiet, learn, learn_reply, learned_line, live_domain, make, manager_line, name_in, namespace_named, number_in, number_of, profile_line, target_name, word_of, written_name}
+use Rattle.tm_legal.specs.Prelude.{after, apply, by_mode, cases_from, desk_turn, edit_step, end_tree, event, execute_verdict, first_look, line_event, look_at, manual_verdict, move_to, player_event, rounds, settle, stage_event, steps_asked, supervisor_step, switched, tree_cases, tree_event, turn, turns, verdict}
 
 -- all definitions that are shut elsewhere, opened by naming this one
 unfoldable pub computed : Unit {0}

@@ -2,14 +2,9 @@
 -- met.
 use Rattle.std.proofs.Common.{◌≡◌, ℕ, zero, suc, [], ◌∷◌, true, refl}
 use Rattle.std.specs.Prelude.{Some, None, IsSome}
-use Rattle.tm_types.specs.declared.policy.Domain.{Domain}
-use Rattle.tm_types.specs.declared.policy.Policy.{Policy}
-use Rattle.tm_types.specs.declared.step.Answer.{Answer}
-use Rattle.tm_types.specs.declared.step.ListWords.{ListWords}
-use Rattle.tm_rules.specs.Policy.{domain_at, profile_of}
-use Rattle.tm_rules.specs.Requests.{is_request}
-use Rattle.tm_legal.specs.Legal.{Scene}
-use Rattle.tm_legal.specs.Play.{IsOpened, CanPlay}
+use Rattle.tm_rules.specs.Types.{Answer, Domain, ListWords, Policy}
+use Rattle.tm_rules.specs.Prelude.{domain_at, is_request, profile_of}
+use Rattle.tm_legal.specs.Prelude.{CanPlay, IsOpened, Scene}
 use Rattle.tm_examples.proofs.Examples.{computed, «<kernel>», kernel_namespace, domain, policy_of, read, tree}
 use Rattle.tm_legal.proofs.BareGrammar.{bare, bare-is}
 

@@ -1,36 +1,10 @@
 -- A boot of three trees: learned, and replayed under enforcing.
 use Rattle.std.specs.Prelude.{◌≡◌, ℕ, Bool, true, false, ◌&&◌, List, [], ◌∷◌, ◌++◌, Option, Some, None, codes, refl}
-use Rattle.tm_word.specs.Words.{Text, Pattern}
-use Rattle.tm_rules.specs.Words.{Trace}
-use Rattle.tm_word.specs.declared.Repeat.{Repeat}
-use Rattle.tm_word.specs.declared.Element.{Element}
-use Rattle.tm_number.specs.declared.Base.{Base}
-use Rattle.tm_number.specs.declared.Addr.{Addr}
-use Rattle.tm_types.specs.Request.{no_attributes}
-use Rattle.tm_types.specs.declared.unions.NameUnion.{NameUnion}
-use Rattle.tm_types.specs.declared.unions.NumberUnion.{NumberUnion}
-use Rattle.tm_types.specs.declared.unions.AddrUnion.{AddrUnion}
-use Rattle.tm_types.specs.declared.entry.InetKind.{InetKind}
-use Rattle.tm_types.specs.declared.entry.Args.{Args}
-use Rattle.tm_types.specs.declared.policy.ControlKind.{ControlKind}
-use Rattle.tm_types.specs.declared.policy.Mode.{Mode}
-use Rattle.tm_types.specs.declared.policy.Profile.{Profile}
-use Rattle.tm_types.specs.declared.policy.Namespace.{Namespace}
-use Rattle.tm_types.specs.declared.policy.Policy.{Policy}
-use Rattle.tm_types.specs.declared.request.Request.{Request}
-use Rattle.tm_types.specs.declared.request.Item.{Item}
-use Rattle.tm_types.specs.declared.request.Tree.{Tree}
-use Rattle.tm_types.specs.declared.step.Take.{Take}
-use Rattle.tm_types.specs.declared.step.Run.{Run}
+use Rattle.tm_word.specs.Prelude.{Pattern, Text, lists_equal, literal, texts_equal}
+use Rattle.tm_rules.specs.Prelude.{Trace, is_request, item_is_request, options_equal}
+use Rattle.tm_rules.specs.Types.{Addr, AddrUnion, Args, Base, ControlKind, Element, InetKind, Item, Mode, NameUnion, Namespace, NumberUnion, Policy, Profile, Repeat, Request, Run, Take, Tree, no_attributes}
 use Rattle.std.specs.List.{list_all}
-use Rattle.tm_rules.specs.Equality.{options_equal}
-use Rattle.tm_word.specs.Texts.{lists_equal, texts_equal}
-use Rattle.tm_word.specs.Printing.{literal}
-use Rattle.tm_rules.specs.Requests.{is_request, item_is_request}
-use Rattle.tm_legal.specs.Legal.{Scene, final_policy}
-use Rattle.tm_legal.specs.Clean.{domain_names}
-use Rattle.tm_legal.specs.Replay.{rerun_scene}
-use Rattle.tm_legal.specs.Play.{rounds, start_of, run_of, NobodyCanMove}
+use Rattle.tm_legal.specs.Prelude.{NobodyCanMove, Scene, domain_names, final_policy, rerun_scene, rounds, run_of, start_of}
 use Rattle.tm_rerun.specs.Summary.{summary_text}
 use Rattle.tm_examples.proofs.Examples.{computed, «<kernel>», no_groups, domain, policy_of, file_line, read, file_request, execute, begins_with_slash, grammar}
 

@@ -1,6 +1,6 @@
 -- Policy lines that are right next to wrong ones, and lines with several wrong words.
 use Rattle.std.specs.Prelude.{◌≡◌, ℕ, false, List, [], ◌∷◌, map, Option, Some, None, Result, Ok, Err, codes, refl}
-use Rattle.tm_word.specs.Spelling.{words_of, spelled_word, word_of}
+use Rattle.tm_word.specs.Prelude.{Pattern, Text, literal, spelled_word, word_of, words_of}
 use Rattle.tm_word.specs.Spelling.{head_of as byte_head}
 use Rattle.tm_number.specs.Numbers.{number_of, value_of, range_of, plain_of}
 use Rattle.tm_addr.specs.Reading.{quad_of, v4_of, group_of, last_of, groups_after, side_of, v6_of, addr_of}
@@ -8,14 +8,8 @@ use Rattle.tm_addr.specs.Reading.{range_of as addr_range_of}
 use Rattle.tm_pattern.specs.Tokens.{token_at}
 use Rattle.tm_pattern.specs.Reading.{step, ended, parsed, pattern_of}
 use Rattle.tm_domain.specs.Names.{is_path, domain_of}
-use Rattle.tm_types.specs.declared.entry.Args.{Args}
-use Rattle.tm_types.specs.declared.entry.LineKind.{LineKind}
-use Rattle.tm_types.specs.declared.policy.DomainRule.{DomainRule}
-use Rattle.tm_types.specs.declared.policy.ExceptRule.{ExceptRule}
-use Rattle.tm_types.specs.declared.policy.PolicyLine.{PolicyLine}
-use Rattle.tm_types.specs.declared.policy.ProfileEffect.{ProfileEffect}
-use Rattle.tm_types.specs.declared.step.FileKind.{FileKind}
-use Rattle.tm_rules.specs.Policy.{kernel}
+use Rattle.tm_rules.specs.Types.{Args, Base, DomainRule, Element, ExceptRule, FileKind, LineKind, NameUnion, Number, PolicyLine, ProfileEffect, Repeat}
+use Rattle.tm_rules.specs.Prelude.{kernel}
 use Rattle.tm_line.specs.Permissions.{perms_of}
 use Rattle.tm_line.specs.Arguments.{group_word, pattern_word, path_word, range_word, addr_range_word, name_word, number_word, address_word, plain_word, name_at, number_at, address_at}
 use Rattle.tm_line.specs.Domains.{domain_words, domain_at, domain_to_end}
@@ -33,13 +27,6 @@ use Rattle.tm_profile.specs.Reading.{key_of, seen_after, closed, setting_after, 
 use Rattle.tm_profile.specs.Reading.{line as profile_line_of}
 use Rattle.tm_profile.specs.Reading.{line_of as profile_of}
 use Rattle.tm_policy_line.specs.Reading.{begins_setting, begins_domain, setting_rule, delete_domain, delete_rule, domain_rule, begins_manager, manager_rule, manager_of, read_words, read_line}
-use Rattle.tm_word.specs.Words.{Text, Pattern}
-use Rattle.tm_word.specs.Printing.{literal}
-use Rattle.tm_word.specs.declared.Element.{Element}
-use Rattle.tm_word.specs.declared.Repeat.{Repeat}
-use Rattle.tm_number.specs.declared.Base.{Base}
-use Rattle.tm_number.specs.declared.Number.{Number}
-use Rattle.tm_types.specs.declared.unions.NameUnion.{NameUnion}
 
 -- the definitions that a line's reading goes through
 unfoldable pub read : Unit {0}

@@ -1,20 +1,9 @@
 -- What lines do that are read: the order of their replies, what is deleted and shared, cursors,
 -- loads.
 use Rattle.std.specs.Prelude.{◌≡◌, ℕ, List, [], ◌∷◌, map, length, Option, Some, None, Result, Ok, Err, codes, refl}
-use Rattle.tm_word.specs.Words.{Text}
-use Rattle.tm_word.specs.Printing.{literal}
-use Rattle.tm_types.specs.declared.entry.Entry.{Entry}
-use Rattle.tm_types.specs.declared.entry.LineKind.{LineKind}
-use Rattle.tm_types.specs.declared.policy.Domain.{Domain}
-use Rattle.tm_types.specs.declared.policy.Namespace.{Namespace}
-use Rattle.tm_types.specs.declared.policy.Policy.{Policy}
-use Rattle.tm_types.specs.declared.step.EditReply.{EditReply}
-use Rattle.tm_types.specs.declared.step.FileKind.{FileKind}
-use Rattle.tm_types.specs.declared.step.LoadFault.{LoadFault}
-use Rattle.tm_rules.specs.Words.{Cursor}
-use Rattle.tm_rules.specs.Grammar.{Grammar}
-use Rattle.tm_rules.specs.Edit.{Edited, edited, apply_line}
-use Rattle.tm_rules.specs.Load.{load_lines, load}
+use Rattle.tm_word.specs.Prelude.{Text, literal}
+use Rattle.tm_rules.specs.Types.{Domain, EditReply, Entry, FileKind, LineKind, LoadFault, Namespace, Policy}
+use Rattle.tm_rules.specs.Prelude.{Cursor, Edited, Grammar, apply_line, edited, load, load_lines}
 use Rattle.tm_policy_line.specs.Reading.{read_line}
 use Rattle.tm_examples.proofs.Examples.{computed, «<kernel>», kernel_namespace, domain, policy_of, file_line, grammar}
 use Rattle.tm_examples.proofs.RowsOfLineFaults.{read}

@@ -2,14 +2,10 @@
 -- and policy lines.
 use Rattle.std.specs.Prelude.{◌≡◌, ℕ, ◌==◌, nat_le, Bool, true, false, cond, List, [], ◌∷◌, length, replicate, Option, Some, None, Result, Ok, Err, codes, refl}
 use Rattle.std.specs.List.{slice_split}
-use Rattle.tm_word.specs.Words.{Text}
-use Rattle.tm_word.specs.Spelling.{joined, spelled_word, word_of, head_of}
+use Rattle.tm_word.specs.Prelude.{Text, head_of, joined, spelled_word, word_of}
 use Rattle.tm_number.specs.Numbers.{number_of, value_of, plain_of}
-use Rattle.tm_types.specs.declared.entry.LineKind.{LineKind}
-use Rattle.tm_types.specs.declared.request.ScriptKind.{ScriptKind}
-use Rattle.tm_types.specs.declared.request.TraceKind.{TraceKind}
-use Rattle.tm_types.specs.declared.step.FileKind.{FileKind}
-use Rattle.tm_rules.specs.Transition.{is_namespace_word}
+use Rattle.tm_rules.specs.Types.{FileKind, LineKind, ScriptKind, TraceKind}
+use Rattle.tm_rules.specs.Prelude.{is_namespace_word}
 use Rattle.tm_domain.specs.declared.DomainFault.{DomainFault}
 use Rattle.tm_domain.specs.declared.DomainFault.TheVariants.{NoNamespace}
 use Rattle.tm_domain.specs.Names.{is_path, bad_path, paths_or_fault, domain_of, is_read}

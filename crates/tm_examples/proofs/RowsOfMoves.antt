@@ -1,34 +1,8 @@
 -- Preferences, resets, long names, and a run whose policy isn't plain.
 use Rattle.std.specs.Prelude.{◌≡◌, ℕ, true, false, [], ◌∷◌, replicate, Option, Some, None, codes, refl, option_map}
-use Rattle.tm_word.specs.Words.{Text}
-use Rattle.tm_word.specs.declared.Repeat.{Repeat}
-use Rattle.tm_word.specs.declared.Element.{Element}
-use Rattle.tm_types.specs.declared.unions.NameUnion.{NameUnion}
-use Rattle.tm_types.specs.declared.unions.NumberUnion.{NumberUnion}
-use Rattle.tm_number.specs.declared.Base.{Base}
-use Rattle.tm_types.specs.declared.entry.Attr.{Attr}
-use Rattle.tm_types.specs.declared.entry.Right.{Right}
-use Rattle.tm_types.specs.declared.entry.IdField.{IdField}
-use Rattle.tm_types.specs.declared.entry.Prefer.{Prefer}
-use Rattle.tm_types.specs.declared.entry.Args.{Args}
-use Rattle.tm_types.specs.declared.entry.Entry.{Entry}
-use Rattle.tm_types.specs.declared.request.Request.{Request}
-use Rattle.tm_types.specs.declared.policy.Control.{Control}
-use Rattle.tm_types.specs.declared.policy.ControlKind.{ControlKind}
-use Rattle.tm_types.specs.declared.policy.Namespace.{Namespace}
-use Rattle.tm_types.specs.declared.policy.Policy.{Policy}
-use Rattle.tm_types.specs.declared.verdict.Reason.{Reason}
-use Rattle.tm_types.specs.declared.verdict.Move.{Move}
-use Rattle.tm_types.specs.declared.verdict.Verdict.{Verdict}
-use Rattle.tm_types.specs.declared.verdict.EntryPlace.{EntryPlace}
-use Rattle.tm_types.specs.declared.request.Item.{Item}
-use Rattle.tm_types.specs.declared.step.Run.{Run}
-use Rattle.tm_word.specs.Printing.{literal}
-use Rattle.tm_legal.specs.Verdict.{verdict}
-use Rattle.tm_legal.specs.Legal.{Scene, final_policy}
-use Rattle.tm_legal.specs.Clean.{domain_names}
-use Rattle.tm_legal.specs.Replay.{rerun_scene}
-use Rattle.tm_legal.specs.Play.{rounds, start_of, run_of}
+use Rattle.tm_word.specs.Prelude.{Text, literal}
+use Rattle.tm_rules.specs.Types.{Args, Attr, Base, Control, ControlKind, Element, Entry, EntryPlace, IdField, Item, Move, NameUnion, Namespace, NumberUnion, Policy, Prefer, Reason, Repeat, Request, Right, Run, Verdict}
+use Rattle.tm_legal.specs.Prelude.{Scene, domain_names, final_policy, rerun_scene, rounds, run_of, start_of, verdict}
 use Rattle.tm_rerun.specs.Summary.{summary_text}
 use Rattle.tm_examples.proofs.Examples.{computed, «<kernel>», kernel_namespace, domain, policy_of, execute, process, begins_with_slash, grammar}
 

@@ -1,60 +1,9 @@
 -- Groups, numbers, conditions, profiles, managers, books and queries of small cases.
 use Rattle.std.specs.Prelude.{◌≡◌, ℕ, Bool, true, false, List, [], ◌∷◌, map, Option, Some, None, codes, refl, option_map}
-use Rattle.tm_word.specs.Words.{Text}
-use Rattle.tm_word.specs.declared.Repeat.{Repeat}
-use Rattle.tm_word.specs.declared.Element.{Element}
-use Rattle.tm_word.specs.declared.Component.{Component}
-use Rattle.tm_number.specs.declared.Base.{Base}
-use Rattle.tm_number.specs.declared.Number.{Number}
-use Rattle.tm_number.specs.declared.Addr.{Addr}
-use Rattle.tm_types.specs.Request.{no_attributes}
-use Rattle.tm_types.specs.declared.unions.NameUnion.{NameUnion}
-use Rattle.tm_types.specs.declared.unions.NumberUnion.{NumberUnion}
-use Rattle.tm_types.specs.declared.unions.AddrUnion.{AddrUnion}
-use Rattle.tm_types.specs.declared.unions.Groups.{Groups}
-use Rattle.tm_types.specs.declared.unions.NamePlace.{NamePlace}
-use Rattle.tm_types.specs.declared.entry.InetKind.{InetKind}
-use Rattle.tm_types.specs.declared.entry.Args.{Args}
-use Rattle.tm_types.specs.declared.entry.Attr.{Attr}
-use Rattle.tm_types.specs.declared.entry.IdField.{IdField}
-use Rattle.tm_types.specs.declared.entry.StatPlace.{StatPlace}
-use Rattle.tm_types.specs.declared.entry.StatField.{StatField}
-use Rattle.tm_types.specs.declared.entry.Right.{Right}
-use Rattle.tm_types.specs.declared.entry.Cond.{Cond}
-use Rattle.tm_types.specs.declared.entry.Entry.{Entry}
-use Rattle.tm_types.specs.declared.step.FileKind.{FileKind}
-use Rattle.tm_types.specs.declared.policy.Mode.{Mode}
-use Rattle.tm_types.specs.declared.policy.SlotName.{SlotName}
-use Rattle.tm_types.specs.declared.policy.Function.{Function}
-use Rattle.tm_types.specs.declared.policy.Profile.{Profile}
-use Rattle.tm_types.specs.declared.policy.Policy.{Policy}
-use Rattle.tm_types.specs.declared.request.Proc.{Proc}
-use Rattle.tm_types.specs.declared.request.Stat.{Stat}
-use Rattle.tm_types.specs.declared.request.Request.{Request}
-use Rattle.tm_types.specs.declared.verdict.EntryPlace.{EntryPlace}
-use Rattle.tm_types.specs.declared.verdict.Reason.{Reason}
-use Rattle.tm_types.specs.declared.verdict.Verdict.{Verdict}
-use Rattle.tm_types.specs.declared.step.Step.{Step}
-use Rattle.tm_types.specs.declared.step.Reply.{Reply}
-use Rattle.tm_types.specs.declared.step.Held.{Held}
-use Rattle.tm_types.specs.declared.step.AnswerFault.{AnswerFault}
-use Rattle.tm_types.specs.declared.step.Answered.{Answered}
-use Rattle.tm_types.specs.declared.step.Query.{Query}
-use Rattle.tm_types.specs.declared.step.Answer.{Answer}
-use Rattle.tm_types.specs.declared.step.ListWords.{ListWords}
-use Rattle.tm_types.specs.declared.step.Book.{Book}
-use Rattle.tm_types.specs.declared.step.Editor.{Editor}
-use Rattle.tm_word.specs.Matching.{matches}
-use Rattle.tm_word.specs.Printing.{literal}
-use Rattle.tm_rules.specs.Group.{name_in}
-use Rattle.tm_rules.specs.Condition.{holds}
-use Rattle.tm_rules.specs.Mode.{mode_of, logs_of}
-use Rattle.tm_rules.specs.Search.{grants}
-use Rattle.tm_legal.specs.Verdict.{verdict}
-use Rattle.tm_rules.specs.Changes.{is_manager}
-use Rattle.tm_rules.specs.Queries.{answer_of}
-use Rattle.tm_legal.specs.Steps.{State, opening, apply, after}
-use Rattle.tm_rules.specs.Book.{book_answer}
+use Rattle.tm_word.specs.Prelude.{Text, literal, matches}
+use Rattle.tm_rules.specs.Types.{Addr, AddrUnion, Answer, AnswerFault, Answered, Args, Attr, Base, Book, Component, Cond, Editor, Element, Entry, EntryPlace, FileKind, Function, Groups, Held, IdField, InetKind, ListWords, Mode, NamePlace, NameUnion, Number, NumberUnion, Policy, Proc, Profile, Query, Reason, Repeat, Reply, Request, Right, SlotName, Stat, StatField, StatPlace, Step, Verdict, no_attributes}
+use Rattle.tm_rules.specs.Prelude.{answer_of, book_answer, grants, holds, is_manager, logs_of, mode_of, name_in}
+use Rattle.tm_legal.specs.Prelude.{State, after, apply, opening, verdict}
 use Rattle.tm_examples.proofs.Examples.{computed, «<kernel>», no_groups, kernel_namespace, domain, policy_of, file_line, read, execute, process, no_ids, begins_with_slash, grammar}
 
 abbrev plain : List Element → Component

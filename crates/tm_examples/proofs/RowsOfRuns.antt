@@ -2,50 +2,11 @@
 use Rattle.std.specs.Prelude.{◌≡◌, ◌≤◌, ℕ, zero, suc, Bool, true, false, List, [], ◌∷◌, ◌++◌, Option, Some, None, option_map, codes, refl}
 use Rattle.std.proofs.Common.{lit≤, true≢false, sym, ap, ◌∙◌, arith}
 use Rattle.std.proofs.lemmas.Bool.{ne_eqb}
-use Rattle.tm_rules.specs.Queries.{numbered, first_query}
+use Rattle.tm_rules.specs.Prelude.{Trace, first_query, numbered}
 use mathlib.Core.Logic.{inr}
-use Rattle.tm_legal.specs.Run.{step_at}
-use Rattle.tm_word.specs.Words.{Text}
-use Rattle.tm_rules.specs.Words.{Trace}
-use Rattle.tm_word.specs.declared.Repeat.{Repeat}
-use Rattle.tm_word.specs.declared.Element.{Element}
-use Rattle.tm_types.specs.declared.unions.NameUnion.{NameUnion}
-use Rattle.tm_types.specs.declared.entry.Args.{Args}
-use Rattle.tm_types.specs.declared.entry.Attr.{Attr}
-use Rattle.tm_types.specs.declared.entry.Right.{Right}
-use Rattle.tm_types.specs.declared.entry.Clause.{Clause}
-use Rattle.tm_types.specs.declared.entry.Entry.{Entry}
-use Rattle.tm_types.specs.declared.policy.ControlKind.{ControlKind}
-use Rattle.tm_types.specs.declared.policy.Namespace.{Namespace}
-use Rattle.tm_types.specs.declared.policy.Policy.{Policy}
-use Rattle.tm_types.specs.declared.verdict.EntryPlace.{EntryPlace}
-use Rattle.tm_types.specs.declared.policy.Mode.{Mode}
-use Rattle.tm_types.specs.declared.verdict.Reason.{Reason}
-use Rattle.tm_types.specs.declared.verdict.Move.{Move}
-use Rattle.tm_types.specs.declared.verdict.Verdict.{Verdict}
-use Rattle.tm_types.specs.declared.step.FileKind.{FileKind}
-use Rattle.tm_types.specs.declared.step.Step.{Step}
-use Rattle.tm_types.specs.declared.step.Reply.{Reply}
-use Rattle.tm_types.specs.declared.step.LearnReply.{LearnReply}
-use Rattle.tm_types.specs.declared.step.MakeReply.{MakeReply}
-use Rattle.tm_types.specs.declared.step.Held.{Held}
-use Rattle.tm_types.specs.declared.step.EditReply.{EditReply}
-use Rattle.tm_types.specs.declared.step.Answered.{Answered}
-use Rattle.tm_types.specs.declared.step.Heard.{Heard}
-use Rattle.tm_types.specs.declared.step.Look.{Look}
-use Rattle.tm_types.specs.declared.step.Take.{Take}
-use Rattle.tm_types.specs.declared.step.Run.{Run}
-use Rattle.tm_types.specs.declared.request.Item.{Item}
-use Rattle.tm_types.specs.declared.step.Editor.{Editor}
-use Rattle.tm_types.specs.declared.step.Turn.{Turn}
-use Rattle.tm_types.specs.declared.step.Answer.{Answer}
-use Rattle.tm_types.specs.declared.step.ListWords.{ListWords}
-use Rattle.tm_types.specs.declared.step.BookRule.{BookRule}
-use Rattle.tm_types.specs.declared.step.Book.{Book}
-use Rattle.tm_types.specs.declared.request.Request.{Request}
-use Rattle.tm_word.specs.Printing.{literal}
-use Rattle.tm_legal.specs.Legal.{Scene, Legal, VersionsRise, OutcomesHold, VerdictsHold, Replies, own_numbers, times, times_owned, lines_of_editor, opening_of, AnswersByBook, TreesEnd, state_at}
-use Rattle.tm_legal.specs.Play.{Plays}
+use Rattle.tm_legal.specs.Prelude.{AnswersByBook, Legal, OutcomesHold, Plays, Replies, Scene, TreesEnd, VerdictsHold, VersionsRise, lines_of_editor, opening_of, own_numbers, state_at, step_at, times, times_owned}
+use Rattle.tm_word.specs.Prelude.{Text, literal}
+use Rattle.tm_rules.specs.Types.{Answer, Answered, Args, Attr, Book, BookRule, Clause, ControlKind, EditReply, Editor, Element, Entry, EntryPlace, FileKind, Heard, Held, Item, LearnReply, ListWords, Look, MakeReply, Mode, Move, NameUnion, Namespace, Policy, Reason, Repeat, Reply, Request, Right, Run, Step, Take, Turn, Verdict}
 use Rattle.tm_examples.proofs.Examples.{computed, «<kernel>», kernel_namespace, domain, policy_of, file_line, read, execute, tree, grammar}
 
 abbrev scene : Policy → Trace → List Editor → Option Book → Scene

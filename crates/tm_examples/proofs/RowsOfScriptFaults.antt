@@ -1,19 +1,13 @@
 -- Scripts whose first wrong word is not their only one, and forms that are right next to wrong
 -- ones.
 use Rattle.std.specs.Prelude.{◌≡◌, ℕ, List, [], ◌∷◌, map, Option, Some, None, Result, Ok, Err, codes, refl}
-use Rattle.tm_word.specs.Words.{Text}
-use Rattle.tm_word.specs.Spelling.{words_of, spelled_word, word_of, head_of}
-use Rattle.tm_word.specs.Matching.{left_by, part_matches, component_matches, components_match, matches}
+use Rattle.tm_word.specs.Prelude.{Text, component_matches, components_match, head_of, left_by, matches, part_matches, spelled_word, word_of, words_of}
 use Rattle.tm_number.specs.Numbers.{number_of, value_of, plain_of}
 use Rattle.tm_pattern.specs.Tokens.{token_at}
 use Rattle.tm_pattern.specs.Reading.{step, ended, parsed, pattern_of}
 use Rattle.tm_domain.specs.Names.{is_path, domain_of}
-use Rattle.tm_types.specs.declared.request.ScriptKind.{ScriptKind}
-use Rattle.tm_types.specs.declared.step.Answer.{Answer}
-use Rattle.tm_types.specs.declared.step.Book.{Book}
-use Rattle.tm_types.specs.declared.step.Query.{Query}
-use Rattle.tm_types.specs.declared.step.Turn.{Turn}
-use Rattle.tm_rules.specs.Book.{book_answer}
+use Rattle.tm_rules.specs.Types.{Answer, Book, Query, ScriptKind, Turn}
+use Rattle.tm_rules.specs.Prelude.{book_answer}
 use Rattle.tm_line.specs.Domains.{domain_words}
 use Rattle.tm_script.specs.Steps.{number_at}
 use Rattle.tm_script.specs.Lines.{script_lines}

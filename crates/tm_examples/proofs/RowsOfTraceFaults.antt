@@ -1,17 +1,14 @@
 -- Traces whose first wrong word is not their only one, and words that are right next to wrong ones.
 use Rattle.std.specs.Prelude.{◌≡◌, ℕ, Bool, true, false, List, [], ◌∷◌, ◌++◌, map, flat_map, Option, Some, None, Result, Ok, Err, codes, refl}
 use Rattle.std.specs.Fmt.{digits}
-use Rattle.tm_word.specs.Words.{Text}
-use Rattle.tm_word.specs.Texts.{texts_equal}
-use Rattle.tm_word.specs.Spelling.{words_of, spelled_word, word_of, head_of}
-use Rattle.tm_word.specs.Printing.{literal, spelled_pattern}
+use Rattle.tm_word.specs.Prelude.{Text, head_of, literal, spelled_pattern, spelled_word, texts_equal, word_of, words_of}
 use Rattle.tm_number.specs.Numbers.{number_of, value_of, plain_of}
 use Rattle.tm_addr.specs.Reading.{addr_of, v4_of, quad_of, v6_of, side_of, groups_after, last_of, group_of}
 use Rattle.tm_addr.specs.Printing.{v4_spelling, v6_spelling, groups_in, longest}
 use Rattle.tm_pattern.specs.Tokens.{token_at}
 use Rattle.tm_pattern.specs.Reading.{step, ended, parsed, pattern_of}
-use Rattle.tm_types.specs.declared.request.TraceKind.{TraceKind}
-use Rattle.tm_rules.specs.Words.{Trace}
+use Rattle.tm_rules.specs.Types.{TraceKind}
+use Rattle.tm_rules.specs.Prelude.{Trace}
 use Rattle.tm_domain.specs.Names.{is_path, domain_of}
 use Rattle.tm_line.specs.Permissions.{perm_on}
 use Rattle.tm_line.specs.Arguments.{group_word, plain_word}

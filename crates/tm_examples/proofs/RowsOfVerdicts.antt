@@ -1,17 +1,8 @@
 -- What the definitions say of small policies: patterns, verdicts and where an execute leads.
 use Rattle.std.specs.Prelude.{◌≡◌, ℕ, true, false, List, [], ◌∷◌, Option, Some, None, codes, refl, option_map}
-use Rattle.tm_word.specs.Words.{Text, Pattern}
-use Rattle.tm_word.specs.declared.Repeat.{Repeat}
-use Rattle.tm_word.specs.declared.Element.{Element}
-use Rattle.tm_word.specs.declared.Component.{Component}
-use Rattle.tm_types.specs.declared.policy.Control.{Control}
-use Rattle.tm_types.specs.declared.policy.ControlKind.{ControlKind}
-use Rattle.tm_types.specs.declared.policy.Policy.{Policy}
-use Rattle.tm_types.specs.declared.verdict.Move.{Move}
-use Rattle.tm_types.specs.declared.verdict.Verdict.{Verdict}
-use Rattle.tm_word.specs.Matching.{matches}
-use Rattle.tm_word.specs.Printing.{literal}
-use Rattle.tm_legal.specs.Verdict.{verdict}
+use Rattle.tm_word.specs.Prelude.{Pattern, Text, literal, matches}
+use Rattle.tm_rules.specs.Types.{Component, Control, ControlKind, Element, Move, Policy, Repeat, Verdict}
+use Rattle.tm_legal.specs.Prelude.{verdict}
 use Rattle.tm_examples.proofs.Examples.{computed, «<kernel>», kernel_namespace, domain, policy_of, file_line, execute, process, begins_with_slash}
 
 -- a component of literal bytes, and one of pattern elements

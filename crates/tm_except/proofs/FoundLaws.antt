@@ -4,24 +4,15 @@ use Rattle.std.specs.Prelude.{Option, codes, if◌then◌else◌}
 use Rattle.std.specs.Prelude.{map}
 use Rattle.std.specs.Option.{option_or}
 use Rattle.std.specs.List.{list_all}
-use Rattle.tm_word.specs.Closed.{row_of, named, or_else}
+use Rattle.tm_word.specs.Prelude.{Pattern, Text, Word, begins_with_byte, is_empty, named, or_else, row_of, spell, spelled_pattern, spelled_word, texts_equal}
 use Rattle.tm_word.proofs.Named.{named_or}
 use Rattle.tm_except.specs.Printing.{kind_text}
 use Rattle.tm_except.specs.Reading.{controls, lists}
 use Rattle.std.proofs.lemmas.Bool.{lt-ltb}
-use Rattle.tm_word.specs.Words.{Text, Word, Pattern}
-use Rattle.tm_word.specs.Spelling.{spell, spelled_word}
-use Rattle.tm_word.specs.Matching.{is_empty}
-use Rattle.tm_word.specs.Printing.{spelled_pattern}
 use Rattle.tm_pattern.specs.Grammar.{is_right}
 use Rattle.tm_word.proofs.Spelled.{word_found, word_small}
-use Rattle.tm_types.specs.declared.entry.LineKind.{LineKind}
-use Rattle.tm_types.specs.declared.policy.ControlKind.{ControlKind}
-use Rattle.tm_types.specs.declared.policy.Control.{Control}
-use Rattle.tm_types.specs.declared.policy.ExceptRule.{ExceptRule}
-use Rattle.tm_types.specs.declared.policy.ExceptLine.{ExceptLine}
-use Rattle.tm_word.specs.Texts.{texts_equal, begins_with_byte}
-use Rattle.tm_rules.specs.Transition.{is_domain_name}
+use Rattle.tm_rules.specs.Types.{Control, ControlKind, ExceptLine, ExceptRule, LineKind}
+use Rattle.tm_rules.specs.Prelude.{is_domain_name, is_path_word}
 use Rattle.tm_line.specs.Names.{is_path}
 use Rattle.tm_line.specs.Lines.{or_kind, is_last, ended, word_at}
 use Rattle.tm_line.specs.Arguments.{group_word, pattern_word, path_word, range_word, addr_range_word, plain_word}
@@ -38,7 +29,7 @@ use Rattle.tm_line.proofs.NamespaceLaws.{found_is}
 use Rattle.tm_line.proofs.OkSteps.{OkIs, then_ok, if_ok, each_ok, word_ok, ok_of}
 use Rattle.tm_except.specs.declared.reading.Head.{Head}
 use Rattle.tm_except.specs.Reading.{member_word, first_word, literal_word, path_group, number_group, address_group, aggregator, group_line, acl_group, program_by, program_word, any_domain, path_side, name_side, domain_side, control, from_side, program_line, alone, keep_side, keep_line, is_keep, control_sides, control_line, control_word, control_head, head_of, rule_by, rule_at, named_line, line_of}
-use Rattle.tm_except.specs.Written.{is_member, is_first, is_kind, is_program, is_side, is_control, is_literal_path, is_rule}
+use Rattle.tm_except.specs.Written.{is_member, is_first, is_kind, is_program, is_side, is_control, is_rule}
 
 end_ok : {A : Type 0} (P : A → Type 0) (x : A) (words : List Text) → P x → OkIs P (ended x words)
 end_ok P x [] h = h
@@ -97,12 +88,12 @@ front_47 (b ∷ word) h = by_byte (b == 92) refl (nat_lt 32 b && nat_lt b 127) r
     by_byte false e true f k = (let is : begins_with_byte 47 (spell (b ∷ word)) ≡ (b == 47) = rw (e, f) refl in sym is ∙ k)
     by_byte false e false f k = absurd (let no : begins_with_byte 47 (spell (b ∷ word)) ≡ false = rw (e, f) refl in cc)
 
-literal_found : (text : Text) (word : Word) → begins_with_byte 47 text ≡ true → spelled_word text ≡ Some word → is_literal_path word ≡ true
+literal_found : (text : Text) (word : Word) → begins_with_byte 47 text ≡ true → spelled_word text ≡ Some word → is_path_word word ≡ true
 literal_found text word h e =
     all (begins_with_byte 47 word) (list_all (λ b. nat_lt b 256) word) (front_47 word (subst (λ (t : Text). begins_with_byte 47 t ≡ true) (word_found text word e) h)) (word_small text word e)
 
 abbrev IsLiteral : Word → Type 0
-IsLiteral word = is_literal_path word ≡ true
+IsLiteral word = is_path_word word ≡ true
 
 literal_ok : (text : Text) → OkIs IsLiteral (literal_word text)
 unfolding literal_word
@@ -147,7 +138,7 @@ unfolding aggregator is_rule
 aggregator_ok words =
     then_ok _ IsRule (word_at first_word words) _ (word_ok IsFirst first_word words first_ok)
     (λ one h. then_ok _ IsRule (word_at literal_word one.1) _ (word_ok IsLiteral literal_word one.1 literal_ok)
-    (λ other k. end_ok IsRule (ExceptRule.Aggregator one.0 other.0) other.1 (all (is_first one.0) (is_literal_path other.0) h k)))
+    (λ other k. end_ok IsRule (ExceptRule.Aggregator one.0 other.0) other.1 (all (is_first one.0) (is_path_word other.0) h k)))
 
 group_line_ok : (n : ℕ) (words : List Text) → n < 256 → OkIs IsRule (group_line n words)
 unfolding is_rule

@@ -2,11 +2,8 @@
 use Rattle.std.proofs.Common.{◌≡◌, ℕ, Bool, true, false, ◌&&◌, not, List, [], ◌∷◌, Some, None, Result, Ok, refl}
 use Rattle.std.specs.Prelude.{Option, codes}
 use Rattle.std.specs.List.{list_all}
-use Rattle.tm_word.specs.Words.{Text}
-use Rattle.tm_word.specs.Texts.{texts_equal, is_word}
-use Rattle.tm_types.specs.declared.entry.LineKind.{LineKind}
-use Rattle.tm_types.specs.declared.policy.ExceptRule.{ExceptRule}
-use Rattle.tm_types.specs.declared.policy.ExceptLine.{ExceptLine}
+use Rattle.tm_word.specs.Prelude.{Text, is_word, texts_equal}
+use Rattle.tm_rules.specs.Types.{ExceptLine, ExceptRule, LineKind}
 use Rattle.tm_line.specs.Lines.{ended, word_at}
 use Rattle.tm_line.specs.Arguments.{group_word, range_word, addr_range_word, plain_word}
 use Rattle.tm_line.specs.Namespaces.{opens, namespace_of, namespace_at}

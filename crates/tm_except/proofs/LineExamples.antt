@@ -1,20 +1,16 @@
 -- Worked examples: what each form of an exception line gives, and the kind of each wrong one.
 use Rattle.std.proofs.Common.{◌≡◌, true, false, [], ◌∷◌, Some, None, Ok, Err, refl}
 use Rattle.std.specs.Prelude.{codes}
-use Rattle.tm_word.specs.Spelling.{words_of, spelled_word, word_of}
+use Rattle.tm_word.specs.Prelude.{spelled_word, word_of, words_of}
 use Rattle.tm_word.specs.Spelling.{head_of as byte_head}
-use Rattle.tm_number.specs.declared.Base.{Base}
-use Rattle.tm_number.specs.declared.Addr.{Addr}
+use Rattle.tm_rules.specs.Types.{Addr, Base, ControlKind, ExceptRule, LineKind}
 use Rattle.tm_number.specs.Numbers.{number_of, value_of, plain_of}
 use Rattle.tm_number.specs.Numbers.{range_of as number_range_of}
 use Rattle.tm_line.specs.AddrReading.{quad_of, v4_of, group_of, last_of, groups_after, side_of, v6_of, addr_of, range_of}
 use Rattle.tm_pattern.specs.Tokens.{token_at}
 use Rattle.tm_pattern.specs.Reading.{step, ended, parsed, pattern_of}
 use Rattle.tm_line.specs.Names.{is_path, domain_of}
-use Rattle.tm_types.specs.declared.entry.LineKind.{LineKind}
-use Rattle.tm_types.specs.declared.policy.ControlKind.{ControlKind}
-use Rattle.tm_types.specs.declared.policy.ExceptRule.{ExceptRule}
-use Rattle.tm_rules.specs.Policy.{kernel}
+use Rattle.tm_rules.specs.Prelude.{kernel}
 use Rattle.tm_line.specs.Arguments.{group_word, pattern_word, path_word, range_word, addr_range_word, plain_word}
 use Rattle.tm_line.specs.Domains.{domain_words, domain_to_end}
 use Rattle.tm_line.specs.Namespaces.{namespace_of, namespace_at}

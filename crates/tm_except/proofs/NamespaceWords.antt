@@ -3,12 +3,9 @@ use Rattle.std.proofs.Common.{◌≡◌, ℕ, ◌==◌, Bool, true, false, ◌||
 use Rattle.std.specs.Prelude.{if◌then◌else◌}
 use Rattle.std.specs.List.{list_all, list_any, onto_first}
 use Rattle.std.proofs.lemmas.List.Splits.{slice_split-cons_no}
-use Rattle.tm_word.specs.Words.{Text}
-use Rattle.tm_word.specs.Gives.{◌>>=◌}
-use Rattle.tm_word.specs.Texts.{is_word}
-use Rattle.tm_types.specs.declared.entry.LineKind.{LineKind}
-use Rattle.tm_rules.specs.Policy.{kernel}
-use Rattle.tm_rules.specs.Transition.{is_domain_name}
+use Rattle.tm_word.specs.Prelude.{Text, is_word, ◌>>=◌}
+use Rattle.tm_rules.specs.Types.{LineKind}
+use Rattle.tm_rules.specs.Prelude.{is_domain_name, kernel}
 use Rattle.tm_line.specs.Names.{is_path, is_read, domain_of}
 use Rattle.tm_line.proofs.NameLaws.{right_name}
 use Rattle.tm_line.specs.Arguments.{kinded}

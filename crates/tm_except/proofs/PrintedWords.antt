@@ -4,23 +4,12 @@ use Rattle.std.specs.Prelude.{codes}
 use Rattle.std.specs.Fmt.{digits, decimal}
 use Rattle.std.specs.List.{list_all}
 use Rattle.std.proofs.lemmas.Bool.{eqb-true, ltb-true}
-use Rattle.tm_word.specs.Words.{Text, Word, Pattern}
-use Rattle.tm_word.specs.Spelling.{are_bytes, spell, spelled_word, word_of, words_of, joined}
-use Rattle.tm_word.specs.Matching.{is_empty}
-use Rattle.tm_word.specs.Printing.{spelled_pattern}
-use Rattle.tm_word.specs.Texts.{lines_of, is_solid, is_word}
+use Rattle.tm_word.specs.Prelude.{Pattern, Text, Word, are_bytes, is_empty, is_solid, is_word, joined, lines_of, spell, spelled_pattern, spelled_word, word_of, words_of}
 use Rattle.tm_word.proofs.Spelled.{below, below-at}
-use Rattle.tm_number.specs.declared.Range.{Range}
-use Rattle.tm_number.specs.declared.AddrRange.{AddrRange}
+use Rattle.tm_rules.specs.Types.{AddrRange, AddrUnion, Control, ControlKind, ExceptRule, NameUnion, NumberUnion, Range}
 use Rattle.tm_number.specs.Numbers.{range_spelling}
 use Rattle.tm_line.specs.AddrPrinting.{addr_range_spelling}
 use Rattle.tm_pattern.specs.Grammar.{is_right}
-use Rattle.tm_types.specs.declared.unions.NameUnion.{NameUnion}
-use Rattle.tm_types.specs.declared.unions.NumberUnion.{NumberUnion}
-use Rattle.tm_types.specs.declared.unions.AddrUnion.{AddrUnion}
-use Rattle.tm_types.specs.declared.policy.Control.{Control}
-use Rattle.tm_types.specs.declared.policy.ControlKind.{ControlKind}
-use Rattle.tm_types.specs.declared.policy.ExceptRule.{ExceptRule}
 use Rattle.tm_line.specs.Namespaces.{line_text, IsNamespace}
 use Rattle.tm_line.specs.Arguments.{group_word}
 use Rattle.tm_line.specs.Printing.{name_spelling, number_spelling, address_spelling}
@@ -32,7 +21,8 @@ use Rattle.tm_line.proofs.LineLaws.{line_first}
 use Rattle.tm_line.proofs.WholeLaws.{words_again, word_from, spell_solid, spelled_solid, pattern_solid, name_is, number_is, address_is, path_is, parts_are}
 use Rattle.tm_except.specs.Reading.{line}
 use Rattle.tm_except.specs.Printing.{kind_text, program_text, domain_words, control_words, range_text, addr_range_text, path_group_words, number_group_words, address_group_words, aggregator_words, rule_words, line_words}
-use Rattle.tm_except.specs.Written.{is_member, is_first, is_kind, is_program, is_side, is_control, is_literal_path, is_line, is_rule, is_listed, keeps_words}
+use Rattle.tm_except.specs.Written.{is_member, is_first, is_kind, is_program, is_side, is_control, is_line, is_rule, is_listed, keeps_words}
+use Rattle.tm_rules.specs.Prelude.{is_path_word}
 use Rattle.tm_except.proofs.NamespaceWords.{namespace_word}
 
 abbrev pub AreWords : List Text → Type 0
@@ -83,7 +73,7 @@ addr_range_is r h = address_is (AddrUnion.One r) h
 path_front : (word : Word) → is_solid (spell (47 ∷ word)) ≡ true → is_word (spell (47 ∷ word)) ≡ true
 path_front word h = word_from 47 (spell word) h
 
-literal_word : (word : Word) → is_literal_path word ≡ true → is_word (spell word) ≡ true
+literal_word : (word : Word) → is_path_word word ≡ true → is_word (spell word) ≡ true
 literal_word [] h = absurd cc
 literal_word (b ∷ word) h =
     let t = both (b == 47) (are_bytes (b ∷ word)) h in
@@ -136,7 +126,7 @@ rule_are (ExceptRule.AddressGroup name member) h k =
     let t = both (is_group name) (is_addr_range member) h in
     two (spell name) (addr_range_spelling member) (name_word name t.0) (addr_range_is member t.1)
 rule_are (ExceptRule.Aggregator one other) h k =
-    let t = both (is_first one) (is_literal_path other) h in
+    let t = both (is_first one) (is_path_word other) h in
     two (spelled_pattern one) (spell other) (first_word one t.0) (literal_word other t.1)
 rule_are (ExceptRule.Control c) h k = control_are c h
 rule_are (ExceptRule.Acl n words) h k = let t = both (nat_lt n 256) (is_line words) h in more (decimal n) words (number_word n (ltb-true n 256 t.0)) k

@@ -4,20 +4,10 @@ use Rattle.std.specs.Prelude.{Option, codes, if◌then◌else◌}
 use Rattle.std.specs.List.{list_all}
 use Rattle.std.specs.Fmt.{decimal}
 use Rattle.std.proofs.lemmas.Bool.{eqb-true, ltb-true}
-use Rattle.tm_word.specs.Words.{Text, Word, Pattern}
-use Rattle.tm_word.specs.Spelling.{spell}
-use Rattle.tm_word.specs.Matching.{is_empty}
-use Rattle.tm_word.specs.Printing.{spelled_pattern}
-use Rattle.tm_number.specs.declared.Range.{Range}
-use Rattle.tm_number.specs.declared.AddrRange.{AddrRange}
+use Rattle.tm_word.specs.Prelude.{Pattern, Text, Word, begins_with_byte, is_empty, spell, spelled_pattern, texts_equal, ◌>>=◌}
+use Rattle.tm_rules.specs.Types.{AddrRange, Control, ControlKind, ExceptRule, LineKind, Range}
 use Rattle.tm_pattern.specs.Grammar.{is_right}
-use Rattle.tm_types.specs.declared.entry.LineKind.{LineKind}
-use Rattle.tm_types.specs.declared.policy.ControlKind.{ControlKind}
-use Rattle.tm_types.specs.declared.policy.Control.{Control}
-use Rattle.tm_types.specs.declared.policy.ExceptRule.{ExceptRule}
-use Rattle.tm_word.specs.Texts.{texts_equal, begins_with_byte}
 use Rattle.tm_line.specs.Names.{is_path}
-use Rattle.tm_word.specs.Gives.{◌>>=◌}
 use Rattle.tm_line.specs.Lines.{or_kind}
 use Rattle.tm_line.specs.Arguments.{pattern_word, path_word}
 use Rattle.tm_line.specs.DomainWords.{domain_parts}
@@ -34,7 +24,8 @@ use Rattle.tm_line.proofs.NamespaceLaws.{named, opens_is}
 use Rattle.tm_except.specs.declared.reading.Head.{Head}
 use Rattle.tm_except.specs.Reading.{member_word, first_word, literal_word, path_group, number_group, address_group, aggregator, acl_group, program_word, name_side, domain_side, control, from_side, program_line, keep_line, is_keep, control_word, head_of, rule_by, rule_at, line, named_line, line_of}
 use Rattle.tm_except.specs.Printing.{range_text, addr_range_text, path_group_words, number_group_words, address_group_words, aggregator_words, kind_text, program_text, domain_words, control_words, rule_words, line_words}
-use Rattle.tm_except.specs.Written.{is_member, is_first, is_kind, is_program, is_side, is_control, is_literal_path, is_line, is_rule}
+use Rattle.tm_except.specs.Written.{is_member, is_first, is_kind, is_program, is_side, is_control, is_line, is_rule}
+use Rattle.tm_rules.specs.Prelude.{is_path_word}
 
 -- Groups and aggregators
 
@@ -62,7 +53,7 @@ slash_front : (word : Word) → begins_with_byte 47 word ≡ true → begins_wit
 slash_front [] h = absurd cc
 slash_front (b ∷ word) h = subst (λ c. begins_with_byte 47 (spell (c ∷ word)) ≡ true) (sym (eqb-true b 47 h)) refl
 
-literal_again : (word : Word) → is_literal_path word ≡ true → literal_word (spell word) ≡ Ok word
+literal_again : (word : Word) → is_path_word word ≡ true → literal_word (spell word) ≡ Ok word
 unfolding literal_word
 literal_again word h =
     let t = both (begins_with_byte 47 word) (list_all (λ b. nat_lt b 256) word) h in
@@ -79,7 +70,7 @@ first_again one h =
     let t = both (is_right one) (not (is_empty (spelled_pattern one))) h in
     first_is (spelled_pattern one) t.1 ∙ pattern_again one t.0
 
-aggregator_again : (first : Bool) (one : Pattern) (other : Word) → is_first one ≡ true → is_literal_path other ≡ true
+aggregator_again : (first : Bool) (one : Pattern) (other : Word) → is_first one ≡ true → is_path_word other ≡ true
     → rule_at first (aggregator_words one other) ≡ Ok (ExceptRule.Aggregator one other)
 unfolding rule_at head_of aggregator aggregator_words
 aggregator_again first one other h k = rw (first_again one h, literal_again other k) refl
@@ -181,7 +172,7 @@ rule_again first (ExceptRule.PathGroup name member) h =
     path_group_again first name member t.0 t.1
 rule_again first (ExceptRule.NumberGroup name member) h = let t = both (is_group name) (is_range member) h in number_group_again first name member t.0 t.1
 rule_again first (ExceptRule.AddressGroup name member) h = let t = both (is_group name) (is_addr_range member) h in address_group_again first name member t.0 t.1
-rule_again first (ExceptRule.Aggregator one other) h = let t = both (is_first one) (is_literal_path other) h in aggregator_again first one other t.0 t.1
+rule_again first (ExceptRule.Aggregator one other) h = let t = both (is_first one) (is_path_word other) h in aggregator_again first one other t.0 t.1
 rule_again first (ExceptRule.Control c) h = control_again first c h
 rule_again first (ExceptRule.Acl n words) h = let t = both (nat_lt n 256) (is_line words) h in acl_again first n words (ltb-true n 256 t.0) t.1
 

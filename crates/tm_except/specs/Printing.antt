@@ -2,18 +2,10 @@
 use Rattle.std.specs.Prelude.{Bool, true, false, List, [], ◌∷◌, ◌++◌, Option, Some, None, codes, if◌then◌else◌}
 use Rattle.std.specs.List.{flat_map}
 use Rattle.std.specs.Fmt.{decimal}
-use Rattle.tm_word.specs.Words.{Text, Word, Pattern}
-use Rattle.tm_word.specs.Spelling.{spell}
-use Rattle.tm_word.specs.Printing.{spelled_pattern}
-use Rattle.tm_number.specs.declared.Range.{Range}
-use Rattle.tm_number.specs.declared.AddrRange.{AddrRange}
+use Rattle.tm_word.specs.Prelude.{Pattern, Text, Word, spell, spelled_pattern}
+use Rattle.tm_rules.specs.Types.{AddrRange, Control, ControlKind, ExceptLine, ExceptRule, Namespace, Range}
 use Rattle.tm_number.specs.Numbers.{range_spelling}
 use Rattle.tm_line.specs.AddrPrinting.{addr_range_spelling}
-use Rattle.tm_types.specs.declared.policy.ControlKind.{ControlKind}
-use Rattle.tm_types.specs.declared.policy.Control.{Control}
-use Rattle.tm_types.specs.declared.policy.ExceptRule.{ExceptRule}
-use Rattle.tm_types.specs.declared.policy.ExceptLine.{ExceptLine}
-use Rattle.tm_types.specs.declared.policy.Namespace.{Namespace}
 use Rattle.tm_line.specs.DomainWords.{domain_parts}
 use Rattle.tm_line.specs.Namespaces.{line_text}
 

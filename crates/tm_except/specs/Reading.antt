@@ -2,17 +2,9 @@
 -- on.
 use Rattle.std.specs.Prelude.{ℕ, ◌&&◌, ◌||◌, not, if◌then◌else◌, Bool, true, false, List, [], ◌∷◌, map, Option, Some, None, Result, Ok, Err, codes}
 use Rattle.std.specs.Option.{option_or}
-use Rattle.tm_word.specs.Words.{Text, Word, Pattern}
-use Rattle.tm_word.specs.Spelling.{spelled_word}
-use Rattle.tm_types.specs.declared.entry.LineKind.{LineKind}
-use Rattle.tm_types.specs.declared.policy.ControlKind.{ControlKind}
-use Rattle.tm_types.specs.declared.policy.Control.{Control}
-use Rattle.tm_types.specs.declared.policy.ExceptRule.{ExceptRule}
-use Rattle.tm_types.specs.declared.policy.ExceptLine.{ExceptLine}
-use Rattle.tm_word.specs.Closed.{row_of, named, begins_row, of_word}
-use Rattle.tm_word.specs.Texts.{texts_equal, begins, begins_with_byte}
+use Rattle.tm_word.specs.Prelude.{Pattern, Text, Word, begins, begins_row, begins_with_byte, named, of_word, row_of, spelled_word, texts_equal, ◌>>=◌}
+use Rattle.tm_rules.specs.Types.{Control, ControlKind, ExceptLine, ExceptRule, LineKind}
 use Rattle.tm_line.specs.Lines.{or_kind, is_last, ended, keyword_kind, word_at}
-use Rattle.tm_word.specs.Gives.{◌>>=◌}
 use Rattle.tm_line.specs.Arguments.{group_word, pattern_word, path_word, range_word, addr_range_word, plain_word}
 use Rattle.tm_line.specs.Written.{begins_name}
 use Rattle.tm_line.specs.Domains.{domain_to_end}

@@ -1,18 +1,12 @@
 -- The rules that a line can write.
 use Rattle.std.specs.Prelude.{nat_lt, Bool, true, false, ◌&&◌, not, List, [], ◌∷◌, Option, Some, None}
 use Rattle.std.specs.List.{list_all}
-use Rattle.tm_word.specs.Words.{Text, Word, Pattern}
-use Rattle.tm_word.specs.Spelling.{are_bytes}
-use Rattle.tm_word.specs.Matching.{is_empty}
-use Rattle.tm_word.specs.Printing.{spelled_pattern}
+use Rattle.tm_word.specs.Prelude.{Pattern, Text, Word, are_bytes, begins_with_byte, is_empty, is_word, spelled_pattern}
 use Rattle.tm_pattern.specs.Grammar.{is_right}
-use Rattle.tm_types.specs.declared.policy.ControlKind.{ControlKind}
-use Rattle.tm_types.specs.declared.policy.Control.{Control}
-use Rattle.tm_types.specs.declared.policy.ExceptRule.{ExceptRule}
-use Rattle.tm_rules.specs.Transition.{is_domain_name}
+use Rattle.tm_rules.specs.Types.{Control, ControlKind, ExceptRule}
+use Rattle.tm_rules.specs.Prelude.{is_domain_name, is_path_word}
 use Rattle.tm_line.specs.Names.{is_path}
 use Rattle.tm_line.specs.Written.{is_group, begins_name, is_range, is_addr_range}
-use Rattle.tm_word.specs.Texts.{begins_with_byte, is_word}
 
 -- a pattern in the grammar whose text isn't empty and doesn't begin with `@`
 abbrev pub is_member : Pattern → Bool
@@ -47,10 +41,6 @@ abbrev pub is_control : Control → Bool
 is_control control =
     is_kind control.kind && (is_program control.program && is_side control.domain control.last)
 
--- the bytes of a name that begins with `/`
-abbrev pub is_literal_path : Word → Bool
-is_literal_path word = begins_with_byte 47 word && are_bytes word
-
 -- one word or more
 abbrev pub is_line : List Text → Bool
 is_line [] = false
@@ -60,7 +50,7 @@ unfoldable pub is_rule : ExceptRule → Bool
 is_rule (ExceptRule.PathGroup name member) = is_group name && is_member member
 is_rule (ExceptRule.NumberGroup name member) = is_group name && is_range member
 is_rule (ExceptRule.AddressGroup name member) = is_group name && is_addr_range member
-is_rule (ExceptRule.Aggregator one other) = is_first one && is_literal_path other
+is_rule (ExceptRule.Aggregator one other) = is_first one && is_path_word other
 is_rule (ExceptRule.Control control) = is_control control
 is_rule (ExceptRule.Acl n words) = nat_lt n 256 && is_line words
 

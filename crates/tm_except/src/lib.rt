@@ -1,15 +1,15 @@
 //! The rules of the exception policy: its lines, aggregators, and the domain transition controls.
-//! It stands on the steps of `tm_line`, on `tm_pattern`, `tm_domain` and the rules of `tm_rules`.
-//! It promises the grammar, the first aggregator that matches, and controls tried in their order.
+//! Stands on the steps of `tm_line`, on `tm_pattern`, `tm_domain` and the rules of `tm_rules`.
+//! Of its own, on neither tm_profile nor tm_entry: tm_policy_line joins the three.
+//! Promises the grammar, the first aggregator that matches, and controls tried in their order.
 #![tactic(auto)]
 
 ghost use Rattle.std.specs.Prelude.{◌≡◌, ◌==◌, ◌&&◌, not, ℕ, List, option_map};
 ghost use Rattle.std.specs.List.{find, list_any};
 ghost use Rattle.std.specs.Option.{option_copied};
-ghost use Rattle.tm_word.specs.declared.Component.{Component};
-ghost use Rattle.tm_word.specs.Matching.{matches};
-ghost use Rattle.tm_rules.specs.Search.{aggregated};
-ghost use Rattle.tm_rules.specs.Transition.{kind_number, control_matches, some_control, control_kind};
+ghost use Rattle.tm_rules.specs.Types.{Component};
+ghost use Rattle.tm_word.specs.Prelude.{matches};
+ghost use Rattle.tm_rules.specs.Prelude.{aggregated, control_kind, control_matches, kind_number, some_control};
 
 mod printing;
 mod reading;

@@ -2,13 +2,9 @@
 ghost use Rattle.std.specs.Prelude.{◌≡◌, ◌∷◌, [], ◌++◌, List, Bool, true, false, Ok, codes, IfOk, OnOk, OnErr};
 ghost use Rattle.std.specs.Fmt.{decimal};
 ghost use Rattle.std.specs.List.{list_all};
-ghost use Rattle.tm_word.specs.Spelling.{spell, words_of, joined};
-ghost use Rattle.tm_word.specs.Texts.{lines_of, is_word};
-ghost use Rattle.tm_word.specs.Printing.{spelled_pattern};
+ghost use Rattle.tm_word.specs.Prelude.{Text, is_word, joined, lines_of, spell, spelled_pattern, words_of};
 ghost use Rattle.tm_line.specs.Lines.{spaced};
-ghost use Rattle.tm_word.specs.Words.{Text};
-ghost use Rattle.tm_types.specs.declared.policy.ExceptRule.{ExceptRule};
-ghost use Rattle.tm_types.specs.declared.policy.ExceptLine.{ExceptLine};
+ghost use Rattle.tm_rules.specs.Types.{ExceptLine, ExceptRule};
 ghost use Rattle.tm_line.specs.Namespaces.{line_text, IsNamespace};
 ghost use Rattle.tm_except.specs.Reading.{line, line_of};
 ghost use Rattle.tm_except.specs.Written.{is_rule, is_listed, keeps_words};

@@ -1,15 +1,15 @@
 //! Reading exception lines.
 ghost use Rattle.std.specs.Prelude.{◌≡◌, ℕ, IfOk, Some};
-ghost use Rattle.tm_word.specs.Gives.{Gives, GivesNow};
+ghost use Rattle.tm_word.specs.Prelude.{Gives, GivesNow};
 ghost use Rattle.tm_line.specs.Lines.{line_cause, word_at};
-ghost use Rattle.tm_line.specs.Arguments.{group_word, range_word, addr_range_word, plain_word};
+ghost use Rattle.tm_line.specs.Arguments.{group_word, range_word, addr_range_word};
 ghost use Rattle.tm_except.specs.Reading.{member_word, first_word, literal_word, path_group, number_group, address_group, aggregator, group_line, acl_group, begins_list, begins_control, begins_rule, control_word, head_of, rule_by, rule_at, named_line, line_of};
 
 use crate::sides::control_line;
 use std::alloc::Global;
 use tm_line::{
     addr_range_word, ended, group_word, keyword_kind, namespace_at, opens, pattern_word,
-    range_word, small_number,
+    range_word, small_number_at,
 };
 use tm_list::{Copied, NoMemory, Seq};
 use tm_number::{AddrRange, Range};
@@ -154,17 +154,6 @@ fn literal_at(alloc: Global, words: &[Text]) -> Result<(Word, &[Text]), LineFaul
     }
 }
 
-/// The number of an ACL group as the first word, and the words after it.
-fn number_at(words: &[Text]) -> Result<(u8, &[Text]), LineFault>
-    ensures { GivesNow line_cause (λ x. (x.0, x.1.now)) result
-        (word_at (plain_word 256) words.now) }
-{
-    match words {
-        [] => Err(LineFault::Kind(LineKind::Arity)),
-        [word, rest @ ..] => Ok((small_number(word.bytes())?, rest)),
-    }
-}
-
 #[tactic(auto, unfolding(crate::specs::Reading::path_group))]
 fn path_group(alloc: Global, words: &[Text]) -> Result<ExceptRule, LineFault>
     ensures { Gives line_cause (λ x. x) result (path_group words.now) }
@@ -226,7 +215,7 @@ fn group_line(alloc: Global, number: u8, words: &[Text]) -> Result<ExceptRule, L
 fn acl_group(alloc: Global, words: &[Text]) -> Result<ExceptRule, LineFault>
     ensures { Gives line_cause (λ x. x) result (acl_group words.now) }
 {
-    let (number, rest) = number_at(words)?;
+    let (number, rest) = small_number_at(words)?;
     group_line(alloc, number, rest)
 }
 

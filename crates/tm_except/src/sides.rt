@@ -1,6 +1,6 @@
 //! Reading the two sides of a domain transition control.
 ghost use Rattle.std.specs.Prelude.{◌≡◌};
-ghost use Rattle.tm_word.specs.Gives.{Gives};
+ghost use Rattle.tm_word.specs.Prelude.{Gives};
 ghost use Rattle.tm_line.specs.Lines.{line_cause};
 ghost use Rattle.tm_line.specs.Arguments.{path_word};
 ghost use Rattle.tm_except.specs.Reading.{side_kind, program_by, program_word, path_side, name_side, domain_side, control, from_side, program_line, alone, keep_side, keep_line, is_keep, control_sides};

@@ -4,15 +4,12 @@ use Rattle.std.specs.Prelude.{codes}
 use Rattle.tm_types.specs.Numbers.{range_of, value_of, number_of}
 use Rattle.tm_union.specs.Tokens.{token_at}
 use Rattle.tm_union.specs.Reading.{step, ended, parsed, pattern_of}
-use Rattle.tm_word.specs.Spelling.{spelled_word, word_of, head_of}
-use Rattle.tm_types.specs.declared.entry.LineKind.{LineKind}
+use Rattle.tm_word.specs.Prelude.{head_of, spelled_word, word_of}
+use Rattle.tm_rules.specs.Types.{Args, LineKind, NameUnion, Prefer}
 use Rattle.tm_line.specs.Names.{domain_of, is_path}
 use Rattle.tm_line.specs.Permissions.{perms_of}
 use Rattle.tm_line.specs.Arguments.{group_word, pattern_word, path_word, range_word, name_word, number_word, name_at, number_at}
 use Rattle.tm_line.specs.Domains.{domain_words, domain_at}
-use Rattle.tm_types.specs.declared.entry.Args.{Args}
-use Rattle.tm_types.specs.declared.entry.Prefer.{Prefer}
-use Rattle.tm_types.specs.declared.unions.NameUnion.{NameUnion}
 use Rattle.tm_file.specs.Preferences.{prefer_at, path_at}
 use Rattle.tm_file.specs.FileLines.{row_of, starts_any, args_at, mount_at, row_line, perms_line, file_line, perms}
 

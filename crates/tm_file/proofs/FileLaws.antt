@@ -2,17 +2,11 @@
 use Rattle.std.proofs.Common.{◌≡◌, ℕ, ◌<◌, ◌^◌, ◌==◌, nat_lt, Bool, true, false, cond, ◌&&◌, not, List, [], ◌∷◌, ◌++◌, length, Option, Some, None, Result, Ok, inl, inr, refl, sym, ap, subst, ◌∙◌, arith}
 use Rattle.std.specs.Prelude.{codes}
 use Rattle.std.proofs.lemmas.Bool.{eqb-true, eq-eqb, ltb-true}
-use Rattle.tm_word.specs.Words.{Text}
-use Rattle.tm_types.specs.declared.entry.Args.{Args}
-use Rattle.tm_types.specs.declared.entry.LineKind.{LineKind}
-use Rattle.tm_types.specs.declared.entry.Perms.{Perms}
-use Rattle.tm_types.specs.declared.entry.Prefer.{Prefer}
-use Rattle.tm_types.specs.declared.unions.NameUnion.{NameUnion}
-use Rattle.tm_word.specs.Texts.{texts_equal}
+use Rattle.tm_word.specs.Prelude.{Text, texts_equal, ◌>>=◌}
+use Rattle.tm_rules.specs.Types.{Args, LineKind, NameUnion, Perms, Prefer}
 use Rattle.tm_line.proofs.NameLaws.{same_texts}
 use Rattle.tm_line.specs.declared.permissions.Row.{Row}
 use Rattle.tm_line.specs.Lines.{is_last, keyword_at}
-use Rattle.tm_word.specs.Gives.{◌>>=◌}
 use Rattle.tm_line.specs.Permissions.{names, pieces_of, perm_on, perms_of, perms_spelling}
 use Rattle.tm_line.specs.Arguments.{name_at, number_at}
 use Rattle.tm_line.specs.Printing.{name_spelling, number_spelling}

@@ -1,15 +1,10 @@
 -- What a file line leaves is the end of the words.
 use Rattle.std.proofs.Common.{◌≡◌, ℕ, ◌-◌, Bool, true, false, cond, List, [], ◌∷◌, length, drop, Option, Some, None, Result, Ok, refl, subst}
 use Rattle.std.specs.Prelude.{codes}
-use Rattle.tm_word.specs.Words.{Text}
-use Rattle.tm_types.specs.declared.entry.Args.{Args}
-use Rattle.tm_types.specs.declared.entry.LineKind.{LineKind}
-use Rattle.tm_types.specs.declared.entry.Perms.{Perms}
-use Rattle.tm_types.specs.declared.entry.Prefer.{Prefer}
-use Rattle.tm_word.specs.Texts.{texts_equal, begins_with_byte}
+use Rattle.tm_word.specs.Prelude.{Text, begins_with_byte, texts_equal, ◌>>=◌}
+use Rattle.tm_rules.specs.Types.{Args, LineKind, Perms, Prefer}
 use Rattle.tm_line.specs.declared.permissions.Row.{Row}
 use Rattle.tm_line.specs.Lines.{is_last, keyword_at}
-use Rattle.tm_word.specs.Gives.{◌>>=◌}
 use Rattle.tm_line.specs.Permissions.{pieces_of, perms_of}
 use Rattle.tm_line.specs.Arguments.{path_word, name_at, number_at}
 use Rattle.tm_line.specs.Domains.{domain_at}

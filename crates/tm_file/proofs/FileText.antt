@@ -3,15 +3,12 @@ use Rattle.std.proofs.Common.{◌≡◌, ℕ, ◌==◌, true, ◌&&◌, List, []
 use Rattle.std.specs.Prelude.{codes}
 use Rattle.std.proofs.lemmas.Bool.{eqb-true}
 use Rattle.std.specs.List.{list_all}
-use Rattle.tm_word.specs.Words.{Text}
-use Rattle.tm_word.specs.Spelling.{words_of, joined}
-use Rattle.tm_types.specs.declared.entry.Args.{Args}
-use Rattle.tm_types.specs.declared.entry.Prefer.{Prefer}
+use Rattle.tm_word.specs.Prelude.{Text, is_word, joined, words_of}
+use Rattle.tm_rules.specs.Types.{Args, Prefer}
 use Rattle.tm_line.specs.declared.permissions.Row.{Row}
 use Rattle.tm_line.specs.Permissions.{perms_spelling}
 use Rattle.tm_line.specs.Printing.{name_spelling, number_spelling}
 use Rattle.tm_line.specs.Written.{is_name, is_number, is_set}
-use Rattle.tm_word.specs.Texts.{is_word}
 use Rattle.tm_line.proofs.Steps.{both, all}
 use Rattle.tm_line.proofs.WholeLaws.{words_again, name_is, number_is, perms_is, path_is, parts_are}
 use Rattle.tm_file.specs.Preferences.{prefer_words, is_prefer}

@@ -1,12 +1,9 @@
 -- A literal's word, and that a transition preference is no argument.
 use Rattle.std.proofs.Common.{◌≡◌, refl, List, ℕ}
-use Rattle.tm_word.specs.Printing.{literal, literal_word}
+use Rattle.tm_word.specs.Prelude.{literal, literal_word}
 use Rattle.tm_word.proofs.Literals.{literal-name}
-use Rattle.tm_types.specs.declared.unions.Groups.{Groups}
-use Rattle.tm_types.specs.declared.unions.NameUnion.{NameUnion}
-use Rattle.tm_types.specs.declared.entry.Args.{Args}
-use Rattle.tm_types.specs.declared.entry.Prefer.{Prefer}
-use Rattle.tm_rules.specs.Search.{args_grant}
+use Rattle.tm_rules.specs.Types.{Args, Groups, NameUnion, Prefer}
+use Rattle.tm_rules.specs.Prelude.{args_grant}
 
 -- the word of a name's literal is the name
 pub word_of_literal : (name : List ℕ) → literal_word (literal name) ≡ name

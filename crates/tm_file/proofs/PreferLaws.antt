@@ -1,15 +1,10 @@
 -- Preferences: what is written is read again, and what is read can be written.
 use Rattle.std.proofs.Common.{◌≡◌, Bool, true, false, cond, ◌&&◌, not, List, [], ◌∷◌, ◌++◌, Option, Some, None, Ok, ◌⊎◌, inl, inr, refl, sym, subst}
 use Rattle.std.specs.Prelude.{codes, is_some}
-use Rattle.tm_word.specs.Words.{Text}
-use Rattle.tm_types.specs.declared.entry.Args.{Args}
-use Rattle.tm_types.specs.declared.entry.LineKind.{LineKind}
-use Rattle.tm_types.specs.declared.entry.Prefer.{Prefer}
-use Rattle.tm_types.specs.declared.unions.NameUnion.{NameUnion}
-use Rattle.tm_word.specs.Texts.{texts_equal, begins_with_byte}
-use Rattle.tm_rules.specs.Transition.{is_domain_name}
+use Rattle.tm_word.specs.Prelude.{Text, begins_with_byte, texts_equal, ◌>>=◌}
+use Rattle.tm_rules.specs.Types.{Args, LineKind, NameUnion, Prefer}
+use Rattle.tm_rules.specs.Prelude.{is_domain_name}
 use Rattle.tm_line.specs.Names.{is_path}
-use Rattle.tm_word.specs.Gives.{◌>>=◌}
 use Rattle.tm_line.specs.Arguments.{path_word, name_at}
 use Rattle.tm_line.specs.Domains.{domain_at}
 use Rattle.tm_line.specs.DomainWords.{domain_parts, ends_domain}

@@ -1,9 +1,7 @@
 -- Which requests the arguments of a file line are for.
 use Rattle.std.specs.Prelude.{Option, None}
-use Rattle.tm_types.specs.declared.unions.Groups.{Groups}
-use Rattle.tm_types.specs.declared.unions.NamePlace.{NamePlace}
-use Rattle.tm_types.specs.declared.entry.Args.{Args}
-use Rattle.tm_rules.specs.Search.{args_grant}
+use Rattle.tm_rules.specs.Types.{Args, Groups, NamePlace}
+use Rattle.tm_rules.specs.Prelude.{args_grant}
 
 -- the arguments of a `file` line by the rule of all lines; every other line is for no file request
 abbrev pub file_args_grant : Groups → Args → Args → Option NamePlace

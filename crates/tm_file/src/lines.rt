@@ -1,12 +1,8 @@
 //! Reading the lines of files.
 ghost use Rattle.std.specs.Prelude.{◌≡◌, ◌≤◌, ◌-◌, ℕ, true, false, List, Ok, length, drop, IfOk};
 ghost use Rattle.std.specs.List.{list_all};
-ghost use Rattle.tm_word.specs.Spelling.{words_of, joined};
-ghost use Rattle.tm_word.specs.Texts.{is_word};
-ghost use Rattle.tm_types.specs.declared.entry.Args.{Args};
-ghost use Rattle.tm_types.specs.declared.entry.Perms.{Perms};
-ghost use Rattle.tm_word.specs.Words.{Text};
-ghost use Rattle.tm_word.specs.Gives.{Gives};
+ghost use Rattle.tm_word.specs.Prelude.{Gives, Text, is_word, joined, words_of};
+ghost use Rattle.tm_rules.specs.Types.{Args, Perms};
 ghost use Rattle.tm_line.specs.Lines.{line_cause};
 ghost use Rattle.tm_line.specs.Permissions.{pieces_of};
 ghost use Rattle.tm_file.specs.FileLines.{row_of, row_in, starts_any, is_unfinished, args_at, mount_at, row_line, perms_line, file_line, counted, file_words, is_file, perms, IsReadAgain};

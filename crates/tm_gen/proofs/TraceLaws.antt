@@ -1,7 +1,7 @@
 -- What has been appended: no record and one more, no tree and one more.
 use Rattle.std.proofs.Common.{◌≡◌, ℕ, ◌+◌, ◌++◌, [], refl, sym, ap, subst, ◌∙◌, add-one, append-nil}
 use Rattle.std.proofs.lemmas.List.{append_assoc}
-use Rattle.tm_word.specs.Words.{Text}
+use Rattle.tm_word.specs.Prelude.{Text}
 use Rattle.tm_gen.specs.Trace.{record_line, state_after, records, state_before, tree_text, state_of, trace_text}
 
 -- Three texts, one after the other

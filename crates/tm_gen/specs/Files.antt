@@ -1,6 +1,6 @@
 -- The generated files.
 use Rattle.std.specs.Prelude.{ℕ, codes}
-use Rattle.tm_word.specs.Words.{Text}
+use Rattle.tm_word.specs.Prelude.{Text}
 use Rattle.tm_gen.specs.declared.files.Generated.{Generated}
 use Rattle.tm_gen.specs.Trace.{trace_text}
 

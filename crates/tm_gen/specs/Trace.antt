@@ -1,7 +1,7 @@
 -- The generated trace: trees of 40 records, of which each tenth executes a program and the others
 -- read, write or look at a file.
 use Rattle.std.specs.Prelude.{ℕ, zero, suc, ◌%◌, ◌==◌, if◌then◌else◌, [], ◌++◌, codes, decimal}
-use Rattle.tm_word.specs.Words.{Text}
+use Rattle.tm_word.specs.Prelude.{Text}
 use Rattle.tm_gen.specs.Draws.{next_state, drawn}
 
 -- a text and a number behind it

@@ -4,14 +4,9 @@ use Rattle.std.specs.Prelude.{None, Result, Ok, Err, is_some}
 use Rattle.std.specs.List.{position_from}
 use Rattle.std.proofs.lemmas.Bool.{le-ltb}
 use Rattle.std.proofs.lemmas.List.{length-append}
-use Rattle.tm_word.specs.Words.{Text}
-use Rattle.tm_word.specs.Spelling.{words_of}
-use Rattle.tm_types.specs.declared.policy.Policy.{Policy}
-use Rattle.tm_types.specs.declared.request.Tree.{Tree}
-use Rattle.tm_types.specs.declared.step.LoadFault.{LoadFault}
-use Rattle.tm_rules.specs.Words.{Trace}
-use Rattle.tm_rules.specs.Policy.{kernel, live_domain}
-use Rattle.tm_rules.specs.Load.{load}
+use Rattle.tm_word.specs.Prelude.{Text, words_of}
+use Rattle.tm_rules.specs.Types.{LoadFault, Policy, Tree}
+use Rattle.tm_rules.specs.Prelude.{Trace, kernel, live_domain, load}
 use Rattle.tm_script.specs.Lines.{script_lines}
 use Rattle.tm_script.specs.Edits.{edits_of}
 use Rattle.tm_script.specs.Answers.{no_rules, answers_of}

@@ -1,6 +1,7 @@
 //! Laws of generated files: the policy files load, the trace is read, and nothing of them is
 //! refused.
 //! Stands on tm_gen and on tm_call_input, which reads them; it has no code to run.
+//! Of its own, so that tm_gen stands on no reader; the top call cites its law of what is read.
 //! Promises that what `gen` generates is never refused, for every seed and up to 4,096 trees.
 #![tactic(auto)]
 

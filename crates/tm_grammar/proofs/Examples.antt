@@ -2,25 +2,13 @@
 use Rattle.std.proofs.Common.{◌≡◌, ℕ, true, false, [], ◌∷◌, None, Some, Ok, refl}
 use Rattle.std.specs.Prelude.{codes}
 use Rattle.std.specs.Fmt.{digits}
-use Rattle.tm_word.specs.Words.{Word}
-use Rattle.tm_word.specs.Spelling.{words_of}
-use Rattle.tm_word.specs.Printing.{literal, literal_word, spelled_pattern}
-use Rattle.tm_types.specs.declared.entry.Args.{Args}
-use Rattle.tm_types.specs.declared.entry.Entry.{Entry}
-use Rattle.tm_types.specs.declared.policy.DomainRule.{DomainRule}
-use Rattle.tm_types.specs.declared.policy.PolicyLine.{PolicyLine}
-use Rattle.tm_types.specs.declared.request.Attributes.{Attributes}
-use Rattle.tm_types.specs.declared.request.Request.{Request}
-use Rattle.tm_types.specs.declared.step.FileKind.{FileKind}
-use Rattle.tm_types.specs.declared.unions.NameUnion.{NameUnion}
-use Rattle.tm_types.specs.Functions.{function_of}
+use Rattle.tm_word.specs.Prelude.{Word, literal, literal_word, spelled_pattern, words_of}
+use Rattle.tm_rules.specs.Types.{Args, Attributes, DomainRule, Entry, FileKind, NameUnion, PolicyLine, Request, function_of}
 use Rattle.tm_types.specs.Numbers.{value_of, number_of, plain_of}
 use Rattle.tm_policy_line.specs.Grammar.{is_right}
 use Rattle.tm_policy_line.specs.Tokens.{token_at}
 use Rattle.tm_policy_line.specs.PatternReading.{step, ended, parsed, pattern_of}
-use Rattle.tm_rules.specs.Clean.{is_quiet}
-use Rattle.tm_rules.specs.Learned.{learned_line}
-use Rattle.tm_rules.specs.Requests.{is_request}
+use Rattle.tm_rules.specs.Prelude.{is_quiet, is_request, learned_line}
 use Rattle.tm_policy_line.specs.Names.{is_path, domain_of}
 use Rattle.tm_policy_line.specs.Arguments.{pattern_word, plain_word, name_word, name_at}
 use Rattle.tm_policy_line.specs.Namespaces.{namespace_of, namespace_at}

@@ -1,5 +1,5 @@
 -- The grammar of this language is one as the laws of policies and runs ask for.
-use Rattle.tm_rules.specs.Grammar.{IsGrammar}
+use Rattle.tm_rules.specs.Prelude.{IsGrammar}
 use Rattle.tm_policy_line.proofs.LearnedLaws.{learned_is}
 use Rattle.tm_policy_line.proofs.ReadLaws.{chosen_right}
 use Rattle.tm_grammar.specs.Tomoyo.{tomoyo_grammar}

@@ -2,20 +2,11 @@
 use Rattle.std.proofs.Common.{◌≡◌, ℕ, ◌==◌, Bool, true, false, ◌&&◌, ◌||◌, not, List, [], ◌∷◌, Ok, refl, sym, subst}
 use Rattle.std.specs.Prelude.{codes, if◌then◌else◌}
 use Rattle.std.specs.List.{AllByRecursion, slice_split}
-use Rattle.tm_word.specs.Words.{Text}
-use Rattle.tm_word.specs.Spelling.{words_of}
-use Rattle.tm_types.specs.declared.entry.Entry.{Entry}
-use Rattle.tm_types.specs.declared.policy.DomainRule.{DomainRule}
-use Rattle.tm_types.specs.declared.policy.ExceptLine.{ExceptLine}
-use Rattle.tm_types.specs.declared.policy.ExceptRule.{ExceptRule}
-use Rattle.tm_types.specs.declared.policy.PolicyLine.{PolicyLine}
-use Rattle.tm_types.specs.declared.step.FileKind.{FileKind}
-use Rattle.tm_rules.specs.Clean.{lets_execute, is_one_of, is_quiet_acl, is_quiet_group, without_namespace, is_quiet_line, is_quiet, is_quiet_rule}
-use Rattle.tm_word.specs.Texts.{texts_equal}
-use Rattle.tm_rules.specs.Policy.{kernel}
+use Rattle.tm_word.specs.Prelude.{Text, texts_equal, words_of, ◌>>=◌}
+use Rattle.tm_rules.specs.Types.{DomainRule, Entry, ExceptLine, ExceptRule, FileKind, PolicyLine}
+use Rattle.tm_rules.specs.Prelude.{is_one_of, is_quiet, is_quiet_acl, is_quiet_group, is_quiet_line, is_quiet_rule, kernel, lets_execute, without_namespace}
 use Rattle.tm_rules.proofs.EqualityLaws.{same_texts}
 use Rattle.tm_policy_line.specs.Lines.{is_last, word_at}
-use Rattle.tm_word.specs.Gives.{◌>>=◌}
 use Rattle.tm_policy_line.specs.Arguments.{plain_word}
 use Rattle.tm_policy_line.specs.Domains.{domain_to_end}
 use Rattle.tm_policy_line.specs.Namespaces.{opens, namespace_of, namespace_at}

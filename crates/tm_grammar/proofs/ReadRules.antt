@@ -1,33 +1,23 @@
 -- What is read is a rule that a line can write, so no other rule is.
 use Rattle.std.proofs.Common.{◌≡◌, ℕ, Bool, true, false, ◌&&◌, not, List, [], ◌∷◌, Ok, sym, ◌∙◌}
-use Rattle.tm_word.specs.Words.{Text, Word, Pattern}
-use Rattle.tm_types.specs.declared.policy.DomainRule.{DomainRule}
-use Rattle.tm_types.specs.declared.policy.ExceptRule.{ExceptRule}
-use Rattle.tm_types.specs.declared.policy.PolicyLine.{PolicyLine}
-use Rattle.tm_types.specs.declared.step.FileKind.{FileKind}
-use Rattle.tm_word.specs.Texts.{texts_equal}
-use Rattle.tm_rules.specs.Policy.{kernel}
-use Rattle.tm_rules.specs.Requests.{is_path_word}
-use Rattle.tm_rules.specs.Transition.{is_domain_name}
+use Rattle.tm_word.specs.Prelude.{Pattern, Text, Word, texts_equal}
+use Rattle.tm_rules.specs.Types.{DomainRule, ExceptRule, FileKind, PolicyLine}
+use Rattle.tm_rules.specs.Prelude.{is_domain_name, is_path_word, kernel}
 use Rattle.tm_rules.proofs.EqualityLaws.{same_texts}
 use Rattle.tm_policy_line.specs.Names.{is_path}
 use Rattle.tm_policy_line.proofs.Steps.{both, not_true}
-use Rattle.tm_policy_line.specs.ExceptWritten.{is_first, is_literal_path, is_listed, is_rule}
+use Rattle.tm_policy_line.specs.ExceptWritten.{is_first, is_listed, is_rule}
 use Rattle.tm_policy_line.specs.Reading.{read_line}
 use Rattle.tm_policy_line.specs.Written.{is_domain_rule, is_written_rule}
 use Rattle.tm_policy_line.proofs.ReadLaws.{read_written}
 
 -- Exception rules
 
-path_is : (word : Word) → is_literal_path word ≡ true → is_path_word word ≡ true
-path_is [] h = absurd cc
-path_is (b ∷ word) h = h
-
 pair_written : (one : Pattern) (other : Word) → is_written_rule (ExceptRule.Aggregator one other) ≡ true → is_path_word other ≡ true
 unfolding is_written_rule is_rule
 pair_written one other h =
-    let rule = both (is_first one && is_literal_path other) true h in
-    path_is other (both (is_first one) (is_literal_path other) rule.0).1
+    let rule = both (is_first one && is_path_word other) true h in
+    (both (is_first one) (is_path_word other) rule.0).1
 
 pub leads_to_path : (file : FileKind) (text ns : Text) (first : Pattern) (second : Word) → read_line file text ≡ Ok (PolicyLine.Exception (record { delete = false; namespace = ns; rule = ExceptRule.Aggregator first second })) → is_path_word second ≡ true
 leads_to_path file text ns first second e = pair_written first second (read_written file text (PolicyLine.Exception (record { delete = false; namespace = ns; rule = ExceptRule.Aggregator first second })) e).1

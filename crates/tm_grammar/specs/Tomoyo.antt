@@ -1,6 +1,6 @@
 -- The grammar of this language.
-use Rattle.tm_word.specs.Spelling.{joined}
-use Rattle.tm_rules.specs.Grammar.{Grammar}
+use Rattle.tm_word.specs.Prelude.{joined}
+use Rattle.tm_rules.specs.Prelude.{Grammar}
 use Rattle.tm_policy_line.specs.Names.{is_path}
 use Rattle.tm_policy_line.specs.Entries.{entry_words, is_entry}
 use Rattle.tm_policy_line.specs.Reading.{read_line}

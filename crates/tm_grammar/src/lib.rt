@@ -2,15 +2,15 @@
 //! of it.
 //! Stands on tm_policy_line, tm_entry and tm_trace, whose readers and printers it names; no code
 //! but for functions without a body, on which the laws stand.
+//! Of its own, so that tm_legal's laws are of every grammar; tm_rep, tm_take and tm_audit cite it.
 //! Promises that the constant is a grammar as the laws of policies and runs ask for one, so that
 //! they hold of the lines that files really have.
 #![tactic(auto)]
 
 ghost use Rattle.std.specs.Prelude.{◌≡◌};
-ghost use Rattle.tm_word.specs.Spelling.{joined};
-ghost use Rattle.tm_types.specs.declared.entry.Entry.{Entry};
-ghost use Rattle.tm_types.specs.declared.request.Request.{Request};
-ghost use Rattle.tm_rules.specs.Grammar.{IsGrammar};
+ghost use Rattle.tm_word.specs.Prelude.{joined};
+ghost use Rattle.tm_rules.specs.Types.{Entry, Request};
+ghost use Rattle.tm_rules.specs.Prelude.{IsGrammar};
 ghost use Rattle.tm_policy_line.specs.Entries.{entry_words};
 ghost use Rattle.tm_trace.specs.Printing.{request_text, attributes_text};
 ghost use Rattle.tm_grammar.specs.Tomoyo.{tomoyo_grammar};

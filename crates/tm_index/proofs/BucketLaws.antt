@@ -6,8 +6,7 @@ use Rattle.std.specs.Map.{lookup, set_value}
 use Rattle.std.proofs.lemmas.Map.Steps.{set_value_same}
 use Rattle.std.specs.Cmp.Lexicographic.{pointwise}
 use Rattle.indexmap.specs.IndexMap.{insert_entry}
-use Rattle.tm_word.specs.Words.{Text}
-use Rattle.tm_word.specs.Texts.{texts_equal}
+use Rattle.tm_word.specs.Prelude.{Text, texts_equal}
 use Rattle.tm_word.proofs.TextLaws.{texts_sound, texts_full}
 use Rattle.tm_index.proofs.ListLaws.{on_value}
 use Rattle.tm_index.specs.Buckets.{places_at, placing, with_place, front}

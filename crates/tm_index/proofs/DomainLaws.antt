@@ -1,10 +1,10 @@
 -- What is noted of domains when one is made, or taken back.
-use Rattle.std.proofs.Common.{◌≡◌, ℕ, List, [], ◌∷◌, ◌++◌, map, refl, sym, ap, ◌∙◌}
+use Rattle.std.proofs.Common.{◌≡◌, ℕ, List, [], ◌∷◌, ◌++◌, map, refl, ap, ◌∙◌}
 use Rattle.std.specs.Prelude.{Option, MatchOption}
-use Rattle.tm_rules.specs.Words.{DomainName}
+use Rattle.tm_rules.specs.Prelude.{DomainName}
 use Rattle.tm_index.specs.declared.index.DomainIndex.{DomainIndex}
 use Rattle.tm_index.specs.declared.index.Index.{Index}
-use Rattle.tm_index.specs.Buckets.{Places, placing, with_place, front}
+use Rattle.tm_index.specs.Buckets.{Places, placing, front}
 use Rattle.tm_index.specs.Listing.{listing}
 use Rattle.tm_index.specs.Index.{Told, told, domain_listed, noting_domain}
 use Rattle.tm_index.proofs.BucketLaws.{front_pushed, front_popped, noted_taken}
@@ -19,13 +19,6 @@ map-front : {A B : Type 0} (f : A → B) (xs : List A) → map f (front xs) ≡ 
 map-front f [] = refl
 map-front f (x ∷ []) = refl
 map-front f (x ∷ y ∷ ys) = ap (λ t. f x ∷ t) (map-front f (y ∷ ys))
-
--- a domain is noted
-pub domain_pushed : (x : Told) (name : DomainName) (place : ℕ) (old new : List DomainIndex) (made : DomainIndex) (live : Places) → x.domains ≡ map domain_listed old → new ≡ old ++ made ∷ [] → domain_listed made ≡ (listing [], 0) → live ≡ with_place name place x.live
-    → (let y : Told = record { domains = map domain_listed new; groups = x.groups; live = live } in y ≡ noting_domain name place x)
-domain_pushed x name place old new made live e is empty noted =
-    told_equal (record { domains = map domain_listed new; groups = x.groups; live = live }) (noting_domain name place x)
-    (ap (map domain_listed) is ∙ map_more domain_listed old made ∙ ap (λ t. map domain_listed old ++ t ∷ []) empty ∙ ap (λ t. t ++ (listing [], 0) ∷ []) (sym e)) refl noted
 
 -- a domain that was pushed is popped
 pub domain_popped : (made : DomainIndex) (old pushed popped : List DomainIndex) (result : Option DomainIndex) → pushed ≡ old ++ made ∷ [] → MatchOption result (pushed ≡ []) (λ item. pushed ≡ popped ++ item ∷ []) → (pushed ≡ [] → popped ≡ []) → popped ≡ old

@@ -3,9 +3,8 @@ use Rattle.std.proofs.Common.{◌≡◌, ℕ, ◌==◌, Bool, true, false, if◌
 use mathlib.Core.Path.{fun_ext}
 use Rattle.std.specs.Prelude.{Some, None}
 use Rattle.std.specs.Option.{option_map_or}
-use Rattle.tm_word.specs.Texts.{texts_equal}
-use Rattle.tm_rules.specs.Policy.{at_key}
-use Rattle.tm_rules.specs.Edit.{put_key}
+use Rattle.tm_word.specs.Prelude.{texts_equal}
+use Rattle.tm_rules.specs.Prelude.{at_key, put_key}
 use Rattle.tm_rules.proofs.EqualityLaws.{same_texts}
 use Rattle.tm_change_namespaces.proofs.MapLaws.{put_there}
 use Rattle.tm_index.specs.declared.label.Label.{Label}

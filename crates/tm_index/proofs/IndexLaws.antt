@@ -4,12 +4,9 @@ use mathlib.Core.Path.{fun_ext}
 use Rattle.std.proofs.lemmas.Bool.{ne_eqb, eqb-true, ltb-true}
 use Rattle.std.specs.Prelude.{Some, nat_lt, unwrap_or}
 use Rattle.std.specs.Option.{option_map_or}
-use Rattle.tm_word.specs.Words.{Text}
-use Rattle.tm_word.specs.Texts.{texts_equal}
-use Rattle.tm_types.specs.declared.entry.Entry.{Entry}
-use Rattle.tm_types.specs.declared.policy.Domain.{Domain}
-use Rattle.tm_rules.specs.Policy.{at_key}
-use Rattle.tm_rules.specs.Edit.{put_key}
+use Rattle.tm_word.specs.Prelude.{Text, texts_equal}
+use Rattle.tm_rules.specs.Types.{Domain, Entry}
+use Rattle.tm_rules.specs.Prelude.{at_key, put_key}
 use Rattle.tm_rules.proofs.EqualityLaws.{same_texts}
 use Rattle.tm_index.specs.declared.label.Label.{Label}
 use Rattle.tm_index.specs.declared.list.ListIndex.{ListIndex}

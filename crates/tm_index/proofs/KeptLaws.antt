@@ -4,12 +4,10 @@ use Rattle.std.proofs.Common.{◌≡◌, ◌==◌, Bool, true, false, List, [], 
 use Rattle.std.specs.Prelude.{Option, Some, None}
 use Rattle.std.specs.List.{list_all}
 use Rattle.std.proofs.lemmas.Bool.{and_parts}
-use Rattle.tm_word.specs.Words.{Word, Pattern}
-use Rattle.tm_word.specs.Patterns.{IsNoLiteral}
-use Rattle.tm_word.specs.Printing.{is_plain, is_literal, literal_component, literal, literal_word}
+use Rattle.tm_word.specs.Prelude.{IsNoLiteral, Pattern, Word, is_literal, is_plain, literal, literal_component, literal_word}
 use Rattle.tm_word.proofs.Cuts.{Pieces, pieces_of}
 use Rattle.tm_word.proofs.Literals.{literal-name, literal-is_literal}
-use Rattle.tm_rules.specs.Equality.{patterns_equal}
+use Rattle.tm_rules.specs.Prelude.{patterns_equal}
 use Rattle.tm_rules.specs.Requests as requests
 use Rattle.tm_rules.proofs.EqualityLaws.{same_patterns}
 use Rattle.tm_index.specs.Names.{literal_name}

@@ -6,12 +6,9 @@ use Rattle.std.proofs.lemmas.List.{get_or_default}
 use Rattle.std.specs.Prelude.{Option, Some, None, is_some, IfSome, bit_and}
 use Rattle.std.specs.List.{position_from, find, list_any, remove}
 use Rattle.std.specs.Option.{option_or, option_map_or}
-use Rattle.tm_word.specs.Words.{Text, Word}
-use Rattle.tm_word.specs.Texts.{texts_equal}
-use Rattle.tm_types.specs.declared.entry.Args.{Args}
-use Rattle.tm_types.specs.declared.entry.Cond.{Cond}
-use Rattle.tm_types.specs.declared.entry.Entry.{Entry}
-use Rattle.tm_rules.specs.Policy.{same_line, has_line, adding, deleting, without_permissions}
+use Rattle.tm_word.specs.Prelude.{Text, Word, texts_equal}
+use Rattle.tm_rules.specs.Types.{Args, Cond, Entry}
+use Rattle.tm_rules.specs.Prelude.{adding, deleting, has_line, same_line, without_permissions}
 use Rattle.tm_rules.proofs.EqualityLaws.{lines_are_same, same_texts}
 use Rattle.tm_change_entries.proofs.Edits.{place_within, joined_entry, left_entry, adding_last, adding_at, deleting_none, deleting_out, deleting_at}
 use Rattle.tm_index.specs.declared.label.Label.{Label}
@@ -20,7 +17,7 @@ use Rattle.tm_index.specs.Names.{literal_of}
 use Rattle.tm_index.specs.Labels.{line_key, label_of}
 use Rattle.tm_index.specs.Buckets.{Places, placing, front}
 use Rattle.tm_index.specs.Listing.{Listed, with_name, with_other, noting_name, noting_stem, noting_line, noting, closed, places_from, listing, has_name, has_no_name, has_stem, has_neither, has_key, holds_at, has_all}
-use Rattle.tm_index.proofs.BucketLaws.{noted_taken, front_pushed}
+use Rattle.tm_index.proofs.BucketLaws.{noted_taken}
 use Rattle.tm_index.proofs.PlaceLaws.{place_if, places_more, places_set, places_closed, position_at_places, any_at_places}
 
 pub listed_equal : (x y : Listed) → x.named ≡ y.named → x.others ≡ y.others → x.stemmed ≡ y.stemmed → x.rest ≡ y.rest → x.lines ≡ y.lines → x ≡ y
@@ -32,23 +29,11 @@ name_taken name place after old before e h =
     listed_equal (record old { named = after }) before (noted_taken name place before.named old.named after (ap (λ (x : Listed). x.named) e) h) (ap (λ (x : Listed). x.others) e) (ap (λ (x : Listed). x.stemmed) e)
     (ap (λ (x : Listed). x.rest) e) (ap (λ (x : Listed). x.lines) e)
 
--- the last place without a name is
-pub other_taken : (place : ℕ) (after : List ℕ) (old before : Listed) → old ≡ noting_name None place before → after ≡ front old.others → (record old { others = after }) ≡ before
-other_taken place after old before e h =
-    listed_equal (record old { others = after }) before (ap (λ (x : Listed). x.named) e) (h ∙ ap (λ (x : Listed). front x.others) e ∙ front_pushed before.others place) (ap (λ (x : Listed). x.stemmed) e)
-    (ap (λ (x : Listed). x.rest) e) (ap (λ (x : Listed). x.lines) e)
-
 -- the last place of a stem is
 pub stem_taken : (name : Option Word) (stem : Text) (place : ℕ) (after : Places) (old before : Listed) → old ≡ noting_stem name (Some stem) place before → after ≡ placing stem (front (old.stemmed stem)) old.stemmed → (record old { stemmed = after }) ≡ before
 stem_taken name stem place after old before e h =
     listed_equal (record old { stemmed = after }) before (ap (λ (x : Listed). x.named) e) (ap (λ (x : Listed). x.others) e)
     (noted_taken stem place before.stemmed old.stemmed after (ap (λ (x : Listed). x.stemmed) e) h) (ap (λ (x : Listed). x.rest) e) (ap (λ (x : Listed). x.lines) e)
-
--- the last place with neither is
-pub rest_taken : (place : ℕ) (after : List ℕ) (old before : Listed) → old ≡ noting_stem None None place before → after ≡ front old.rest → (record old { rest = after }) ≡ before
-rest_taken place after old before e h =
-    listed_equal (record old { rest = after }) before (ap (λ (x : Listed). x.named) e) (ap (λ (x : Listed). x.others) e) (ap (λ (x : Listed). x.stemmed) e)
-    (h ∙ ap (λ (x : Listed). front x.rest) e ∙ front_pushed before.rest place) (ap (λ (x : Listed). x.lines) e)
 
 -- the last place of a line's words is
 pub line_taken : (key : Text) (place : ℕ) (after : Places) (old before : Listed) → old ≡ noting_line key place before → after ≡ placing key (front (old.lines key)) old.lines → (record old { lines = after }) ≡ before

@@ -4,7 +4,7 @@ use Rattle.std.proofs.lemmas.Bool.{ne_eqb, lt-ltb, le-ltb}
 use Rattle.std.specs.Prelude.{Option, Some, None, nat_lt, slice_get}
 use Rattle.std.specs.Option.{option_or}
 use Rattle.std.specs.List.{position_from, find, list_any, remove}
-use Rattle.tm_rules.specs.Condition.{first_of_all}
+use Rattle.tm_rules.specs.Prelude.{first_of_all}
 use Rattle.tm_index.specs.Buckets.{lowered, closing}
 use Rattle.tm_index.specs.Listing.{places_from, at_place, holds_at}
 

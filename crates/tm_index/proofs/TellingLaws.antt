@@ -1,7 +1,7 @@
 -- What an index tells after a change of one of its domains.
 use Rattle.std.proofs.Common.{◌≡◌, ℕ, zero, suc, ◌<◌, List, [], ◌∷◌, map, length, get_or, slice_set, refl, ap, ◌∙◌, arith}
 use Rattle.std.specs.Prelude.{slice_get, option_map}
-use Rattle.tm_rules.specs.Policy.{changed_at}
+use Rattle.tm_rules.specs.Prelude.{changed_at}
 use Rattle.tm_index.specs.Index.{Told}
 
 -- what is seen of a list with another element in a place

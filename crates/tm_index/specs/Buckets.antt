@@ -1,8 +1,7 @@
 -- Places by key.
 use Rattle.std.specs.Prelude.{ℕ, List, [], ◌∷◌, ◌++◌, if◌then◌else◌, unwrap_or, nat_lt, ◌-◌, ◌==◌, not, map, filter}
 use Rattle.std.specs.Map.{lookup}
-use Rattle.tm_word.specs.Words.{Text}
-use Rattle.tm_word.specs.Texts.{texts_equal}
+use Rattle.tm_word.specs.Prelude.{Text, texts_equal}
 
 -- the places of each key
 abbrev pub Places : Type 0

@@ -1,6 +1,6 @@
 -- What is noted of ACL groups when a line of one is added or taken out.
 use Rattle.std.specs.Prelude.{ℕ, ◌==◌, ◌∷◌, ◌++◌, [], if◌then◌else◌}
-use Rattle.tm_rules.specs.Policy.{changed_at}
+use Rattle.tm_rules.specs.Prelude.{changed_at}
 use Rattle.tm_index.specs.Listing.{Listed}
 use Rattle.tm_index.specs.Index.{Told}
 

@@ -1,14 +1,9 @@
 -- The index of a policy.
 use Rattle.std.specs.Prelude.{◌≡◌, ℕ, ◌<◌, Bool, ◌&&◌, if◌then◌else◌, List, [], ◌∷◌, ◌++◌, length, drop, map}
 use Rattle.std.specs.Option.{option_map_or}
-use Rattle.tm_word.specs.Texts.{texts_equal}
-use Rattle.tm_types.specs.declared.policy.Namespace.{Namespace}
-use Rattle.tm_types.specs.declared.policy.Domain.{Domain}
-use Rattle.tm_types.specs.declared.policy.Policy.{Policy}
-use Rattle.tm_rules.specs.Words.{DomainName}
-use Rattle.tm_rules.specs.Policy.{at_key, changed_at}
-use Rattle.tm_rules.specs.Edit.{acl_group}
-use Rattle.tm_rules.specs.Changes.{count}
+use Rattle.tm_word.specs.Prelude.{texts_equal}
+use Rattle.tm_rules.specs.Types.{Domain, Namespace, Policy}
+use Rattle.tm_rules.specs.Prelude.{DomainName, acl_group, at_key, changed_at, count}
 use Rattle.tm_index.specs.Buckets.{Places, places_at, placing, with_place}
 use Rattle.tm_index.specs.Listing.{Listed, listed, listing, noting, closed, places_from}
 use Rattle.tm_index.specs.declared.label.Label.{Label}

@@ -1,13 +1,10 @@
 -- By what an entry is found: the literal that its first name argument is, its stem, and a text of
 -- its line.
 use Rattle.std.specs.Prelude.{◌++◌}
-use Rattle.tm_word.specs.Words.{Text}
-use Rattle.tm_word.specs.Spelling.{joined}
+use Rattle.tm_word.specs.Prelude.{Text, joined}
 use Rattle.tm_line.specs.Lines.{spaced}
 use Rattle.tm_line.specs.Printing.{name_spelling}
-use Rattle.tm_types.specs.declared.entry.Args.{Args}
-use Rattle.tm_types.specs.declared.entry.Entry.{Entry}
-use Rattle.tm_types.specs.declared.entry.Perms.{Perms}
+use Rattle.tm_rules.specs.Types.{Args, Entry, Perms}
 use Rattle.tm_entry.specs.Reading.{cond_words}
 use Rattle.tm_entry.specs.Entries.{acl_words}
 use Rattle.tm_index.specs.Names.{literal_of}

@@ -1,10 +1,9 @@
 -- The index of one list of entries.
 use Rattle.std.specs.Prelude.{ℕ, suc, Bool, false, ◌&&◌, not, List, [], ◌∷◌, ◌++◌, Option, Some, None, if◌then◌else◌, ◌==◌, is_some, slice_get, bit_and}
 use Rattle.std.specs.Option.{option_or, option_and_then, option_map_or}
-use Rattle.tm_word.specs.Words.{Text, Word}
-use Rattle.tm_word.specs.Texts.{texts_equal}
-use Rattle.tm_types.specs.declared.entry.Entry.{Entry}
-use Rattle.tm_rules.specs.Policy.{same_line}
+use Rattle.tm_word.specs.Prelude.{Text, Word, texts_equal}
+use Rattle.tm_rules.specs.Types.{Entry}
+use Rattle.tm_rules.specs.Prelude.{same_line}
 use Rattle.tm_index.specs.Buckets.{Places, places_at, with_place, closing}
 use Rattle.tm_index.specs.Stems.{stem_of}
 use Rattle.tm_index.specs.Names.{literal_of}

@@ -1,11 +1,9 @@
 -- The literal that the first name argument of an entry is.
 use Rattle.std.specs.Prelude.{Option, Some, None, if◌then◌else◌}
 use Rattle.std.specs.Option.{option_and_then}
-use Rattle.tm_word.specs.Words.{Word, Pattern}
-use Rattle.tm_word.specs.Printing.{literal_word}
-use Rattle.tm_types.specs.declared.unions.NameUnion.{NameUnion}
-use Rattle.tm_types.specs.declared.entry.Args.{Args}
-use Rattle.tm_rules.specs.Requests.{is_literal}
+use Rattle.tm_word.specs.Prelude.{Pattern, Word, literal_word}
+use Rattle.tm_rules.specs.Types.{Args, NameUnion}
+use Rattle.tm_rules.specs.Prelude.{is_literal}
 
 -- the pattern of a name argument, where it is no group
 abbrev pub pattern_of : NameUnion → Option Pattern

@@ -2,14 +2,9 @@
 -- requests that have it too.
 use Rattle.std.specs.Prelude.{ℕ, List, [], ◌∷◌, ◌++◌, length, take, nat_lt, Option, Some, None, if◌then◌else◌, ◌==◌, is_some, slice_get}
 use Rattle.std.specs.Int.{to_be_bytes, w32, w128}
-use Rattle.tm_word.specs.Words.{Text, Word, Pattern}
-use Rattle.tm_word.specs.Printing.{is_plain, literal_word}
-use Rattle.tm_number.specs.declared.Addr.{Addr}
-use Rattle.tm_types.specs.Request.{argument_words}
-use Rattle.tm_types.specs.declared.unions.AddrUnion.{AddrUnion}
-use Rattle.tm_types.specs.declared.entry.Args.{Args}
-use Rattle.tm_rules.specs.Equality.{addrs_equal}
-use Rattle.tm_rules.specs.Search.{addr_value}
+use Rattle.tm_word.specs.Prelude.{Pattern, Text, Word, is_plain, literal_word}
+use Rattle.tm_rules.specs.Types.{Addr, AddrUnion, Args, argument_words}
+use Rattle.tm_rules.specs.Prelude.{addr_value, addrs_equal}
 use Rattle.tm_index.specs.Names.{first_pattern, literal_of}
 
 -- the bytes of an address

@@ -2,10 +2,8 @@
 ghost use Rattle.std.specs.Prelude.{◌≡◌, ℕ, List, [], map, option_map, slice_get, unwrap_or, IfOk, IfSome, OnOk, OnErr};
 ghost use Rattle.std.specs.List.{AllByRecursion};
 ghost use Rattle.std.specs.Option.{option_copied};
-ghost use Rattle.tm_types.specs.declared.entry.Entry.{Entry};
-ghost use Rattle.tm_types.specs.declared.policy.Domain.{Domain};
-ghost use Rattle.tm_rules.specs.Few.{IsShort, IsFewHere, IsFew};
-ghost use Rattle.tm_rules.specs.Policy.{at_key};
+ghost use Rattle.tm_rules.specs.Types.{Domain, Entry};
+ghost use Rattle.tm_rules.specs.Prelude.{IsFew, IsFewHere, IsShort, at_key};
 ghost use Rattle.tm_index.specs.Buckets.{places_at};
 ghost use Rattle.tm_index.specs.Listing.{listing};
 ghost use Rattle.tm_index.specs.Index.{told, domain_listed, domain_listing, groups_listed, groups_listing, with_live, live_places, IsIndexOf, HasDomain, HasNamespace};

@@ -75,7 +75,8 @@ fn literal_of(alloc: Global, args: &Args) -> Result<Option<Word>, NoMemory>
     }
 }
 
-// Appends what equal arguments share.
+// Appends what equal arguments share: of a single path its spelling, of any other line its words
+// with the first permission alone, whichever it has.
 fn push_args_key(alloc: Global, args: &Args, out: &mut Vec<u8>) -> Result<(), NoMemory>
     ensures { OnOk result (out.new.items ≡ out.old.items ++ args_key args.now) }
 {

@@ -1,9 +1,8 @@
 //! The index of one list of entries.
 ghost use Rattle.std.specs.Prelude.{◌≡◌, ℕ, ◌<◌, List, [], length, true, IfOk, IfSome, OnOk, OnErr};
 ghost use Rattle.std.specs.List.{position_from, find, list_any};
-ghost use Rattle.tm_types.specs.declared.entry.Entry.{Entry};
-ghost use Rattle.tm_rules.specs.Few.{IsShort};
-ghost use Rattle.tm_rules.specs.Policy.{has_line, same_line};
+ghost use Rattle.tm_rules.specs.Types.{Entry};
+ghost use Rattle.tm_rules.specs.Prelude.{IsShort, has_line, same_line};
 ghost use Rattle.std.specs.Option.{option_copied};
 ghost use Rattle.tm_index.specs.Listing.{Listed, listed, listing, noting_name, noting_stem, noting_rest, noting, closed, holds_at, has_all};
 ghost use Rattle.tm_index.specs.Labels.{label_of};
@@ -11,6 +10,7 @@ ghost use Rattle.tm_index.specs.Labels.{label_of};
 use crate::buckets::{Buckets, close};
 use crate::label::{Label, label_of};
 use std::alloc::Global;
+use tm_change_entries::has_all;
 use tm_list::{NoMemory, Seq};
 use tm_rules::same_line;
 use tm_types::entry::Entry;
@@ -275,13 +275,6 @@ fn first_sharing(entries: &[Entry], places: &[u32], line: &Entry) -> Option<usiz
         }
     }
     None
-}
-
-// Whether an entry has all of a line.
-fn has_all(entry: &Entry, line: &Entry) -> bool
-    ensures { result ≡ has_all line.now entry.now }
-{
-    same_line(entry, line) && entry.perms.bits & line.perms.bits == line.perms.bits
 }
 
 // Whether the entry at this place has all of a line.

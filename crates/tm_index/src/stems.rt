@@ -1,7 +1,7 @@
 //! Stems: by what an entry without a literal name is found.
 ghost use Rattle.std.specs.Prelude.{◌≡◌, IfOk, is_some};
 ghost use Rattle.std.specs.Option.{option_copied};
-ghost use Rattle.tm_rules.specs.Equality.{addrs_equal};
+ghost use Rattle.tm_rules.specs.Prelude.{addrs_equal};
 ghost use Rattle.tm_index.specs.Names.{first_pattern, literal_of};
 ghost use Rattle.tm_index.specs.Stems.{addr_stem, union_stem, plain_front, short_stem, pattern_stem, addr_of, stem_by, stem_of};
 

@@ -1,16 +1,11 @@
 -- What the index of a policy tells after a change of one domain.
-use Rattle.std.proofs.Common.{◌≡◌, ℕ, zero, suc, ◌<◌, Bool, ◌&&◌, if◌then◌else◌, List, [], ◌∷◌, map, length, refl, sym, ap, ◌∙◌, arith}
+use Rattle.std.proofs.Common.{◌≡◌, ℕ, zero, suc, ◌<◌, Bool, ◌&&◌, if◌then◌else◌, List, [], ◌∷◌, map, length, refl, sym, ap, ◌∙◌}
 use mathlib.Core.Path.{fun_ext}
 use Rattle.std.specs.Prelude.{Option, Some, None, IsSome, slice_get, option_map}
 use Rattle.std.specs.List.{position_from}
-use Rattle.tm_word.specs.Texts.{texts_equal}
-use Rattle.tm_types.specs.declared.entry.Entry.{Entry}
-use Rattle.tm_types.specs.declared.policy.Profile.{Profile}
-use Rattle.tm_types.specs.declared.policy.Domain.{Domain}
-use Rattle.tm_types.specs.declared.policy.Policy.{Policy}
-use Rattle.tm_types.specs.declared.step.LearnReply.{LearnReply}
-use Rattle.tm_rules.specs.Policy.{changed_at, domain_at, with_domain, profile_of, same_line}
-use Rattle.tm_rules.specs.Changes.{count, learn, learn_reply, learned_domain}
+use Rattle.tm_word.specs.Prelude.{texts_equal}
+use Rattle.tm_rules.specs.Types.{Domain, Entry, LearnReply, Policy, Profile}
+use Rattle.tm_rules.specs.Prelude.{changed_at, count, domain_at, learn, learn_reply, learned_domain, profile_of, same_line, with_domain}
 use Rattle.tm_index.specs.declared.label.Label.{Label}
 use Rattle.tm_index.specs.Labels.{label_of}
 use Rattle.tm_index.specs.Listing.{Listed, listing, noting, places_from}
@@ -155,9 +150,3 @@ module _ (policy : Policy) (number : ℕ) (line : Entry) (domain : Domain) (ther
 pub some_of : {A : Type 0} (o : Option A) → IsSome o → (x : A) × (o ≡ Some x)
 some_of None h = absurd cc
 some_of (Some x) h = (x, refl)
-
--- what is read from a list stands in it
-pub read_within : {A : Type 0} (xs : List A) (k : ℕ) (x : A) → slice_get xs k ≡ Some x → k < length xs
-read_within [] k x e = absurd cc
-read_within (y ∷ ys) zero x e = omega arith
-read_within (y ∷ ys) (suc k) x e = let less = read_within ys k x e in omega (arith, less)

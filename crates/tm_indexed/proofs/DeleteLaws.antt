@@ -4,15 +4,9 @@ use mathlib.Core.Path.{fun_ext}
 use Rattle.std.proofs.lemmas.Bool.{and_parts}
 use Rattle.std.specs.Prelude.{Option, Some, None, slice_get}
 use Rattle.std.specs.List.{position_from}
-use Rattle.tm_word.specs.Texts.{texts_equal}
-use Rattle.tm_rules.specs.Words.{DomainName, Cursor}
-use Rattle.tm_types.specs.declared.policy.Domain.{Domain}
-use Rattle.tm_types.specs.declared.policy.DomainRule.{DomainRule}
-use Rattle.tm_types.specs.declared.policy.Policy.{Policy}
-use Rattle.tm_types.specs.declared.step.EditReply.{EditReply}
-use Rattle.tm_rules.specs.Policy.{changed_at, live_domain}
-use Rattle.tm_rules.specs.Edit.{Edited, dead, domain_line}
-use Rattle.tm_rules.specs.Changes.{count}
+use Rattle.tm_word.specs.Prelude.{texts_equal}
+use Rattle.tm_rules.specs.Prelude.{Cursor, DomainName, Edited, changed_at, count, dead, domain_line, live_domain}
+use Rattle.tm_rules.specs.Types.{Domain, DomainRule, EditReply, Policy}
 use Rattle.tm_rules.proofs.EqualityLaws.{same_texts}
 use Rattle.tm_index.specs.Buckets.{Places, placing}
 use Rattle.tm_index.specs.Listing.{places_from}

@@ -2,12 +2,9 @@
 use Rattle.std.proofs.Common.{◌≡◌, ℕ, suc, Bool, true, false, ◌||◌, List, [], ◌∷◌, map, refl, sym, ap, ◌∙◌}
 use Rattle.std.specs.Prelude.{Option, Some, None, option_map, slice_get}
 use Rattle.std.specs.Option.{option_or}
-use Rattle.tm_word.specs.Words.{Text, Word}
-use Rattle.tm_types.specs.Request.{argument_words}
-use Rattle.tm_types.specs.declared.unions.NamePlace.{NamePlace}
-use Rattle.tm_types.specs.declared.entry.Entry.{Entry}
-use Rattle.tm_rules.specs.Condition.{first_of_all}
-use Rattle.tm_rules.specs.Search.{granting, placed, found_of}
+use Rattle.tm_word.specs.Prelude.{Text, Word}
+use Rattle.tm_rules.specs.Types.{Entry, NamePlace, argument_words}
+use Rattle.tm_rules.specs.Prelude.{first_of_all, found_of, granting, placed}
 use Rattle.tm_policy.specs.Searching.{Asked, asked_request, granted_by, place_in, found_in}
 use Rattle.tm_index.specs.Stems.{stems_asked}
 use Rattle.tm_index.specs.Listing.{Listed, listing, has_name, has_stem, has_neither}

@@ -5,13 +5,8 @@ use Rattle.std.proofs.lemmas.List.{length-append}
 use Rattle.std.proofs.lemmas.List.Splits.{slice_split-cons_yes, slice_split-cons_no}
 use Rattle.std.specs.List.{list_any, list_all, flat_map, join_with_byte, onto_first}
 use Rattle.std.specs.Prelude.{Option, Some, None, nat_lt}
-use Rattle.tm_word.specs.Words.{Text, Word, Part, Pattern}
-use Rattle.tm_word.specs.Texts.{texts_equal}
-use Rattle.tm_word.specs.declared.Element.{Element}
-use Rattle.tm_word.specs.declared.Repeat.{Repeat}
-use Rattle.tm_word.specs.declared.Component.{Component}
-use Rattle.tm_word.specs.Matching.{components, left_by, part_matches, component_matches, left_by_component, components_match, is_once, matches, ends_in_slash, is_folder}
-use Rattle.tm_word.specs.Printing.{is_byte, is_plain, element_bytes, component_bytes, literal_word}
+use Rattle.tm_word.specs.Prelude.{Part, Pattern, Text, Word, component_bytes, component_matches, components, components_match, element_bytes, ends_in_slash, is_byte, is_folder, is_once, is_plain, left_by, left_by_component, literal_word, matches, part_matches, texts_equal}
+use Rattle.tm_rules.specs.Types.{Component, Element, Repeat}
 use Rattle.tm_word.proofs.Cuts.{Pieces, pieces_of}
 use Rattle.tm_rules.proofs.EqualityLaws.{same_texts}
 use Rattle.tm_index.specs.Stems.{stem_room, plain_front, front_stem, pattern_stem, stems_after, name_stems}

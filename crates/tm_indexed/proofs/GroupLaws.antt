@@ -4,15 +4,9 @@ use mathlib.Core.Path.{fun_ext}
 use Rattle.std.specs.Prelude.{Option, Some, None, Result, Ok, Err, OnOk, OnErr, slice_get, unwrap_or}
 use Rattle.std.specs.Option.{option_map_or}
 use Rattle.std.specs.List.{AllByRecursion, position_from}
-use Rattle.tm_word.specs.Words.{Text}
-use Rattle.tm_word.specs.Texts.{texts_equal}
-use Rattle.tm_types.specs.declared.entry.Entry.{Entry}
-use Rattle.tm_types.specs.declared.policy.GroupLine.{GroupLine}
-use Rattle.tm_types.specs.declared.policy.Namespace.{Namespace}
-use Rattle.tm_types.specs.declared.policy.Policy.{Policy}
-use Rattle.tm_rules.specs.Few.{IsShort, IsFewHere}
-use Rattle.tm_rules.specs.Policy.{adding, deleting, at_key, changed_at, empty_namespace, same_line}
-use Rattle.tm_rules.specs.Edit.{acl_group, changing_namespace, in_namespace, put_group, put_key, remove_key, with_group}
+use Rattle.tm_word.specs.Prelude.{Text, texts_equal}
+use Rattle.tm_rules.specs.Types.{Entry, GroupLine, Namespace, Policy}
+use Rattle.tm_rules.specs.Prelude.{IsFewHere, IsShort, acl_group, adding, at_key, changed_at, changing_namespace, deleting, empty_namespace, in_namespace, put_group, put_key, remove_key, same_line, with_group}
 use Rattle.tm_change_namespaces.specs.AclGroups.{line_added, line_taken}
 use Rattle.tm_change_namespaces.specs.Named.{named}
 use Rattle.tm_change_namespaces.proofs.GroupLaws.{added_some, named_there, none_short, put_some, short_at}

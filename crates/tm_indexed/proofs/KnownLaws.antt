@@ -2,11 +2,9 @@
 use Rattle.std.proofs.Common.{◌≡◌, ℕ, List, [], sym, ap, ◌∙◌}
 use Rattle.std.specs.Prelude.{Option, Some, None, option_map, slice_get, unwrap_or}
 use Rattle.std.specs.List.{find}
-use Rattle.tm_word.specs.Texts.{texts_equal}
-use Rattle.tm_types.specs.declared.policy.Namespace.{Namespace}
-use Rattle.tm_types.specs.declared.policy.Domain.{Domain}
-use Rattle.tm_types.specs.declared.policy.Policy.{Policy}
-use Rattle.tm_rules.specs.Policy.{domain_at, namespace_word, namespace_named, namespace_of, empty_namespace}
+use Rattle.tm_word.specs.Prelude.{texts_equal}
+use Rattle.tm_rules.specs.Types.{Domain, Namespace, Policy}
+use Rattle.tm_rules.specs.Prelude.{domain_at, empty_namespace, namespace_named, namespace_of, namespace_word}
 use Rattle.tm_change_namespaces.proofs.GroupLaws.{named_there}
 use Rattle.tm_change_namespaces.proofs.Places.{none_found}
 use Rattle.tm_index.specs.declared.list.ListIndex.{ListIndex}

@@ -3,15 +3,8 @@ use Rattle.std.proofs.Common.{◌≡◌, ℕ, Bool, true, false, ◌&&◌, not, 
 use Rattle.std.specs.Prelude.{Option, Some, None, Result, Ok, Err, IfOk, OnErr, is_some}
 use Rattle.std.specs.Option.{option_and_then, option_map_or}
 use Rattle.std.specs.List.{position_from}
-use Rattle.tm_rules.specs.Words.{DomainName, Cursor}
-use Rattle.tm_types.specs.declared.entry.Entry.{Entry}
-use Rattle.tm_types.specs.declared.policy.Domain.{Domain}
-use Rattle.tm_types.specs.declared.policy.DomainRule.{DomainRule}
-use Rattle.tm_types.specs.declared.policy.Policy.{Policy}
-use Rattle.tm_types.specs.declared.step.EditReply.{EditReply}
-use Rattle.tm_rules.specs.Policy.{adding, same_line, domain_at, with_domain, live_domain, namespace_word, at_key, profile_numbered}
-use Rattle.tm_rules.specs.Edit.{Edited, edited, refused, chosen, on_chosen, changed_domain, put_key, remove_key, new_domain, domain_line}
-use Rattle.tm_rules.specs.Changes.{count}
+use Rattle.tm_rules.specs.Prelude.{Cursor, DomainName, Edited, adding, at_key, changed_domain, chosen, count, domain_at, domain_line, edited, live_domain, namespace_word, new_domain, on_chosen, profile_numbered, put_key, refused, remove_key, same_line, with_domain}
+use Rattle.tm_rules.specs.Types.{Domain, DomainRule, EditReply, Entry, Policy}
 use Rattle.tm_index.specs.Labels.{label_of}
 use Rattle.tm_index.specs.Listing.{Listed, noting}
 use Rattle.tm_index.specs.Index.{telling, noting_in, counting_in, noting_domain}

@@ -2,12 +2,9 @@
 use Rattle.std.proofs.Common.{◌≡◌, ℕ, suc, Bool, true, false, ◌&&◌, not, if◌then◌else◌, List, [], ◌∷◌, refl, sym, ap, ◌∙◌}
 use Rattle.std.specs.Prelude.{Option, Some, None, is_some}
 use Rattle.std.specs.Option.{option_and_then, option_map_or}
-use Rattle.tm_word.specs.Words.{Word, Pattern}
-use Rattle.tm_word.specs.Texts.{texts_equal}
-use Rattle.tm_word.specs.Matching.{matches}
-use Rattle.tm_word.specs.Printing.{literal_word}
-use Rattle.tm_types.specs.declared.entry.Entry.{Entry}
-use Rattle.tm_rules.specs.Requests.{is_literal}
+use Rattle.tm_word.specs.Prelude.{Pattern, Word, literal_word, matches, texts_equal}
+use Rattle.tm_rules.specs.Types.{Entry}
+use Rattle.tm_rules.specs.Prelude.{is_literal}
 use Rattle.tm_index.specs.declared.list.ListIndex.{ListIndex}
 use Rattle.tm_index.specs.Names.{first_pattern, literal_name, literal_of}
 use Rattle.tm_index.specs.Listing.{Listed, listed, listing, places_from, has_name, has_no_name}

@@ -3,14 +3,8 @@ use Rattle.std.proofs.Common.{◌≡◌, ℕ, suc, ◌+◌, Bool, true, false, n
 use Rattle.std.specs.Prelude.{Option, Some, None, Result, Ok, Err, IfOk, OnErr, slice_get, option_map, MatchOption}
 use Rattle.std.specs.Option.{option_and_then, option_map_or}
 use Rattle.std.specs.List.{position_from}
-use Rattle.tm_rules.specs.Words.{DomainName}
-use Rattle.tm_types.specs.declared.policy.Profile.{Profile}
-use Rattle.tm_types.specs.declared.policy.Domain.{Domain}
-use Rattle.tm_types.specs.declared.policy.Policy.{Policy}
-use Rattle.tm_types.specs.declared.step.MakeReply.{MakeReply}
-use Rattle.tm_rules.specs.Policy.{domain_at, with_domain, profile_of, live_domain}
-use Rattle.tm_rules.specs.Edit.{new_domain}
-use Rattle.tm_rules.specs.Changes.{count, make, fail, made_new}
+use Rattle.tm_rules.specs.Prelude.{DomainName, count, domain_at, fail, live_domain, made_new, make, new_domain, profile_of, with_domain}
+use Rattle.tm_rules.specs.Types.{Domain, MakeReply, Policy, Profile}
 use Rattle.tm_index.specs.declared.index.Index.{Index}
 use Rattle.tm_index.specs.Listing.{listing, places_from}
 use Rattle.tm_index.specs.Index.{Told, told, telling, IsIndexOf, domain_listing, is_live, noting_domain}

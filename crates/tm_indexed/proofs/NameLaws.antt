@@ -2,23 +2,10 @@
 use Rattle.std.proofs.Common.{◌≡◌, Bool, true, false, ◌&&◌, not, refl, sym, ap, subst, ◌∙◌}
 use Rattle.std.specs.Prelude.{Option, Some, None, is_some, if◌then◌else◌, slice_get}
 use Rattle.std.specs.Option.{option_and_then, option_map_or}
-use Rattle.tm_word.specs.Words.{Word, Pattern}
-use Rattle.tm_word.specs.Texts.{texts_equal}
-use Rattle.tm_word.specs.Matching.{matches}
-use Rattle.tm_word.specs.Printing.{literal, literal_word}
+use Rattle.tm_word.specs.Prelude.{Pattern, Word, literal, literal_word, matches, texts_equal}
 use Rattle.tm_word.proofs.Literals.{literal-alone, literal-own}
-use Rattle.tm_types.specs.Request.{name_value, argument_words}
-use Rattle.tm_types.specs.declared.unions.NameUnion.{NameUnion}
-use Rattle.tm_types.specs.declared.unions.Groups.{Groups}
-use Rattle.tm_types.specs.declared.entry.Args.{Args}
-use Rattle.tm_types.specs.declared.entry.Entry.{Entry}
-use Rattle.tm_types.specs.declared.request.Proc.{Proc}
-use Rattle.tm_types.specs.declared.request.Request.{Request}
-use Rattle.tm_rules.specs.Group.{name_in, number_in}
-use Rattle.tm_rules.specs.Condition.{holds}
-use Rattle.tm_rules.specs.Policy.{has_permission}
-use Rattle.tm_rules.specs.Requests.{is_literal}
-use Rattle.tm_rules.specs.Search.{when, args_grant, grants, number_value}
+use Rattle.tm_rules.specs.Types.{Args, Entry, Groups, NameUnion, Proc, Request, argument_words, name_value}
+use Rattle.tm_rules.specs.Prelude.{args_grant, grants, has_permission, holds, is_literal, name_in, number_in, number_value, when}
 use Rattle.tm_rules.proofs.EqualityLaws.{same_patterns, same_texts}
 use Rattle.tm_index.specs.Names.{pattern_of, literal_name, literal_of}
 use Rattle.tm_index.specs.Listing.{has_no_name}

@@ -4,15 +4,8 @@ use Rattle.std.proofs.lemmas.Bool.{eqb-false}
 use Rattle.std.specs.Prelude.{Option, Some, None, slice_get}
 use Rattle.std.specs.Option.{option_and_then}
 use Rattle.std.specs.List.{position_from}
-use Rattle.tm_rules.specs.Words.{Cursor}
-use Rattle.tm_types.specs.declared.entry.Entry.{Entry}
-use Rattle.tm_types.specs.declared.policy.Domain.{Domain}
-use Rattle.tm_types.specs.declared.policy.DomainRule.{DomainRule}
-use Rattle.tm_types.specs.declared.policy.Policy.{Policy}
-use Rattle.tm_types.specs.declared.step.EditReply.{EditReply}
-use Rattle.tm_rules.specs.Policy.{changed_at, domain_at, with_domain, same_line, deleting, has_part, without_permissions}
-use Rattle.tm_rules.specs.Edit.{Edited, chosen, refused, changed_domain, domain_line}
-use Rattle.tm_rules.specs.Changes.{count}
+use Rattle.tm_rules.specs.Prelude.{Cursor, Edited, changed_at, changed_domain, chosen, count, deleting, domain_at, domain_line, has_part, refused, same_line, with_domain, without_permissions}
+use Rattle.tm_rules.specs.Types.{Domain, DomainRule, EditReply, Entry, Policy}
 use Rattle.tm_change_entries.proofs.Edits.{place_within}
 use Rattle.tm_index.specs.Listing.{Listed, listing, closed}
 use Rattle.tm_index.specs.Index.{Told, telling, counting_in, closing_in}

@@ -3,19 +3,9 @@ use Rattle.std.proofs.Common.{◌≡◌, ◌⊎◌, inl, inr, ℕ, suc, Bool, tr
 use mathlib.Core.Path.{fun_ext}
 use Rattle.std.specs.Prelude.{Result, Ok, Err, IfOk, OnErr, unwrap_or}
 use Rattle.std.specs.List.{list_any}
-use Rattle.tm_word.specs.Words.{Text}
-use Rattle.tm_word.specs.Texts.{texts_equal}
-use Rattle.tm_rules.specs.Words.{Cursor}
-use Rattle.tm_types.specs.declared.entry.Entry.{Entry}
-use Rattle.tm_types.specs.declared.policy.ExceptRule.{ExceptRule}
-use Rattle.tm_types.specs.declared.policy.ManagerRule.{ManagerRule}
-use Rattle.tm_types.specs.declared.policy.Namespace.{Namespace}
-use Rattle.tm_types.specs.declared.policy.Policy.{Policy}
-use Rattle.tm_types.specs.declared.policy.PolicyLine.{PolicyLine}
-use Rattle.tm_types.specs.declared.policy.ProfileEffect.{ProfileEffect}
-use Rattle.tm_types.specs.declared.step.EditReply.{EditReply}
-use Rattle.tm_rules.specs.Policy.{at_key, empty_namespace, namespace_named}
-use Rattle.tm_rules.specs.Edit.{Edited, edited, refused, in_namespace, changing_namespace, leaving, profile_line, except_added, except_removed, except_there, except_line, manager_line, apply_read}
+use Rattle.tm_word.specs.Prelude.{Text, texts_equal}
+use Rattle.tm_rules.specs.Prelude.{Cursor, Edited, apply_read, at_key, changing_namespace, edited, empty_namespace, except_added, except_line, except_removed, except_there, in_namespace, leaving, manager_line, namespace_named, profile_line, refused}
+use Rattle.tm_rules.specs.Types.{EditReply, Entry, ExceptRule, ManagerRule, Namespace, Policy, PolicyLine, ProfileEffect}
 use Rattle.tm_index.specs.Listing.{Listed, listing}
 use Rattle.tm_index.specs.Index.{telling, groups_listing}
 use Rattle.tm_index.specs.Groups.{noting_lists}

@@ -4,26 +4,10 @@ use Rattle.std.proofs.lemmas.Bool.{and_parts, leb-true}
 use Rattle.std.specs.Prelude.{Option, Some, None, is_some, slice_get, take}
 use Rattle.std.specs.Option.{option_or, option_map_or}
 use Rattle.std.specs.List.{list_any}
-use Rattle.tm_word.specs.Words.{Text, Word, Pattern}
-use Rattle.tm_word.specs.Texts.{texts_equal}
-use Rattle.tm_word.specs.Matching.{matches}
-use Rattle.tm_word.specs.Printing.{literal_word}
-use Rattle.tm_number.specs.declared.Addr.{Addr}
-use Rattle.tm_number.specs.declared.AddrRange.{AddrRange}
+use Rattle.tm_word.specs.Prelude.{Pattern, Text, Word, literal_word, matches, texts_equal}
+use Rattle.tm_rules.specs.Types.{Addr, AddrRange, AddrUnion, Args, Entry, Groups, NameUnion, Proc, Request, argument_words, name_value}
 use Rattle.tm_number.specs.Addresses.{addr_le, addr_range_has}
-use Rattle.tm_types.specs.Request.{name_value, argument_words}
-use Rattle.tm_types.specs.declared.unions.AddrUnion.{AddrUnion}
-use Rattle.tm_types.specs.declared.unions.NameUnion.{NameUnion}
-use Rattle.tm_types.specs.declared.unions.Groups.{Groups}
-use Rattle.tm_types.specs.declared.entry.Args.{Args}
-use Rattle.tm_types.specs.declared.entry.Entry.{Entry}
-use Rattle.tm_types.specs.declared.request.Proc.{Proc}
-use Rattle.tm_types.specs.declared.request.Request.{Request}
-use Rattle.tm_rules.specs.Equality.{addrs_equal, inet_place}
-use Rattle.tm_rules.specs.Group.{name_in, number_in, addr_in}
-use Rattle.tm_rules.specs.Condition.{holds}
-use Rattle.tm_rules.specs.Policy.{has_permission}
-use Rattle.tm_rules.specs.Search.{when, args_grant, grants, number_value, addr_value}
+use Rattle.tm_rules.specs.Prelude.{addr_in, addr_value, addrs_equal, args_grant, grants, has_permission, holds, inet_place, name_in, number_in, number_value, when}
 use Rattle.tm_rules.proofs.EqualityLaws.{same_addrs, same_texts}
 use Rattle.tm_index.specs.Stems.{addr_stem, union_stem, stem_room, pattern_stem, addr_of, stem_by, stem_of, name_stems, stems_asked}
 use Rattle.tm_index.specs.Names.{pattern_of, first_pattern, literal_of}

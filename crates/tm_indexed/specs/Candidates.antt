@@ -1,10 +1,9 @@
 -- What is found first at lists of places.
 use Rattle.std.specs.Prelude.{ℕ, Bool, false, List, [], ◌∷◌, Option, Some, None, if◌then◌else◌, nat_lt, option_map, get_or, take, ◌==◌}
 use Rattle.std.specs.List.{list_any}
-use Rattle.tm_word.specs.Words.{Text, Word}
-use Rattle.tm_types.specs.declared.unions.NamePlace.{NamePlace}
-use Rattle.tm_types.specs.declared.entry.Entry.{Entry}
-use Rattle.tm_rules.specs.Condition.{first_of_all}
+use Rattle.tm_word.specs.Prelude.{Text, Word}
+use Rattle.tm_rules.specs.Types.{Entry, NamePlace}
+use Rattle.tm_rules.specs.Prelude.{first_of_all}
 use Rattle.tm_policy.specs.Searching.{Asked, granted_by}
 use Rattle.tm_index.specs.Buckets.{Places}
 use Rattle.tm_index.specs.Listing.{at_place, has_name, has_stem}

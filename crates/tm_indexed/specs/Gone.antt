@@ -1,13 +1,9 @@
 -- What a line leaves of the entry that it shares.
 use Rattle.std.specs.Prelude.{◌≡◌, ℕ, List, Option, Some, None, if◌then◌else◌, ◌==◌, slice_get}
 use Rattle.std.specs.Option.{option_and_then}
-use Rattle.tm_types.specs.declared.entry.Entry.{Entry}
+use Rattle.tm_rules.specs.Types.{Domain, Entry, Policy}
 use Rattle.std.specs.List.{position_from}
-use Rattle.tm_rules.specs.Words.{Cursor}
-use Rattle.tm_types.specs.declared.policy.Domain.{Domain}
-use Rattle.tm_types.specs.declared.policy.Policy.{Policy}
-use Rattle.tm_rules.specs.Policy.{same_line, without_permissions}
-use Rattle.tm_rules.specs.Edit.{chosen}
+use Rattle.tm_rules.specs.Prelude.{Cursor, chosen, same_line, without_permissions}
 use Rattle.tm_index.specs.Index.{Told, closing_in}
 
 -- the place of an entry that has nothing left

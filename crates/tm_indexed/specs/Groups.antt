@@ -1,13 +1,9 @@
 -- A line in its ACL group: what is looked up of it, and what is noted when it is gone.
 use Rattle.std.specs.Prelude.{◌≡◌, ℕ, length, List, Option, Some, None}
 use Rattle.std.specs.List.{position_from}
-use Rattle.tm_word.specs.Words.{Text}
-use Rattle.tm_word.specs.Texts.{texts_equal}
-use Rattle.tm_types.specs.declared.entry.Entry.{Entry}
-use Rattle.tm_types.specs.declared.policy.GroupLine.{GroupLine}
-use Rattle.tm_types.specs.declared.policy.Namespace.{Namespace}
-use Rattle.tm_rules.specs.Policy.{same_line}
-use Rattle.tm_rules.specs.Edit.{acl_group}
+use Rattle.tm_word.specs.Prelude.{Text, texts_equal}
+use Rattle.tm_rules.specs.Types.{Entry, GroupLine, Namespace}
+use Rattle.tm_rules.specs.Prelude.{acl_group, same_line}
 use Rattle.tm_index.specs.Listing.{Listed, closed}
 use Rattle.tm_indexed.specs.declared.group_lines.InGroup.{InGroup}
 

@@ -1,7 +1,6 @@
 -- Kinds of replies and of lines.
 use Rattle.std.specs.Prelude.{Bool, true, false}
-use Rattle.tm_types.specs.declared.policy.PolicyLine.{PolicyLine}
-use Rattle.tm_types.specs.declared.step.EditReply.{EditReply}
+use Rattle.tm_rules.specs.Types.{EditReply, PolicyLine}
 
 -- a line was refused
 abbrev pub is_refused : EditReply → Bool

@@ -1,13 +1,8 @@
 -- The lists that a domain is searched in, and their indexes.
 use Rattle.std.specs.Prelude.{ℕ, List, [], Option, Some, None, unwrap_or}
 use Rattle.std.specs.Option.{option_map_or}
-use Rattle.tm_types.specs.declared.entry.Entry.{Entry}
-use Rattle.tm_types.specs.declared.unions.NamePlace.{NamePlace}
-use Rattle.tm_types.specs.declared.verdict.Found.{Found}
-use Rattle.tm_types.specs.declared.policy.Domain.{Domain}
-use Rattle.tm_types.specs.declared.policy.Policy.{Policy}
-use Rattle.tm_rules.specs.Policy.{domain_at, namespace_of}
-use Rattle.tm_rules.specs.Edit.{acl_group}
+use Rattle.tm_rules.specs.Types.{Domain, Entry, Found, NamePlace, Policy}
+use Rattle.tm_rules.specs.Prelude.{acl_group, domain_at, namespace_of}
 use Rattle.tm_policy.specs.Searching.{place_in}
 use Rattle.tm_index.specs.declared.list.ListIndex.{ListIndex}
 use Rattle.tm_index.specs.Listing.{Listed, listed}

@@ -1,11 +1,9 @@
 -- The entries whose first name argument is a literal, and the others.
 use Rattle.std.specs.Prelude.{ℕ, Bool, false, ◌&&◌, not, List}
 use Rattle.std.specs.Option.{option_map_or}
-use Rattle.tm_word.specs.Words.{Word}
-use Rattle.tm_word.specs.Matching.{matches}
-use Rattle.tm_types.specs.declared.entry.Args.{Args}
-use Rattle.tm_types.specs.declared.entry.Entry.{Entry}
-use Rattle.tm_rules.specs.Requests.{is_literal}
+use Rattle.tm_word.specs.Prelude.{Word, matches}
+use Rattle.tm_rules.specs.Types.{Args, Entry}
+use Rattle.tm_rules.specs.Prelude.{is_literal}
 use Rattle.tm_index.specs.Names.{first_pattern}
 use Rattle.tm_index.specs.Listing.{places_from}
 

@@ -1,10 +1,8 @@
 -- What is looked up of a line in a domain.
 use Rattle.std.specs.Prelude.{◌≡◌, length}
 use Rattle.std.specs.List.{position_from}
-use Rattle.tm_types.specs.declared.entry.Entry.{Entry}
-use Rattle.tm_types.specs.declared.policy.Domain.{Domain}
-use Rattle.tm_rules.specs.Policy.{has_line, same_line}
-use Rattle.tm_rules.specs.Changes.{count}
+use Rattle.tm_rules.specs.Types.{Domain, Entry}
+use Rattle.tm_rules.specs.Prelude.{count, has_line, same_line}
 use Rattle.tm_indexed.specs.declared.learning.Looked.{Looked}
 
 -- how many entries and permissions the domain has, where the entry stands that the line shares, and

@@ -1,10 +1,7 @@
 //! Lines that are added to the entries of a domain: what is noted of them.
 ghost use Rattle.std.specs.Prelude.{◌≡◌, ◌<◌, ℕ, length, false, None, Some, IsSome, IfOk, OnOk, OnErr};
-ghost use Rattle.tm_types.specs.declared.policy.Domain.{Domain};
-ghost use Rattle.tm_types.specs.declared.policy.DomainRule.{DomainRule};
-ghost use Rattle.tm_rules.specs.Few.{IsFew};
-ghost use Rattle.tm_rules.specs.Policy.{adding, domain_at, with_domain};
-ghost use Rattle.tm_rules.specs.Edit.{domain_line};
+ghost use Rattle.tm_rules.specs.Types.{Domain, DomainRule};
+ghost use Rattle.tm_rules.specs.Prelude.{IsFew, adding, domain_at, domain_line, with_domain};
 ghost use Rattle.tm_index.specs.Labels.{label_of};
 ghost use Rattle.tm_index.specs.Index.{told, telling, IsIndexOf, HasDomain};
 ghost use Rattle.tm_indexed.specs.Looked.{IsLooked};

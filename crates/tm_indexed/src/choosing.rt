@@ -1,9 +1,7 @@
 //! Names that are chosen and selected.
 ghost use Rattle.std.specs.Prelude.{◌≡◌, None, IfOk, OnErr};
-ghost use Rattle.tm_types.specs.declared.policy.DomainRule.{DomainRule};
-ghost use Rattle.tm_rules.specs.Few.{IsFew};
-ghost use Rattle.tm_rules.specs.Policy.{live_domain};
-ghost use Rattle.tm_rules.specs.Edit.{domain_line};
+ghost use Rattle.tm_rules.specs.Types.{DomainRule};
+ghost use Rattle.tm_rules.specs.Prelude.{IsFew, domain_line, live_domain};
 ghost use Rattle.tm_index.specs.Index.{told, telling, IsIndexOf};
 ghost use Rattle.tm_indexed.specs.Kinds.{is_refused};
 

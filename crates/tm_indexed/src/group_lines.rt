@@ -2,10 +2,8 @@
 ghost use Rattle.std.specs.Prelude.{◌≡◌, [], true, false, None, Some, IsSome, IfOk, OnOk, OnErr, unwrap_or};
 ghost use Rattle.std.specs.List.{position_from};
 ghost use Rattle.std.specs.Option.{option_copied, option_map_or};
-ghost use Rattle.tm_types.specs.declared.entry.Entry.{Entry};
-ghost use Rattle.tm_rules.specs.Few.{IsFewHere, IsFew};
-ghost use Rattle.tm_rules.specs.Policy.{at_key, has_part, same_line};
-ghost use Rattle.tm_rules.specs.Edit.{acl_group, changing_namespace, group_line};
+ghost use Rattle.tm_rules.specs.Types.{Entry};
+ghost use Rattle.tm_rules.specs.Prelude.{IsFew, IsFewHere, acl_group, at_key, changing_namespace, group_line, has_part, same_line};
 ghost use Rattle.tm_change_namespaces.specs.AclGroups.{line_added, line_taken};
 ghost use Rattle.tm_change_namespaces.specs.Named.{named};
 ghost use Rattle.tm_index.specs.Labels.{label_of};

@@ -1,8 +1,7 @@
 //! The representation of a policy with an index.
 ghost use Rattle.std.specs.Prelude.{◌≡◌, IfOk, [], None, Some, true};
 ghost use Rattle.std.specs.List.{position_from};
-ghost use Rattle.tm_rules.specs.Few.{IsFew};
-ghost use Rattle.tm_rules.specs.Load.{wants_profile};
+ghost use Rattle.tm_rules.specs.Prelude.{IsFew, wants_profile};
 ghost use Rattle.tm_indexed.specs.Literals.{literal_places, other_places};
 ghost use Rattle.tm_indexed.specs.Known.{list_of};
 
@@ -38,8 +37,8 @@ pub struct Indexed {
 }
 
 impl Model for Indexed {
-    ghost use Rattle.tm_types.specs.declared.policy.Policy.{Policy};
-    ghost use Rattle.tm_rules.specs.Few.{IsFew};
+    ghost use Rattle.tm_rules.specs.Types.{Policy};
+    ghost use Rattle.tm_rules.specs.Prelude.{IsFew};
     ghost use Rattle.tm_index.specs.Index.{told, telling, IsIndexOf};
 
     ghost Value = { Policy };

@@ -1,10 +1,7 @@
 //! Learns: what the index finds, what is done to the policy, and what is noted of it.
 ghost use Rattle.std.specs.Prelude.{◌≡◌, ◌<◌, ℕ, length, None, Some, IsSome, IfOk, OnErr};
-ghost use Rattle.tm_types.specs.declared.policy.Domain.{Domain};
-ghost use Rattle.tm_types.specs.declared.policy.Policy.{Policy};
-ghost use Rattle.tm_rules.specs.Few.{IsFew};
-ghost use Rattle.tm_rules.specs.Policy.{domain_at, live_domain};
-ghost use Rattle.tm_rules.specs.Changes.{learn, make, fail};
+ghost use Rattle.tm_rules.specs.Types.{Domain, Policy};
+ghost use Rattle.tm_rules.specs.Prelude.{IsFew, domain_at, fail, learn, live_domain, make};
 ghost use Rattle.tm_index.specs.Labels.{label_of};
 ghost use Rattle.tm_index.specs.Index.{told, telling, IsIndexOf, HasDomain};
 ghost use Rattle.tm_indexed.specs.Looked.{IsLooked};

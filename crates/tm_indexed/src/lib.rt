@@ -1,5 +1,6 @@
 //! A policy with an index, by which a request and a line are found without walking the lists.
 //! Stands on tm_index, on tm_policy, whose search it shares, and on tm_change_domains for changes.
+//! Of its own, so that verdicts, machines and plays stand on the trait of tm_rep and on no index.
 //! Promises what the trait of tm_rep says, the index always that of the policy, in bounded memory.
 #![tactic(auto)]
 

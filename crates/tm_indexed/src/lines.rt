@@ -1,9 +1,7 @@
 //! What a line of a policy file does to a policy with an index.
 ghost use Rattle.std.specs.Prelude.{◌≡◌, true, IfOk, OnErr};
-ghost use Rattle.tm_types.specs.declared.policy.PolicyLine.{PolicyLine};
-ghost use Rattle.tm_rules.specs.Few.{IsFew};
-ghost use Rattle.tm_types.specs.declared.policy.DomainRule.{DomainRule};
-ghost use Rattle.tm_rules.specs.Edit.{apply_read, apply_line, domain_line, manager_line};
+ghost use Rattle.tm_rules.specs.Types.{DomainRule, PolicyLine};
+ghost use Rattle.tm_rules.specs.Prelude.{IsFew, apply_line, apply_read, domain_line, manager_line};
 ghost use Rattle.tm_change_domains.specs.Properties.{is_property};
 ghost use Rattle.tm_policy.specs.Tomoyo.{tomoyo_grammar};
 ghost use Rattle.tm_index.specs.Index.{told, telling, IsIndexOf};

@@ -2,9 +2,7 @@
 ghost use Rattle.std.specs.Prelude.{◌≡◌, [], ℕ, Option, Some, option_map};
 ghost use Rattle.std.specs.Option.{option_copied, option_map_or};
 ghost use Rattle.tm_change_domains.specs.Standing.{StandsIn};
-ghost use Rattle.tm_rules.specs.Few.{IsFew};
-ghost use Rattle.tm_rules.specs.Policy.{domain_at, namespace_word};
-ghost use Rattle.tm_rules.specs.Search.{first, found, found_of};
+ghost use Rattle.tm_rules.specs.Prelude.{IsFew, domain_at, first, found, found_of, namespace_word};
 ghost use Rattle.tm_index.specs.Listing.{listed, listing};
 ghost use Rattle.tm_index.specs.Index.{told, telling, IsIndexOf};
 ghost use Rattle.tm_indexed.specs.Groups.{place_named};

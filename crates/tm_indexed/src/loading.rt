@@ -1,8 +1,7 @@
 //! The policy with an index that four files give.
 ghost use Rattle.std.specs.Prelude.{◌≡◌, IfOk};
-ghost use Rattle.tm_word.specs.Gives.{Gives, GivesNow};
-ghost use Rattle.tm_rules.specs.Few.{IsFew};
-ghost use Rattle.tm_rules.specs.Load.{open_policy, load};
+ghost use Rattle.tm_word.specs.Prelude.{Gives, GivesNow};
+ghost use Rattle.tm_rules.specs.Prelude.{IsFew, load, open_policy};
 ghost use Rattle.tm_policy.specs.Tomoyo.{tomoyo_grammar};
 ghost use Rattle.tm_policy.specs.Loading.{load_cause};
 

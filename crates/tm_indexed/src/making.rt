@@ -1,9 +1,7 @@
 //! Domains that are made: what is noted of them.
 ghost use Rattle.std.specs.Prelude.{◌≡◌, None, Some, IsSome, IfOk, OnErr, slice_get};
-ghost use Rattle.tm_types.specs.declared.policy.Policy.{Policy};
-ghost use Rattle.tm_rules.specs.Few.{IsFew};
-ghost use Rattle.tm_rules.specs.Policy.{live_domain};
-ghost use Rattle.tm_rules.specs.Changes.{make, fail};
+ghost use Rattle.tm_rules.specs.Types.{Policy};
+ghost use Rattle.tm_rules.specs.Prelude.{IsFew, fail, live_domain, make};
 ghost use Rattle.tm_index.specs.Index.{told, telling, IsIndexOf};
 
 use std::alloc::Global;

@@ -1,11 +1,7 @@
 //! Lines that take something out: what is noted of it then.
 ghost use Rattle.std.specs.Prelude.{◌≡◌, ◌<◌, length, true, Some, IsSome, IfOk, OnErr};
-ghost use Rattle.tm_types.specs.declared.policy.Domain.{Domain};
-ghost use Rattle.tm_types.specs.declared.policy.DomainRule.{DomainRule};
-ghost use Rattle.tm_rules.specs.Few.{IsFew};
-ghost use Rattle.tm_rules.specs.Policy.{domain_at};
-ghost use Rattle.tm_rules.specs.Edit.{domain_line};
-ghost use Rattle.tm_rules.specs.Changes.{count};
+ghost use Rattle.tm_rules.specs.Types.{Domain, DomainRule};
+ghost use Rattle.tm_rules.specs.Prelude.{IsFew, count, domain_at, domain_line};
 ghost use Rattle.tm_index.specs.Index.{told, telling, IsIndexOf, HasDomain, counting_in};
 ghost use Rattle.tm_indexed.specs.Gone.{gone_at, closing_if, IsChosen};
 

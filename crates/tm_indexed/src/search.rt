@@ -2,7 +2,7 @@
 //! those of its stems, and at those with neither a name nor a stem.
 ghost use Rattle.std.specs.Prelude.{◌≡◌, ◌<◌, length, map, take, None};
 ghost use Rattle.std.specs.Option.{option_copied};
-ghost use Rattle.tm_rules.specs.Search.{placed};
+ghost use Rattle.tm_rules.specs.Prelude.{placed};
 ghost use Rattle.tm_policy.specs.Searching.{asked_request, place_in, found_in};
 ghost use Rattle.tm_index.specs.Stems.{addr_stem, addr_of, stem_room, name_stems, stems_by, stems_asked};
 ghost use Rattle.tm_index.specs.Listing.{at_place, listed, listing};

@@ -1,8 +1,7 @@
 //! Lines of the profile and the exception file: a namespace that they make has no ACL groups.
 ghost use Rattle.std.specs.Prelude.{◌≡◌, true, IfOk, OnErr};
-ghost use Rattle.tm_types.specs.declared.policy.PolicyLine.{PolicyLine};
-ghost use Rattle.tm_rules.specs.Few.{IsFew};
-ghost use Rattle.tm_rules.specs.Edit.{apply_read};
+ghost use Rattle.tm_rules.specs.Types.{PolicyLine};
+ghost use Rattle.tm_rules.specs.Prelude.{IsFew, apply_read};
 ghost use Rattle.tm_index.specs.Index.{told, telling, IsIndexOf};
 ghost use Rattle.tm_indexed.specs.Kinds.{is_setting};
 

@@ -4,24 +4,10 @@ use Rattle.std.proofs.Common.{◌≡◌, ◌≤◌, ◌<◌, ℕ, zero, suc, ◌
 use Rattle.std.specs.Prelude.{Option, Some, None, if◌then◌else◌, ◌&&◌, slice_get, slice_set, unwrap_or, is_some, not, nat_lt, nat_le}
 use Rattle.std.specs.Option.{option_map_or}
 use Rattle.std.proofs.lemmas.Bool.{and_parts, leb-true, ltb-true}
-use Rattle.tm_word.specs.Words.{Text}
-use Rattle.tm_rules.specs.Words.{Cursor}
-use Rattle.tm_types.specs.declared.policy.Policy.{Policy}
-use Rattle.tm_types.specs.declared.step.FileKind.{FileKind}
-use Rattle.tm_types.specs.declared.step.Step.{Step}
-use Rattle.tm_types.specs.declared.step.Reply.{Reply}
-use Rattle.tm_types.specs.declared.step.EditReply.{EditReply}
-use Rattle.tm_types.specs.declared.step.Editor.{Editor}
-use Rattle.tm_types.specs.declared.step.Query.{Query}
-use Rattle.tm_types.specs.declared.step.Held.{Held}
-use Rattle.tm_types.specs.declared.step.Made.{Made}
-use Rattle.tm_rules.specs.Grammar.{Grammar}
-use Rattle.tm_rules.specs.Changes.{in_domain, learn, make, fail, is_manager}
-use Rattle.tm_rules.specs.Edit.{Edited, apply_line, put_member}
-use Rattle.tm_rules.specs.Queries.{Standing, Queries, first_query, first_unanswered, ask}
-use Rattle.tm_legal.specs.Steps.{State, Applied, apply, after, unfit, on_policy, on_queries, fits_entry, fits_name, edit_step, edit_by}
-use Rattle.tm_legal.specs.Run.{steps_of}
-use Rattle.tm_legal.specs.Legal.{Scene, opening_of, state_at, is_end, is_some_end}
+use Rattle.tm_word.specs.Prelude.{Text}
+use Rattle.tm_rules.specs.Prelude.{Cursor, Edited, Grammar, Queries, Standing, apply_line, ask, fail, first_query, first_unanswered, in_domain, is_manager, learn, make, put_member}
+use Rattle.tm_rules.specs.Types.{EditReply, Editor, FileKind, Held, Made, Policy, Query, Reply, Step}
+use Rattle.tm_legal.specs.Prelude.{Applied, Scene, State, after, apply, edit_by, edit_step, fits_entry, fits_name, is_end, is_some_end, on_policy, on_queries, opening_of, state_at, steps_of, unfit}
 use Rattle.tm_legal.proofs.Histories.{state_at-next}
 use Rattle.tm_legal.proofs.Walks.{is_over}
 use Rattle.tm_legal.proofs.Onward.{over-put, length-put}

@@ -2,19 +2,11 @@
 use Rattle.std.proofs.Common.{◌≡◌, ◌≤◌, ◌<◌, ℕ, zero, suc, List, [], ◌∷◌, ◌++◌, true, true≢false, refl, sym, ap, ◌∙◌, subst, arith, inl, inr, ◌⊎◌}
 use Rattle.std.specs.Prelude.{Option, Some, None, flat_map, is_some, IfSome}
 use Rattle.std.specs.List.{AllByRecursion}
-use Rattle.tm_types.specs.declared.request.Tree.{Tree}
-use Rattle.tm_types.specs.declared.step.Step.{Step}
-use Rattle.tm_types.specs.declared.step.Made.{Made}
-use Rattle.tm_types.specs.declared.step.Book.{Book}
-use Rattle.tm_types.specs.declared.step.Look.{Look}
-use Rattle.tm_types.specs.declared.step.Take.{Take}
-use Rattle.tm_types.specs.declared.step.Run.{Run}
-use Rattle.tm_legal.specs.Run.{Case, tree_cases, cases_from, at_start, places, seen}
-use Rattle.tm_legal.specs.Legal.{Scene, Legal, times, times_owned, own_numbers, is_end, is_some_end, is_of_supervisor, StepsHavePlaces, SupervisorActs, Supervised, TreesEnd, NoLookBeforeAttach}
+use Rattle.tm_rules.specs.Types.{Book, Look, Made, Run, Step, Take, Tree}
+use Rattle.tm_legal.specs.Prelude.{Case, IsLegalTake, Legal, NoLookBeforeAttach, Scene, StepsHavePlaces, Supervised, SupervisorActs, TreesEnd, at_start, cases_from, is_end, is_of_supervisor, is_some_end, own_numbers, places, seen, times, times_owned, tree_cases}
 use Rattle.tm_legal.proofs.Asked.{All-append}
 use Rattle.tm_legal.proofs.Walks.{All-map}
 use Rattle.tm_legal.proofs.Legality.{legal-of, Below, seen-below}
-use Rattle.tm_legal.specs.Cases.{IsLegalTake}
 use Rattle.tm_made.specs.Made.{history_made, made_step}
 use Rattle.tm_joint.specs.Played.{Row, seen_by, RowHolds, AnswersFrom, DeskActs}
 use Rattle.tm_joint.specs.Joint.{takes_in, Joint, JointRunsAreLegal, AttachedFirst}

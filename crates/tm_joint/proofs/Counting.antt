@@ -6,10 +6,9 @@ use Rattle.std.specs.List.{AllByRecursion}
 use Rattle.std.specs.Option.{option_map_or}
 use Rattle.std.proofs.lemmas.Bool.{eq-eqb, ne_eqb, eqb-true}
 use Rattle.std.proofs.lemmas.List.Sums.{sum_by-cons}
-use Rattle.tm_types.specs.declared.step.Made.{Made}
-use Rattle.tm_types.specs.declared.step.Maker.{Maker}
-use Rattle.tm_rules.specs.Queries.{numbered}
-use Rattle.tm_legal.specs.Legal.{times}
+use Rattle.tm_rules.specs.Types.{Made, Maker}
+use Rattle.tm_rules.specs.Prelude.{numbered}
+use Rattle.tm_legal.specs.Prelude.{times}
 use Rattle.tm_legal.proofs.Laws.{times-append}
 use Rattle.tm_made.specs.Made.{numbers_from}
 use Rattle.tm_joint.specs.Makers.{Claims, EachClaims, belongs, owned, EachIsOwned, times_made}

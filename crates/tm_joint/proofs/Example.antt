@@ -3,25 +3,10 @@
 use Rattle.std.proofs.Common.{◌≡◌, ◌+◌, ℕ, zero, suc, List, [], ◌∷◌, Bool, true, false, refl, ap, ◌∙◌, arith, inr}
 use Rattle.std.specs.Prelude.{Option, Some, None, if◌then◌else◌, slice_get, unwrap_or, is_some, not}
 use Rattle.std.specs.Option.{option_map_or}
-use Rattle.tm_word.specs.Words.{Text}
-use Rattle.tm_types.specs.declared.policy.Policy.{Policy}
-use Rattle.tm_types.specs.declared.request.Tree.{Tree}
-use Rattle.tm_types.specs.declared.step.FileKind.{FileKind}
-use Rattle.tm_types.specs.declared.step.Step.{Step}
-use Rattle.tm_types.specs.declared.step.Reply.{Reply}
-use Rattle.tm_types.specs.declared.step.EditReply.{EditReply}
-use Rattle.tm_types.specs.declared.step.Made.{Made}
-use Rattle.tm_types.specs.declared.step.Maker.{Maker}
-use Rattle.tm_types.specs.declared.step.BookRule.{BookRule}
-use Rattle.tm_types.specs.declared.step.Book.{Book}
-use Rattle.tm_types.specs.declared.step.Editor.{Editor}
-use Rattle.tm_types.specs.declared.step.Run.{Run}
-use Rattle.tm_rules.specs.Grammar.{Grammar}
-use Rattle.tm_rules.specs.Changes.{is_manager}
-use Rattle.tm_rules.specs.Queries.{first_query, attach, detach}
-use Rattle.tm_legal.specs.Steps.{State, Applied, apply, after, unfit, edit_step}
-use Rattle.tm_legal.specs.Run.{tree_cases}
-use Rattle.tm_legal.specs.Legal.{Scene, opening_of, times}
+use Rattle.tm_word.specs.Prelude.{Text}
+use Rattle.tm_rules.specs.Types.{Book, BookRule, EditReply, Editor, FileKind, Made, Maker, Policy, Reply, Run, Step, Tree}
+use Rattle.tm_rules.specs.Prelude.{Grammar, attach, detach, first_query, is_manager}
+use Rattle.tm_legal.specs.Prelude.{Applied, Scene, State, after, apply, edit_step, opening_of, times, tree_cases, unfit}
 use Rattle.tm_legal.proofs.Laws.{times-append}
 use Rattle.tm_made.specs.Made.{start_in, told_from, history_made, EachFits}
 use Rattle.tm_made.proofs.Telling.{each-fitted}

@@ -1,14 +1,11 @@
 -- Rows that are gathered from the workers' queues, one after another, have together the numbers
 -- that the queues had.
-use Rattle.std.proofs.Common.{◌≡◌, ℕ, zero, suc, ◌+◌, List, [], ◌∷◌, ◌++◌, length, map, subst, refl, ap, ◌∙◌, arith}
+use Rattle.std.proofs.Common.{◌≡◌, ℕ, zero, suc, ◌+◌, List, [], ◌∷◌, ◌++◌, length, subst, ap, ◌∙◌, arith}
 use Rattle.std.specs.Prelude.{Option, Some, slice_get, slice_set, flat_map}
-use Rattle.std.proofs.lemmas.Grind.{flat_map-append}
-use Rattle.tm_types.specs.declared.step.Made.{Made}
-use Rattle.tm_types.specs.declared.step.Maker.{Maker}
-use Rattle.tm_legal.specs.Legal.{times}
+use Rattle.tm_rules.specs.Types.{Made, Maker}
+use Rattle.tm_legal.specs.Prelude.{times}
 use Rattle.tm_legal.proofs.Laws.{times-append}
 use Rattle.tm_joint.specs.Makers.{EachClaims}
-use Rattle.tm_joint.specs.Played.{Row, row_own}
 
 module _ {A : Type 0} (f : A → List ℕ) (n : ℕ) where
   -- how often the number is among those of all queues
@@ -36,23 +33,6 @@ module _ {A : Type 0} (f : A → List ℕ) (n : ℕ) where
       parts a b c d e g h k l = omega arith
 
 -- All passes
-
-flat-map : {A : Type 0} (f : A → List ℕ) (queues : List (List A)) → flat_map (λ (ns : List ℕ). ns) (map (λ (xs : List A). flat_map f xs) queues) ≡ flat_map (λ (xs : List A). flat_map f xs) queues
-flat-map f [] = refl
-flat-map {A} f (q ∷ queues) = ap (λ (ns : List ℕ). flat_map f q ++ ns) (flat-map f queues)
-
--- workers whose queues were gathered into these rows, then editors, then the supervisor where there
--- is one
-pub dealt-passes : (n : ℕ) (queues : List (List Row)) (rows : List Row) (editors desks : List (List ℕ)) → queued row_own n queues ≡ times n (flat_map row_own rows) → times n (flat_map (λ (ns : List ℕ). ns) (map (λ (own : List Row). flat_map row_own own) queues ++ (editors ++ desks))) ≡ times n (flat_map row_own rows) + times n (flat_map (λ (ns : List ℕ). ns) editors) + times n (flat_map (λ (ns : List ℕ). ns) desks)
-dealt-passes n queues rows editors desks gathered =
-    let workers : List (List ℕ) = map (λ (own : List Row). flat_map row_own own) queues in
-    let whole = ap (times n) (flat_map-append (λ (ns : List ℕ). ns) workers (editors ++ desks)) ∙ times-append n (flat_map (λ (ns : List ℕ). ns) workers) (flat_map (λ (ns : List ℕ). ns) (editors ++ desks)) in
-    let others = ap (times n) (flat_map-append (λ (ns : List ℕ). ns) editors desks) ∙ times-append n (flat_map (λ (ns : List ℕ). ns) editors) (flat_map (λ (ns : List ℕ). ns) desks) in
-    let first : times n (flat_map (λ (ns : List ℕ). ns) workers) ≡ times n (flat_map row_own rows) = ap (times n) (flat-map row_own queues) ∙ gathered in
-    parts (times n (flat_map (λ (ns : List ℕ). ns) (workers ++ (editors ++ desks)))) (times n (flat_map (λ (ns : List ℕ). ns) workers)) (times n (flat_map (λ (ns : List ℕ). ns) (editors ++ desks))) (times n (flat_map row_own rows)) (times n (flat_map (λ (ns : List ℕ). ns) editors)) (times n (flat_map (λ (ns : List ℕ). ns) desks)) whole first others
-  where
-    parts : (a b c d e g : ℕ) → a ≡ b + c → b ≡ d → c ≡ e + g → a ≡ d + e + g
-    parts a b c d e g h k l = omega arith
 
 -- the claims of some passes, and of those after them
 pub claims-append : (who : Maker → Option ℕ) (i k : ℕ) (list : List Made) (xs ys : List (List ℕ)) → k ≡ i + length xs → EachClaims who i list xs → EachClaims who k list ys → EachClaims who i list (xs ++ ys)

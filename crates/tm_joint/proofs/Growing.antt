@@ -1,20 +1,14 @@
 -- What a history keeps while anybody's steps are added to it.
 use Rattle.std.proofs.Common.{◌≡◌, List, [], ◌∷◌, ◌++◌, refl, ap, ◌∙◌}
 use Rattle.std.proofs.lemmas.List.{map-append}
-use Rattle.tm_types.specs.declared.policy.Policy.{Policy}
-use Rattle.tm_types.specs.declared.step.Step.{Step}
-use Rattle.tm_types.specs.declared.step.Reply.{Reply}
-use Rattle.tm_rules.specs.Grammar.{Grammar, IsGrammar}
-use Rattle.tm_rules.specs.Queries.{Standing}
-use Rattle.tm_legal.specs.Steps.{State, apply, after}
-use Rattle.tm_legal.specs.Run.{History, steps_of}
-use Rattle.tm_legal.specs.Legal.{Scene, Replies, opening_of}
-use Rattle.tm_legal.specs.Play.{IsOpened}
+use Rattle.tm_rules.specs.Types.{Policy, Reply, Step}
+use Rattle.tm_rules.specs.Prelude.{Grammar, IsGrammar, Standing}
+use Rattle.tm_legal.specs.Prelude.{History, IsOpened, Replies, Scene, State, after, apply, newest, opening_of, steps_of}
 use Rattle.tm_legal.proofs.Kept.{Sound, Keeps, Keeps-refl}
 use Rattle.tm_legal.proofs.Walks.{StandingKeeps, Onward}
 use Rattle.tm_legal.proofs.Onward.{Standing-refl, fitting-onward}
 use Rattle.tm_legal.proofs.Opened.{step_keeps_opened, steps_keep_opened}
-use Rattle.tm_joint.specs.UnderWay.{newest, IsReplied}
+use Rattle.tm_joint.specs.UnderWay.{IsReplied}
 use Rattle.tm_legal.proofs.Plays.{after-append}
 use Rattle.tm_made.proofs.Telling.{replies-rest}
 

@@ -1,34 +1,20 @@
 -- What an activity knows of a list holds of every longer one, and how it grows by a step of its
 -- own.
-use Rattle.std.proofs.Common.{◌≡◌, ◌≤◌, ◌<◌, ℕ, zero, suc, List, [], ◌∷◌, ◌++◌, length, map, true, false, refl, sym, ap, ◌∙◌, subst, arith, append_assoc, inl, inr, ◌⊎◌}
+use Rattle.std.proofs.Common.{◌≡◌, ◌≤◌, ◌<◌, ℕ, zero, suc, List, [], ◌∷◌, ◌++◌, length, map, true, false, refl, sym, ap, ◌∙◌, subst, arith, append_assoc, ◌⊎◌}
 use Rattle.std.specs.Prelude.{Option, Some, None, slice_get, option_map, flat_map, is_some, max, IfSome}
 use Rattle.std.specs.List.{AllByRecursion}
 use Rattle.std.proofs.lemmas.List.{length-append, length-map, map-append}
-use Rattle.tm_word.specs.Words.{Text}
-use Rattle.tm_types.specs.declared.request.Tree.{Tree}
-use Rattle.tm_types.specs.declared.step.FileKind.{FileKind}
-use Rattle.tm_types.specs.declared.step.Step.{Step}
-use Rattle.tm_types.specs.declared.step.Made.{Made}
-use Rattle.tm_types.specs.declared.step.Maker.{Maker}
-use Rattle.tm_types.specs.declared.step.Query.{Query}
-use Rattle.tm_types.specs.declared.step.Book.{Book}
-use Rattle.tm_types.specs.declared.step.Look.{Look}
-use Rattle.tm_types.specs.declared.step.Take.{Take}
-use Rattle.tm_rules.specs.Queries.{numbered, first_query}
-use Rattle.tm_rules.specs.Book.{book_answer, code_of}
-use Rattle.tm_legal.specs.Steps.{after}
-use Rattle.tm_legal.specs.Run.{History, at_start, tree_cases, raised, seen}
-use Rattle.tm_legal.specs.Legal.{Scene, subject_of, opening_of, state_at, LooksRise}
-use Rattle.tm_legal.specs.Cases.{LookDone, IsLegalTake, TreePlayed}
-use Rattle.tm_legal.specs.Play.{all_ended}
-use Rattle.tm_legal.proofs.Laws.{state_at-later}
+use Rattle.tm_word.specs.Prelude.{Text}
+use Rattle.tm_rules.specs.Types.{FileKind, Look, Made, Maker, Step, Take, Tree}
+use Rattle.tm_rules.specs.Prelude.{numbered}
+use Rattle.tm_legal.specs.Prelude.{History, IsLegalTake, LookDone, LooksRise, Scene, TreePlayed, at_start, raised, seen, subject_of, tree_cases}
 use Rattle.tm_legal.proofs.Histories.{All-push, RisesFrom-push}
 use Rattle.tm_legal.proofs.Walks.{All-map, IsLegalTake-later}
-use Rattle.tm_made.specs.Made.{steps_made, history_made, made_step}
+use Rattle.tm_made.specs.Made.{history_made, made_step}
 use Rattle.tm_joint.specs.Makers.{Claims}
-use Rattle.tm_joint.specs.Played.{Row, seen_by, RowHolds, LinesMade, AnswersFirst, AnswersFrom, last_from, AllWasDone, DeskDid}
+use Rattle.tm_joint.specs.Played.{Row, seen_by, RowHolds, LinesMade}
 use Rattle.tm_joint.proofs.Rows.{All-flat, cases-takes}
-use Rattle.tm_made.proofs.Telling.{made-length, more_made, made-append, state_at-made}
+use Rattle.tm_made.proofs.Telling.{made-length, more_made, made-append}
 
 -- Steps by number
 
@@ -186,95 +172,3 @@ looks-above history attach floor (look ∷ looks) le rises =
     lifted : (n : ℕ) (versions : List ℕ) → attach ≤ n → attach ≤ raised n versions
     lifted n [] low = low
     lifted n (v ∷ versions) low = lifted (max n v) versions (omega arith)
-
--- The supervisor
-
-module _ (scene : Scene) where
-  -- the state of a version is that of the list that has so many steps
-  pub state_at-front : (xs ys : List Made) → state_at scene (history_made scene (xs ++ ys)) (length xs) ≡ after scene.grammar (opening_of scene) (steps_made xs)
-  state_at-front xs ys =
-      ap (λ (h : History). state_at scene h (length xs)) (made-append scene xs ys)
-      ∙ state_at-later scene (history_made scene xs) (more_made scene xs ys) (length xs) (let long = made-length scene xs in omega arith)
-      ∙ state_at-made scene xs
-
-  state-later : (xs ys : List Made) (v : ℕ) → v ≤ length xs → state_at scene (history_made scene (xs ++ ys)) v ≡ state_at scene (history_made scene xs) v
-  state-later xs ys v le =
-      ap (λ (h : History). state_at scene h v) (made-append scene xs ys)
-      ∙ state_at-later scene (history_made scene xs) (more_made scene xs ys) v (let long = made-length scene xs in omega arith)
-
-  module _ (book : Book) where
-    first-later : (xs ys : List Made) (last p : ℕ) → AnswersFirst scene xs book last p → AnswersFirst scene (xs ++ ys) book last p
-    first-later xs ys last p h =
-        let (made, there, is) = made-of xs p (Step.Answer h.query.serial (code_of (book_answer book h.query))) h.answer in
-        let within = numbered-within xs p made there in
-        let before = h.before in
-        record {
-          version = h.version;
-          query = h.query;
-          since = h.since;
-          before = h.before;
-          first = rw (state-later xs ys h.version (omega arith)) h.first;
-          answer = made_step-later xs ys p (Step.Answer h.query.serial (code_of (book_answer book h.query))) h.answer;
-        }
-
-    pub answers-later : (xs ys : List Made) (last : ℕ) (ns : List ℕ) → AnswersFrom scene xs book last ns → AnswersFrom scene (xs ++ ys) book last ns
-    answers-later xs ys last [] h = tt
-    answers-later xs ys last (p ∷ ns) h = (first-later xs ys last p h.0, answers-later xs ys p ns h.1)
-
-    pub desk-later : (xs ys : List Made) (ns : List ℕ) → DeskDid scene xs book ns → DeskDid scene (xs ++ ys) book ns
-    desk-later xs ys ns h =
-        record {
-          attach = h.attach;
-          answers = h.answers;
-          detach = h.detach;
-          numbers_are = h.numbers_are;
-          rising = h.rising;
-          attach_is = made_step-later xs ys h.attach Step.Attach h.attach_is;
-          detach_is = made_step-later xs ys h.detach Step.Detach h.detach_is;
-          each = answers-later xs ys h.attach h.answers h.each;
-          due = due h.due;
-          few = h.few;
-        }
-      where
-        due : (book.stop ≡ Some (length h.answers)) ⊎ AllWasDone scene xs (last_from h.attach h.answers) h.detach → (book.stop ≡ Some (length h.answers)) ⊎ AllWasDone scene (xs ++ ys) (last_from h.attach h.answers) h.detach
-        due (inl stop) = inl stop
-        due (inr w) =
-            let (made, there, is) = made-of xs h.detach Step.Detach h.detach_is in
-            let within = numbered-within xs h.detach made there in
-            let before = w.before in
-            inr
-            (record {
-              version = w.version;
-              since = w.since;
-              before = w.before;
-              none = rw (state-later xs ys w.version (omega arith)) w.none;
-              ended = rw (state-later xs ys w.version (omega arith)) w.ended;
-            })
-
-    -- one answer more
-    pub answers-push : (list : List Made) (last : ℕ) (ns : List ℕ) (p : ℕ) → AnswersFrom scene list book last ns → AnswersFirst scene list book (last_from last ns) p → AnswersFrom scene list book last (ns ++ p ∷ [])
-    answers-push list last [] p each first = (first, tt)
-    answers-push list last (n ∷ ns) p each first = (each.0, answers-push list n ns p each.1 first)
-
-    -- what was first in a list that it had seen is answered by its next step
-    pub answers-first : (xs ys : List Made) (made : Made) (last : ℕ) (query : Query) → last ≤ length xs → first_query (after scene.grammar (opening_of scene) (steps_made xs)).queries ≡ Some query → made.step ≡ Step.Answer query.serial (code_of (book_answer book query)) → AnswersFirst scene ((xs ++ ys) ++ made ∷ []) book last (suc (length (xs ++ ys)))
-    answers-first xs ys made last query since first is =
-        record {
-          version = length xs;
-          query = query;
-          since = since;
-          before = rw (length-append xs ys) (omega arith);
-          first = rw (append_assoc xs ys (made ∷ []), state_at-front xs (ys ++ made ∷ [])) first;
-          answer = made_step-last (xs ++ ys) made ∙ ap Some is;
-        }
-
-    -- all trees had ended and nothing was held in a list that it had seen before its next step
-    pub done-before : (xs ys : List Made) (made : Made) (last : ℕ) → last ≤ length xs → first_query (after scene.grammar (opening_of scene) (steps_made xs)).queries ≡ None → all_ended scene.grammar (after scene.grammar (opening_of scene) (steps_made xs)) ≡ true → AllWasDone scene ((xs ++ ys) ++ made ∷ []) last (suc (length (xs ++ ys)))
-    done-before xs ys made last since none ended =
-        record {
-          version = length xs;
-          since = since;
-          before = rw (length-append xs ys) (omega arith);
-          none = rw (append_assoc xs ys (made ∷ []), state_at-front xs (ys ++ made ∷ [])) none;
-          ended = rw (append_assoc xs ys (made ∷ []), state_at-front xs (ys ++ made ∷ [])) ended;
-        }

@@ -4,16 +4,10 @@ use Rattle.std.proofs.Common.{◌≡◌, ◌<◌, ℕ, zero, suc, ◌+◌, List,
 use Rattle.std.specs.Prelude.{Option, Some, None, if◌then◌else◌, slice_get, flat_map, filter_map, unwrap_or}
 use Rattle.std.proofs.lemmas.Bool.{eq-eqb}
 use Rattle.std.proofs.lemmas.List.{length-append}
-use Rattle.tm_word.specs.Words.{Text}
-use Rattle.tm_types.specs.declared.step.FileKind.{FileKind}
-use Rattle.tm_types.specs.declared.step.Step.{Step}
-use Rattle.tm_types.specs.declared.step.Reply.{Reply}
-use Rattle.tm_types.specs.declared.step.Made.{Made}
-use Rattle.tm_types.specs.declared.step.Editor.{Editor}
-use Rattle.tm_rules.specs.Grammar.{Grammar}
-use Rattle.tm_rules.specs.Queries.{numbered}
-use Rattle.tm_legal.specs.Steps.{State, apply}
-use Rattle.tm_legal.specs.Legal.{Scene, opening_of, times, edit_line, lines_of_editor}
+use Rattle.tm_word.specs.Prelude.{Text}
+use Rattle.tm_rules.specs.Types.{Editor, FileKind, Made, Reply, Step}
+use Rattle.tm_rules.specs.Prelude.{Grammar, numbered}
+use Rattle.tm_legal.specs.Prelude.{Scene, State, apply, edit_line, lines_of_editor, opening_of, times}
 use Rattle.tm_made.specs.Made.{steps_made, told_from, history_made, made_step}
 use Rattle.tm_made.specs.Made.{numbers_from}
 use Rattle.tm_joint.specs.Played.{EditorDid, EachEditor}

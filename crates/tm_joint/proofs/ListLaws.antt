@@ -3,14 +3,11 @@
 use Rattle.std.proofs.Common.{◌≡◌, suc, List, [], ◌∷◌, ◌++◌, length, ap, ◌∙◌, subst, arith}
 use Rattle.std.specs.Prelude.{Option, Some, unwrap_or}
 use Rattle.std.proofs.lemmas.List.{length-append}
-use Rattle.tm_types.specs.declared.step.Reply.{Reply}
-use Rattle.tm_types.specs.declared.step.Made.{Made}
-use Rattle.tm_rules.specs.Grammar.{Grammar}
-use Rattle.tm_legal.specs.Steps.{apply, after}
-use Rattle.tm_legal.specs.Legal.{Scene, Replies, opening_of}
-use Rattle.tm_legal.specs.Play.{InProgress}
+use Rattle.tm_rules.specs.Types.{Made, Reply}
+use Rattle.tm_rules.specs.Prelude.{Grammar}
+use Rattle.tm_legal.specs.Prelude.{InProgress, Replies, Scene, after, apply, newest, opening_of}
 use Rattle.tm_made.specs.Made.{told_from, history_made, IsFitted}
-use Rattle.tm_joint.specs.UnderWay.{newest, IsReplied}
+use Rattle.tm_joint.specs.UnderWay.{IsReplied}
 use Rattle.tm_joint.specs.AtLists.{state_after, UnderWayAt, TakesGrow, DomainsStay, LooksAreJudged, LooksBegin, OwedStepsFit, StepsAreMade, AnswersAreHeard, RetriesAreJudged, LooksGoOn, EndedTakesAreLegal, OwnStepsAreNoted}
 use Rattle.tm_made.proofs.Telling.{made-steps, made-length, made-append, more_made, fitted-front}
 use Rattle.tm_joint.proofs.TakeLaws.{take-grows, domain-grows, is-judged-now, take-begins, owed-fits, take-makes, take-hears, again-judged, take-looks-again, take-ends, own-makes, own-hears, own-looks-again, own-ends}

@@ -4,15 +4,10 @@ use Rattle.std.proofs.Common.{◌≡◌, ℕ, List, [], ◌∷◌, map, Bool, tr
 use Rattle.std.specs.Prelude.{if◌then◌else◌, ◌==◌}
 use Rattle.std.specs.List.{AllByRecursion}
 use Rattle.std.proofs.lemmas.Bool.{eqb-true, eq-eqb}
-use Rattle.tm_types.specs.declared.request.Ids.{Ids}
-use Rattle.tm_types.specs.declared.request.Item.{Item}
-use Rattle.tm_types.specs.declared.request.Request.{Request}
-use Rattle.tm_types.specs.declared.request.Tree.{Tree}
-use Rattle.tm_types.specs.declared.step.Take.{Take}
-use Rattle.tm_legal.specs.Run.{History, Situation, Situations, with_situation, with_ids, forked, after_take, at_start, Case, tree_cases, do_pids}
-use Rattle.tm_legal.specs.Legal.{Scene}
-use Rattle.tm_legal.specs.Cases.{IsLegalTake, TreePlayed}
-use Rattle.tm_joint.specs.Processes.{pid_of_line, lines_of, ProcessPlayed, Queues, with_queue, next_take, merged, with_process, LinesAreOfTree}
+use Rattle.tm_rules.specs.Types.{Ids, Item, Request, Take, Tree}
+use Rattle.tm_legal.specs.Prelude.{Case, History, IsLegalTake, Scene, Situation, Situations, TreePlayed, after_take, at_start, do_pids, forked, tree_cases, with_ids, with_situation}
+use Rattle.tm_joint.specs.Processes.{lines_of, ProcessPlayed, Queues, with_queue, next_take, merged, with_process, LinesAreOfTree}
+use Rattle.tm_rules.specs.Prelude.{pid_of_line}
 
 -- Whether two numbers are equal
 

@@ -4,11 +4,9 @@ use Rattle.std.proofs.Common.{◌≡◌, ◌≢◌, ◌<◌, ℕ, zero, suc, ◌
 use Rattle.std.specs.Prelude.{Option, Some, None, if◌then◌else◌, ◌==◌, slice_get, flat_map, option_map}
 use Rattle.std.specs.List.{AllByRecursion}
 use Rattle.std.proofs.lemmas.Bool.{eqb-true}
-use Rattle.tm_types.specs.declared.step.Step.{Step}
-use Rattle.tm_types.specs.declared.step.Made.{Made}
-use Rattle.tm_rules.specs.Queries.{numbered}
-use Rattle.tm_legal.specs.Run.{places}
-use Rattle.tm_legal.specs.Legal.{Scene, RisesFrom, times, times_owned, is_own, is_end, is_some_end}
+use Rattle.tm_rules.specs.Types.{Made, Step}
+use Rattle.tm_rules.specs.Prelude.{numbered}
+use Rattle.tm_legal.specs.Prelude.{RisesFrom, Scene, is_end, is_own, is_some_end, places, times, times_owned}
 use Rattle.tm_legal.proofs.Laws.{times-append}
 use Rattle.tm_legal.proofs.Asked.{All-append}
 use Rattle.tm_made.specs.Made.{history_made, made_step}
@@ -257,17 +255,6 @@ module _ (list : List Made) (own ends edits desk : List ℕ) (d : Dealt list own
       omega arith
 
 -- Ends and lines by their numbers
-
-pub ends-apart : Apart is_end
-ends-apart i j (Step.End t) h k = sym (eqb-true t i h) ∙ eqb-true t j k
-ends-apart i j (Step.Learn d entry) h k = absurd (true≢false (sym h))
-ends-apart i j (Step.Make d name) h k = absurd (true≢false (sym h))
-ends-apart i j (Step.Fail d) h k = absurd (true≢false (sym h))
-ends-apart i j (Step.Ask d retry line) h k = absurd (true≢false (sym h))
-ends-apart i j (Step.Answer serial code) h k = absurd (true≢false (sym h))
-ends-apart i j Step.Attach h k = absurd (true≢false (sym h))
-ends-apart i j Step.Detach h k = absurd (true≢false (sym h))
-ends-apart i j (Step.Edit e file line) h k = absurd (true≢false (sym h))
 
 pub edits-apart : Apart is_edit_of
 edits-apart i j (Step.Edit e file line) h k = sym (eqb-true e i h) ∙ eqb-true e j k

@@ -6,26 +6,12 @@ use Rattle.std.specs.List.{AllByRecursion}
 use Rattle.std.proofs.lemmas.Bool.{eq-eqb}
 use Rattle.std.proofs.lemmas.List.{length-map, map-append}
 use Rattle.std.proofs.lemmas.Grind.{flat_map-append}
-use Rattle.tm_types.specs.declared.unions.NamePlace.{NamePlace}
-use Rattle.tm_types.specs.declared.entry.Entry.{Entry}
-use Rattle.tm_types.specs.declared.policy.Mode.{Mode}
-use Rattle.tm_types.specs.declared.request.Item.{Item}
-use Rattle.tm_types.specs.declared.request.Tree.{Tree}
-use Rattle.tm_types.specs.declared.step.Step.{Step}
-use Rattle.tm_types.specs.declared.step.Made.{Made}
-use Rattle.tm_types.specs.declared.step.Look.{Look}
-use Rattle.tm_types.specs.declared.step.Take.{Take}
-use Rattle.tm_types.specs.declared.verdict.Reason.{Reason}
-use Rattle.tm_types.specs.declared.verdict.Move.{Move}
-use Rattle.tm_types.specs.declared.verdict.Verdict.{Verdict}
-use Rattle.tm_rules.specs.Words.{DomainName, Trace}
-use Rattle.tm_rules.specs.Grammar.{Grammar}
-use Rattle.tm_legal.specs.Run.{Situations, with_situation, with_ids, forked, after_take, at_start, Case, tree_cases, cases_from, do_pids, all_do_pids, step_at}
-use Rattle.tm_legal.specs.Legal.{Scene, Subject, subject_of, is_own, is_end, own_numbers, times, steps_of_line, steps_of_move, steps_asked, look_grants, retry_written}
+use Rattle.tm_rules.specs.Types.{Entry, Item, Look, Made, Mode, Move, NamePlace, Reason, Step, Take, Tree, Verdict}
+use Rattle.tm_rules.specs.Prelude.{DomainName, Grammar, Trace}
+use Rattle.tm_legal.specs.Prelude.{Case, IsLegalTake, LookDone, Scene, Situations, Subject, after_take, all_do_pids, at_start, cases_from, do_pids, forked, is_end, is_own, look_grants, own_numbers, retry_written, step_at, steps_asked, steps_of_line, steps_of_move, subject_of, times, tree_cases, with_ids, with_situation}
 use Rattle.tm_legal.proofs.Laws.{times-append}
 use Rattle.tm_legal.proofs.Asked.{All-append}
 use Rattle.tm_legal.proofs.Walks.{All-map}
-use Rattle.tm_legal.specs.Cases.{LookDone, IsLegalTake}
 use Rattle.tm_made.specs.Made.{history_made, made_step}
 use Rattle.tm_joint.specs.Played.{Row, row_own, RowHolds, EachRow}
 use Rattle.tm_joint.specs.Joint.{takes_in}
@@ -154,11 +140,6 @@ row-at P t (x ∷ trees) (r ∷ rows) (suc n) tree each at =
 -- the ends of all rows, one list a row
 abbrev pub ends_in : List Row → List (List ℕ)
 ends_in rows = map (λ (row : Row). option_to_list row.end) rows
-
-ends-at : (rows : List Row) (n : ℕ) (row : Row) → slice_get rows n ≡ Some row → slice_get (ends_in rows) n ≡ Some (option_to_list row.end)
-ends-at [] n row at = absurd cc
-ends-at (r ∷ rows) zero row at = let same : r ≡ row = cc in rw same refl
-ends-at (r ∷ rows) (suc n) row at = ends-at rows n row at
 
 both-sums : (x p q r t u w c e : ℕ) → x ≡ p + q → p ≡ r + t → c ≡ r + u → e ≡ t + w → q ≡ u + w → x ≡ c + e
 both-sums x p q r t u w c e h1 h2 h3 h4 h5 = omega arith

@@ -5,26 +5,16 @@ use Rattle.std.specs.Prelude.{Option, Some, None, if◌then◌else◌, ◌==◌,
 use Rattle.std.specs.List.{AllByRecursion}
 use Rattle.std.proofs.lemmas.Bool.{eqb-true, eq-eqb, ne_eqb}
 use Rattle.std.proofs.lemmas.Grind.{flat_map-append}
-use Rattle.tm_types.specs.declared.request.Tree.{Tree}
-use Rattle.tm_types.specs.declared.step.Step.{Step}
-use Rattle.tm_types.specs.declared.step.Made.{Made}
-use Rattle.tm_types.specs.declared.step.Query.{Query}
-use Rattle.tm_types.specs.declared.step.Book.{Book}
-use Rattle.tm_types.specs.declared.step.Look.{Look}
-use Rattle.tm_types.specs.declared.step.Take.{Take}
-use Rattle.tm_rules.specs.Words.{Trace}
-use Rattle.tm_rules.specs.Book.{book_answer, code_of}
-use Rattle.tm_rules.specs.Queries.{first_query}
-use Rattle.tm_legal.specs.Run.{places, seen, heard_version}
-use Rattle.tm_legal.specs.Legal.{Scene, RisesFrom, times, own_numbers, is_own, is_attach, is_detach, is_answer, is_end, is_some_end, AnswersByBook, DetachIsDue, Supervised}
-use Rattle.tm_legal.specs.Play.{all_ended}
+use Rattle.tm_rules.specs.Types.{Book, Look, Made, Query, Step, Take, Tree}
+use Rattle.tm_rules.specs.Prelude.{Trace, book_answer, code_of, first_query}
+use Rattle.tm_legal.specs.Prelude.{AnswersByBook, DetachIsDue, RisesFrom, Scene, Supervised, all_ended, heard_version, is_answer, is_attach, is_detach, is_end, is_own, is_some_end, last_from, own_numbers, places, seen, times}
 use Rattle.tm_legal.proofs.Laws.{times-append}
 use Rattle.tm_legal.proofs.Asked.{All-append}
 use Rattle.tm_legal.proofs.Walks.{All-map, is_over}
 use Rattle.tm_legal.proofs.Scripts.{all-counted}
 use Rattle.tm_made.specs.Made.{history_made, made_step}
 use Rattle.tm_made.specs.Made.{numbers_from}
-use Rattle.tm_joint.specs.Played.{Row, seen_by, RowHolds, EachRow, AnswersFirst, AnswersFrom, last_from, AllWasDone, DeskDid}
+use Rattle.tm_joint.specs.Played.{Row, seen_by, RowHolds, EachRow, AnswersFirst, AnswersFrom, AllWasDone, DeskDid}
 use Rattle.tm_joint.specs.Joint.{takes_in}
 use Rattle.tm_joint.proofs.Rising.{Passes, RisesFrom-low, times-below}
 use Rattle.tm_made.proofs.Telling.{places-made, step_at-made}

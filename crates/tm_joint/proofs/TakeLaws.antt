@@ -4,24 +4,10 @@ use Rattle.std.proofs.Common.{◌≡◌, ◌≤◌, ℕ, suc, List, [], ◌∷�
 use Rattle.std.specs.Prelude.{Some, IsSome, flat_map}
 use Rattle.std.specs.List.{AllByRecursion}
 use Rattle.std.proofs.lemmas.Grind.{flat_map-append}
-use Rattle.tm_word.specs.Words.{Text}
-use Rattle.tm_types.specs.declared.request.Request.{Request}
-use Rattle.tm_types.specs.declared.step.Step.{Step}
-use Rattle.tm_types.specs.declared.step.Reply.{Reply}
-use Rattle.tm_types.specs.declared.step.Held.{Held}
-use Rattle.tm_types.specs.declared.step.Answered.{Answered}
-use Rattle.tm_types.specs.declared.step.Look.{Look}
-use Rattle.tm_types.specs.declared.verdict.Verdict.{Verdict}
-use Rattle.tm_rules.specs.Grammar.{Grammar, IsGrammar}
-use Rattle.tm_rules.specs.Requests.{is_request}
-use Rattle.tm_rules.specs.Queries.{answer_of}
-use Rattle.tm_legal.specs.Steps.{State, Applied, apply}
-use Rattle.tm_legal.specs.Run.{History, Situation, Case, seen, raised}
-use Rattle.tm_legal.specs.Legal.{Scene, own_numbers}
-use Rattle.tm_legal.specs.Cases.{LookDone, IsLegalTake}
-use Rattle.tm_legal.specs.Needs.{IsJudged}
-use Rattle.tm_legal.specs.Play.{Player, InProgress, Stage, IsOpened, look_at, after_step, after_answer, taken}
-use Rattle.tm_legal.specs.Stages.{DomainIn, FollowsTo, subject_now, Begins, Settles, ToAsk, StageHolds}
+use Rattle.tm_word.specs.Prelude.{Text}
+use Rattle.tm_rules.specs.Types.{Answered, Held, Look, Reply, Request, Step, Verdict}
+use Rattle.tm_rules.specs.Prelude.{Grammar, IsGrammar, answer_of, is_request}
+use Rattle.tm_legal.specs.Prelude.{Applied, Begins, Case, DomainIn, FollowsTo, History, InProgress, IsJudged, IsLegalTake, IsOpened, LookDone, Player, Scene, Settles, Situation, Stage, StageHolds, State, ToAsk, after_answer, after_step, apply, look_at, newest, own_numbers, raised, seen, subject_now, taken}
 use Rattle.tm_legal.proofs.Kept.{DomainIn-later, Keeps, Fits, ready-fits}
 use Rattle.tm_legal.proofs.Histories.{raised-le, state_at-newest}
 use Rattle.tm_legal.proofs.Walks.{RisesTo-later, RisesTo-push, StageHolds-later}
@@ -29,8 +15,19 @@ use Rattle.tm_legal.proofs.Takes.{Sane, Looks, look-holds, Stepped, next-holds, 
 use Rattle.tm_legal.proofs.Hears.{held-holds, nobody-holds, answer-holds, again-done, again-follows}
 use Rattle.tm_legal.proofs.Onward.{own-onward, Asks, ask-done}
 use Rattle.tm_legal.proofs.Fitting.{is-judged, stage-fits}
-use Rattle.tm_joint.specs.UnderWay.{newest, IsReplied, JudgedNow, begun_at, begun_now, IsUnderWay, own_so_far}
+use Rattle.tm_joint.specs.UnderWay.{IsReplied, JudgedBy, begun_at, IsUnderWay, own_so_far}
 use Rattle.tm_joint.proofs.Growing.{newest-push, sound-now, history-grows}
+
+-- the newest version's verdict
+abbrev pub JudgedNow : Scene → History → ℕ → Situation → Request → Verdict → Type 0
+JudgedNow scene history d now request v =
+    JudgedBy scene.grammar (newest scene history) d now request v
+
+-- the take that a look at the newest version begins, or goes on with
+abbrev pub begun_now : Scene → History → Situation → ℕ → Request → ℕ → List Look → Verdict
+    → InProgress
+begun_now scene history now d request retry looked v =
+    begun_at scene.grammar (length history) (newest scene history) now d request retry looked v
 
 -- a history as a player's
 abbrev at_history : Scene → History → Player

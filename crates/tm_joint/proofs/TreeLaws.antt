@@ -3,19 +3,9 @@ use Rattle.std.proofs.Common.{◌≡◌, ◌≤◌, ℕ, List, [], ◌∷◌, �
 use Rattle.std.specs.Prelude.{Some, IsSome, flat_map}
 use Rattle.std.specs.List.{AllByRecursion}
 use Rattle.std.proofs.lemmas.List.{length-map, map-append}
-use Rattle.tm_types.specs.declared.request.Ids.{Ids}
-use Rattle.tm_types.specs.declared.request.Item.{Item}
-use Rattle.tm_types.specs.declared.request.Request.{Request}
-use Rattle.tm_types.specs.declared.request.Tree.{Tree}
-use Rattle.tm_types.specs.declared.step.Take.{Take}
-use Rattle.tm_rules.specs.Policy.{live_domain}
-use Rattle.tm_rules.specs.Grammar.{IsGrammar}
-use Rattle.tm_legal.specs.Steps.{after}
-use Rattle.tm_legal.specs.Run.{History, Situation, Situations, with_situation, with_ids, forked, after_take, at_start, Case, tree_cases, do_pids, seen}
-use Rattle.tm_legal.specs.Legal.{Scene}
-use Rattle.tm_legal.specs.Cases.{IsLegalTake, TreePlayed}
-use Rattle.tm_legal.specs.Play.{IsOpened, passed}
-use Rattle.tm_legal.specs.Stages.{DomainIn}
+use Rattle.tm_rules.specs.Types.{Ids, Item, Request, Take, Tree}
+use Rattle.tm_rules.specs.Prelude.{IsGrammar, live_domain}
+use Rattle.tm_legal.specs.Prelude.{Case, DomainIn, History, IsLegalTake, IsOpened, Scene, Situation, Situations, TreePlayed, after, after_take, at_start, do_pids, forked, newest, passed, seen, tree_cases, with_ids, with_situation}
 use Rattle.tm_legal.proofs.Kept.{live_in, some_of}
 use Rattle.tm_legal.proofs.Asked.{All-append}
 use Rattle.tm_legal.proofs.Histories.{All-push, raised-le}
@@ -23,7 +13,7 @@ use Rattle.tm_legal.proofs.Looked.{longer}
 use Rattle.tm_legal.proofs.Walks.{All-map, AllAgree-later, AllAgree-with, IsLegalTake-later}
 use Rattle.tm_legal.proofs.Takes.{take-sees}
 use Rattle.tm_legal.proofs.Legality.{All-taken, tree-taken, tree_cases-none}
-use Rattle.tm_joint.specs.UnderWay.{newest, IsReplied, IsWalked}
+use Rattle.tm_joint.specs.UnderWay.{IsReplied, IsWalked}
 use Rattle.tm_joint.proofs.Growing.{sound-of, history-grows}
 
 -- Lines that make no step

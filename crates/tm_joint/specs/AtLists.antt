@@ -3,27 +3,9 @@
 -- others' steps have followed.
 use Rattle.std.specs.Prelude.{◌≡◌, ◌≤◌, ◌<◌, ℕ, suc, true, List, [], ◌∷◌, ◌++◌, length, flat_map, Some, IsSome}
 use Rattle.std.specs.List.{AllByRecursion}
-use Rattle.tm_types.specs.declared.request.Ids.{Ids}
-use Rattle.tm_types.specs.declared.request.Item.{Item}
-use Rattle.tm_types.specs.declared.request.Request.{Request}
-use Rattle.tm_types.specs.declared.request.Tree.{Tree}
-use Rattle.tm_types.specs.declared.verdict.Verdict.{Verdict}
-use Rattle.tm_types.specs.declared.step.Answered.{Answered}
-use Rattle.tm_types.specs.declared.step.Made.{Made}
-use Rattle.tm_types.specs.declared.step.Reply.{Reply}
-use Rattle.tm_types.specs.declared.step.Step.{Step}
-use Rattle.tm_types.specs.declared.step.Take.{Take}
-use Rattle.tm_rules.specs.Grammar.{Grammar, IsGrammar}
-use Rattle.tm_rules.specs.Policy.{live_domain}
-use Rattle.tm_rules.specs.Queries.{answer_of}
-use Rattle.tm_rules.specs.Requests.{is_request}
-use Rattle.tm_legal.specs.Steps.{State, apply, after}
-use Rattle.tm_legal.specs.Run.{Situation, Situations, with_situation, with_ids, forked, at_start, Case, do_pids, seen}
-use Rattle.tm_legal.specs.Legal.{Scene, opening_of, own_numbers}
-use Rattle.tm_legal.specs.Cases.{IsLegalTake, TreePlayed}
-use Rattle.tm_legal.specs.Needs.{IsJudged}
-use Rattle.tm_legal.specs.Play.{InProgress, Stage, IsOpened, passed, after_step, after_answer, taken}
-use Rattle.tm_legal.specs.Stages.{DomainIn}
+use Rattle.tm_rules.specs.Types.{Answered, Ids, Item, Made, Reply, Request, Step, Take, Tree, Verdict}
+use Rattle.tm_rules.specs.Prelude.{Grammar, IsGrammar, answer_of, is_request, live_domain}
+use Rattle.tm_legal.specs.Prelude.{Case, DomainIn, InProgress, IsJudged, IsLegalTake, IsOpened, Scene, Situation, Situations, Stage, State, TreePlayed, after, after_answer, after_step, apply, at_start, do_pids, forked, opening_of, own_numbers, passed, seen, taken, with_ids, with_situation}
 use Rattle.tm_made.specs.Made.{steps_made, history_made, IsFitted}
 use Rattle.tm_joint.specs.UnderWay.{JudgedBy, begun_at, IsUnderWay, IsWalked, own_so_far}
 

@@ -2,13 +2,8 @@
 -- and the counts of all passes.
 use Rattle.std.specs.Prelude.{◌≡◌, ℕ, ◌+◌, ◌≤◌, List, length, flat_map, Option, Some, sum_by}
 use Rattle.std.specs.List.{AllByRecursion}
-use Rattle.tm_types.specs.declared.step.Made.{Made}
-use Rattle.tm_types.specs.declared.step.Maker.{Maker}
-use Rattle.tm_types.specs.declared.step.Step.{Step}
-use Rattle.tm_types.specs.declared.step.Look.{Look}
-use Rattle.tm_types.specs.declared.step.Take.{Take}
-use Rattle.tm_types.specs.declared.step.Run.{Run}
-use Rattle.tm_legal.specs.Legal.{Scene, Legal, NoLookBeforeAttach, times}
+use Rattle.tm_rules.specs.Types.{Look, Made, Maker, Run, Step, Take}
+use Rattle.tm_legal.specs.Prelude.{Legal, NoLookBeforeAttach, Scene, times}
 use Rattle.tm_made.specs.Made.{history_made, IsFitted, made_step}
 use Rattle.tm_joint.specs.Makers.{EachClaims}
 use Rattle.tm_joint.specs.Played.{Row, row_own, RowHolds, EachRow, EditorDid, EachEditor, DeskActs}

@@ -2,10 +2,9 @@
 use Rattle.std.specs.Prelude.{◌≡◌, ⊤, ℕ, suc, Bool, false, List, [], ◌∷◌, Option, Some, None, ◌==◌, length, flat_map, sum_by}
 use Rattle.std.specs.Option.{option_map_or}
 use Rattle.std.specs.List.{AllByRecursion}
-use Rattle.tm_types.specs.declared.step.Made.{Made}
-use Rattle.tm_types.specs.declared.step.Maker.{Maker}
-use Rattle.tm_rules.specs.Queries.{numbered}
-use Rattle.tm_legal.specs.Legal.{RisesFrom, times}
+use Rattle.tm_rules.specs.Types.{Made, Maker}
+use Rattle.tm_rules.specs.Prelude.{numbered}
+use Rattle.tm_legal.specs.Prelude.{RisesFrom, times}
 use Rattle.tm_made.specs.Made.{numbers_from}
 
 -- these numbers rise and name steps whose makers belong to pass i

@@ -3,22 +3,10 @@
 use Rattle.std.specs.Prelude.{◌≡◌, ⊤, ℕ, suc, ◌<◌, ◌≤◌, ◌⊎◌, true, List, [], ◌∷◌, ◌++◌, length, map, flat_map, Option, Some, None, is_some, option_to_list}
 use Rattle.std.specs.Option.{IfSome}
 use Rattle.std.specs.List.{AllByRecursion}
-use Rattle.tm_word.specs.Words.{Text}
-use Rattle.tm_types.specs.declared.request.Tree.{Tree}
-use Rattle.tm_types.specs.declared.step.FileKind.{FileKind}
-use Rattle.tm_types.specs.declared.step.Step.{Step}
-use Rattle.tm_types.specs.declared.step.Made.{Made}
-use Rattle.tm_types.specs.declared.step.Query.{Query}
-use Rattle.tm_types.specs.declared.step.Book.{Book}
-use Rattle.tm_types.specs.declared.step.Editor.{Editor}
-use Rattle.tm_types.specs.declared.step.Take.{Take}
-use Rattle.tm_rules.specs.Words.{Trace}
-use Rattle.tm_rules.specs.Queries.{first_query}
-use Rattle.tm_rules.specs.Book.{book_answer, code_of}
-use Rattle.tm_legal.specs.Run.{seen}
-use Rattle.tm_legal.specs.Legal.{Scene, state_at, RisesFrom, own_numbers}
-use Rattle.tm_legal.specs.Play.{all_ended}
-use Rattle.tm_legal.specs.Cases.{TreePlayed}
+use Rattle.tm_word.specs.Prelude.{Text}
+use Rattle.tm_rules.specs.Types.{Book, Editor, FileKind, Made, Query, Step, Take, Tree}
+use Rattle.tm_rules.specs.Prelude.{Trace, book_answer, code_of, first_query}
+use Rattle.tm_legal.specs.Prelude.{RisesFrom, Scene, TreePlayed, all_ended, last_from, own_numbers, seen, state_at}
 use Rattle.tm_made.specs.Made.{history_made, made_step}
 
 -- Trees
@@ -86,11 +74,6 @@ abbrev pub AnswersFrom : Scene → List Made → Book → ℕ → List ℕ → T
 AnswersFrom scene list book last [] = ⊤
 AnswersFrom scene list book last (p ∷ answers) =
     AnswersFirst scene list book last p × AnswersFrom scene list book p answers
-
--- the last of these numbers, or the one before them
-abbrev pub last_from : ℕ → List ℕ → ℕ
-last_from n [] = n
-last_from n (m ∷ ms) = last_from m ms
 
 -- in a version since its last answer all trees had ended and no query was unanswered
 pub record AllWasDone (scene : Scene) (list : List Made) (last detach : ℕ) : Type 0 where

@@ -2,19 +2,9 @@
 -- lines.
 use Rattle.std.specs.Prelude.{◌≡◌, ⊤, ℕ, Bool, true, false, List, [], ◌∷◌, ◌++◌, length, map, if◌then◌else◌, ◌==◌}
 use Rattle.std.specs.List.{AllByRecursion}
-use Rattle.tm_types.specs.declared.request.Item.{Item}
-use Rattle.tm_types.specs.declared.step.Take.{Take}
-use Rattle.tm_legal.specs.Run.{History, Situation, with_ids, forked, after_take, Case, do_pids}
-use Rattle.tm_legal.specs.Legal.{Scene}
-use Rattle.tm_legal.specs.Cases.{IsLegalTake}
-use Rattle.tm_legal.specs.Stages.{Agrees}
-use Rattle.tm_joint.specs.UnderWay.{newest}
-
--- whose line it is: the parent's, where it forks
-abbrev pub pid_of_line : Item → ℕ
-pid_of_line (Item.Ids pid ids) = pid
-pid_of_line (Item.Fork pid child) = pid
-pid_of_line (Item.Do pid request) = pid
+use Rattle.tm_rules.specs.Types.{Item, Take}
+use Rattle.tm_legal.specs.Prelude.{Agrees, Case, History, IsLegalTake, Scene, Situation, after_take, do_pids, forked, newest, with_ids}
+use Rattle.tm_rules.specs.Prelude.{pid_of_line}
 
 -- a process's own lines, in order
 abbrev pub lines_of : ℕ → List Item → List Item

@@ -1,26 +1,9 @@
 -- A take and a tree on their way, by a history in which others' steps stand between their own.
 use Rattle.std.specs.Prelude.{◌≡◌, ℕ, ◌≤◌, true, List, ◌∷◌, ◌++◌, [], length, map, flat_map, Some, None, if◌then◌else◌}
 use Rattle.std.specs.List.{AllByRecursion}
-use Rattle.tm_types.specs.declared.request.Item.{Item}
-use Rattle.tm_types.specs.declared.request.Tree.{Tree}
-use Rattle.tm_types.specs.declared.request.Request.{Request}
-use Rattle.tm_types.specs.declared.verdict.Verdict.{Verdict}
-use Rattle.tm_types.specs.declared.step.Look.{Look}
-use Rattle.tm_types.specs.declared.step.Take.{Take}
-use Rattle.tm_rules.specs.Grammar.{Grammar}
-use Rattle.tm_rules.specs.Requests.{is_request}
-use Rattle.tm_rules.specs.Audit.{audit_text}
-use Rattle.tm_legal.specs.Verdict.{verdict, is_granting}
-use Rattle.tm_legal.specs.Steps.{State, after}
-use Rattle.tm_legal.specs.Run.{History, steps_of, Situation, Situations, Case, tree_cases, at_start, do_pids}
-use Rattle.tm_legal.specs.Legal.{Scene, Replies, opening_of, steps_of_line, steps_of_move}
-use Rattle.tm_legal.specs.Cases.{IsLegalTake}
-use Rattle.tm_legal.specs.Play.{InProgress, Stage, entered}
-use Rattle.tm_legal.specs.Stages.{DomainIn, RisesTo, StageHolds, AllAgree}
-
--- the state at a history's newest version
-abbrev pub newest : Scene → History → State
-newest scene history = after scene.grammar (opening_of scene) (steps_of history)
+use Rattle.tm_rules.specs.Types.{Item, Look, Request, Take, Tree, Verdict}
+use Rattle.tm_rules.specs.Prelude.{Grammar, audit_text, is_request}
+use Rattle.tm_legal.specs.Prelude.{AllAgree, Case, DomainIn, History, InProgress, IsLegalTake, Replies, RisesTo, Scene, Situation, Situations, Stage, StageHolds, State, after, at_start, do_pids, entered, is_granting, newest, opening_of, steps_of, steps_of_line, steps_of_move, tree_cases, verdict}
 
 -- each step of it fits at its place, and has its reply
 abbrev pub IsReplied : Scene → History → Type 0
@@ -30,11 +13,6 @@ IsReplied scene history = Replies scene.grammar (opening_of scene) history
 abbrev pub JudgedBy : Grammar → State → ℕ → Situation → Request → Verdict → Type 0
 JudgedBy g s d now request v =
     verdict g.is_path s.policy s.queries.attached d now.process request ≡ Some v
-
--- the newest version's verdict
-abbrev pub JudgedNow : Scene → History → ℕ → Situation → Request → Verdict → Type 0
-JudgedNow scene history d now request v =
-    JudgedBy scene.grammar (newest scene history) d now request v
 
 -- the take that a look at a version with that state begins, or goes on with after these looks
 abbrev pub begun_at : Grammar → ℕ → State → Situation → ℕ → Request → ℕ → List Look → Verdict
@@ -62,12 +40,6 @@ begun_at g version s now d request retry looked v =
           Stage.Owing
           (steps_of_line g d retry v ++ (if is_granting v.reason then steps_of_move d v else []));
     }
-
--- the take that a look at the newest version begins, or goes on with
-abbrev pub begun_now : Scene → History → Situation → ℕ → Request → ℕ → List Look → Verdict
-    → InProgress
-begun_now scene history now d request retry looked v =
-    begun_at scene.grammar (length history) (newest scene history) now d request retry looked v
 
 -- a take that has begun, from a floor: its process's domain is there, its request can be asked, its
 -- looks have risen from the floor, and all that it has seen, made and heard stands in the history

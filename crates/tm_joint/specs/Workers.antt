@@ -1,9 +1,8 @@
 -- Which pass makes whose steps: workers play trees, then come the editors, then the supervisor.
 use Rattle.std.specs.Prelude.{ℕ, suc, ◌+◌, ◌-◌, Bool, List, [], ◌∷◌, Option, Some, None, if◌then◌else◌, ◌==◌, option_map}
 use Rattle.std.specs.List.{list_any}
-use Rattle.tm_types.specs.declared.request.Tree.{Tree}
-use Rattle.tm_types.specs.declared.step.Maker.{Maker}
-use Rattle.tm_rules.specs.Words.{Trace}
+use Rattle.tm_rules.specs.Types.{Maker, Tree}
+use Rattle.tm_rules.specs.Prelude.{Trace}
 
 -- the number is in the list
 abbrev pub is_in : ℕ → List ℕ → Bool

@@ -1,5 +1,6 @@
 //! Joint runs: many activities make steps beside each other, each knowing of the others' by a list.
 //! Stands on tm_made; no code but functions without a body, on which the laws stand.
+//! Of its own: its law joins workers (tm_seat) and a supervisor (tm_serve) that are proved apart.
 //! Promises that a joint run is legal, in whatever order its steps came.
 #![tactic(auto)]
 

@@ -1,14 +1,9 @@
 //! Laws of takes, trees and processes that workers play beside each other, on functions whose only
 //! clauses they are.
 ghost use Rattle.std.specs.Prelude.{◌≡◌, ◌==◌, ℕ, List};
-ghost use Rattle.tm_types.specs.declared.request.Tree.{Tree};
-ghost use Rattle.tm_types.specs.declared.step.Made.{Made};
-ghost use Rattle.tm_types.specs.declared.step.Take.{Take};
-ghost use Rattle.tm_rules.specs.Grammar.{Grammar};
-ghost use Rattle.tm_legal.specs.Run.{History, Situation, Situations, at_start};
-ghost use Rattle.tm_legal.specs.Legal.{Scene};
-ghost use Rattle.tm_legal.specs.Cases.{IsLegalTake, TreePlayed};
-ghost use Rattle.tm_legal.specs.Play.{InProgress};
+ghost use Rattle.tm_rules.specs.Types.{Made, Take, Tree};
+ghost use Rattle.tm_rules.specs.Prelude.{Grammar};
+ghost use Rattle.tm_legal.specs.Prelude.{History, InProgress, IsLegalTake, Scene, Situation, Situations, TreePlayed, at_start};
 ghost use Rattle.tm_joint.specs.AtLists.{TakesGrow, DomainsStay, LooksAreJudged, LooksBegin, OwedStepsFit};
 ghost use Rattle.tm_joint.specs.AtLists.{StepsAreMade, AnswersAreHeard, RetriesAreJudged, LooksGoOn};
 ghost use Rattle.tm_joint.specs.AtLists.{EndedTakesAreLegal, OwnStepsAreNoted, TreesBegin, TreesGrow};

@@ -1,15 +1,9 @@
 -- A learned line has its parts.
 use Rattle.std.proofs.Common.{◌≡◌, Bool, true, false, refl}
 use Rattle.std.specs.Prelude.{None, if◌then◌else◌}
-use Rattle.tm_word.specs.Words.{Word}
-use Rattle.tm_word.specs.Printing.{literal}
-use Rattle.tm_types.specs.declared.unions.NameUnion.{NameUnion}
-use Rattle.tm_types.specs.declared.entry.Args.{Args}
-use Rattle.tm_types.specs.declared.entry.Entry.{Entry}
-use Rattle.tm_types.specs.declared.request.Request.{Request}
-use Rattle.tm_rules.specs.Condition.{is_execute}
-use Rattle.tm_rules.specs.Policy.{permission}
-use Rattle.tm_rules.specs.Learned.{learned_line}
+use Rattle.tm_word.specs.Prelude.{Word, literal}
+use Rattle.tm_rules.specs.Types.{Args, Entry, NameUnion, Request}
+use Rattle.tm_rules.specs.Prelude.{is_execute, learned_line, permission}
 use Rattle.tm_learn.specs.Parts.{execute_clauses, target_clauses, learned_clauses, learned_args}
 
 -- its arguments, one permission, and its conditions

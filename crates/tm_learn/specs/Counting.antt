@@ -1,7 +1,7 @@
 -- How many permissions an entry has.
 use Rattle.std.specs.Prelude.{ℕ, if◌then◌else◌, count_ones}
-use Rattle.tm_types.specs.declared.entry.Entry.{Entry}
-use Rattle.tm_rules.specs.Changes.{is_task}
+use Rattle.tm_rules.specs.Types.{Entry}
+use Rattle.tm_rules.specs.Prelude.{is_task}
 
 -- those of an entry that count; a task entry counts as none
 abbrev pub permissions_of : Entry → ℕ

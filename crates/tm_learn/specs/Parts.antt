@@ -1,15 +1,8 @@
 -- The parts of a learned line.
 use Rattle.std.specs.Prelude.{List, ◌++◌, if◌then◌else◌, slice_get}
-use Rattle.tm_word.specs.Words.{Word}
-use Rattle.tm_word.specs.Printing.{literal}
-use Rattle.tm_types.specs.declared.unions.NameUnion.{NameUnion}
-use Rattle.tm_types.specs.declared.entry.Args.{Args}
-use Rattle.tm_types.specs.declared.entry.Attr.{Attr}
-use Rattle.tm_types.specs.declared.entry.Clause.{Clause}
-use Rattle.tm_types.specs.declared.request.Attributes.{Attributes}
-use Rattle.tm_types.specs.declared.request.Request.{Request}
-use Rattle.tm_rules.specs.Condition.{is_execute}
-use Rattle.tm_rules.specs.Learned.{is_word}
+use Rattle.tm_word.specs.Prelude.{Word, literal}
+use Rattle.tm_rules.specs.Types.{Args, Attr, Attributes, Clause, NameUnion, Request}
+use Rattle.tm_rules.specs.Prelude.{is_execute, is_word}
 
 -- the real path and the first argument of an execute
 abbrev pub execute_clauses : Attributes → List Clause

@@ -1,25 +1,16 @@
 //! What is learned of a request, its line, and how many permissions a domain has.
 //! Stands on tm_rules, whose definitions it computes, and on tm_pattern for literal patterns.
+//! Of its own, below changes of entries, the index and verdicts, which take its lines and counts.
 //! Promises that the line is the defined one and grants its request, and that none is missed.
 #![tactic(auto)]
 
 ghost use Rattle.std.specs.Prelude.{◌≡◌, ◌<◌, ◌≤◌, ◌++◌, Bool, true, IsSome, IfOk, OnOk, slice_get, sum_by};
 ghost use Rattle.std.specs.Option.{option_copied};
-ghost use Rattle.tm_word.specs.Words.{Text};
-ghost use Rattle.tm_word.specs.Printing.{literal};
-ghost use Rattle.tm_types.specs.declared.entry.Attr.{Attr};
-ghost use Rattle.tm_types.specs.declared.unions.Groups.{Groups};
-ghost use Rattle.tm_types.specs.declared.policy.Namespace.{Namespace};
-ghost use Rattle.tm_types.specs.declared.request.Proc.{Proc};
-ghost use Rattle.tm_types.specs.declared.request.Request.{Request};
-ghost use Rattle.tm_rules.specs.Policy.{permission};
-ghost use Rattle.tm_rules.specs.Learned.{is_word, learned_line, line_of};
-ghost use Rattle.tm_rules.specs.Requests.{is_request};
-ghost use Rattle.tm_rules.specs.Search.{grants, searched};
-ghost use Rattle.tm_rules.specs.Changes.{count, is_task};
+ghost use Rattle.tm_word.specs.Prelude.{Text, literal};
+ghost use Rattle.tm_rules.specs.Types.{Attr, Groups, Namespace, Proc, Request};
+ghost use Rattle.tm_rules.specs.Prelude.{IsShort, count, grants, is_request, is_task, is_word, learned_line, line_of, permission, searched};
 ghost use Rattle.tm_learn.specs.Counting.{permissions_of};
 ghost use Rattle.tm_learn.specs.Parts.{execute_clauses, target_clauses, learned_clauses, learned_args};
-ghost use Rattle.tm_rules.specs.Few.{IsShort};
 
 use std::alloc::Global;
 use tm_list::{Copied, NoMemory, Seq};

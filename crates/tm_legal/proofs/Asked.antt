@@ -8,41 +8,10 @@ use Rattle.std.specs.Option.{option_map_or}
 use Rattle.std.specs.Int.Count.{ones, ones_in, ones_cat}
 use Rattle.std.proofs.lemmas.Nat.{pow_pos}
 use Rattle.std.proofs.lemmas.Bool.{and_parts}
-use Rattle.tm_word.specs.Words.{Text, Word, Pattern}
-use Rattle.tm_rules.specs.Words.{DomainName}
-use Rattle.tm_types.specs.declared.unions.NamePlace.{NamePlace}
-use Rattle.tm_types.specs.declared.entry.Args.{Args}
-use Rattle.tm_types.specs.declared.entry.Entry.{Entry}
-use Rattle.tm_types.specs.declared.policy.Function.{Function}
-use Rattle.tm_types.specs.declared.policy.Mode.{Mode}
-use Rattle.tm_types.specs.declared.policy.Namespace.{Namespace}
-use Rattle.tm_types.specs.declared.policy.Domain.{Domain}
-use Rattle.tm_types.specs.declared.policy.Profile.{Profile}
-use Rattle.tm_types.specs.declared.policy.Policy.{Policy}
-use Rattle.tm_types.specs.declared.request.Attributes.{Attributes}
-use Rattle.tm_types.specs.declared.request.Proc.{Proc}
-use Rattle.tm_types.specs.declared.request.Request.{Request}
-use Rattle.tm_types.specs.declared.step.Step.{Step}
-use Rattle.tm_types.specs.declared.verdict.Reason.{Reason}
-use Rattle.tm_types.specs.declared.verdict.Move.{Move}
-use Rattle.tm_types.specs.declared.verdict.Verdict.{Verdict}
-use Rattle.tm_rules.specs.Grammar.{Grammar, IsGrammar}
-use Rattle.tm_word.specs.Texts.{texts_equal}
-use Rattle.tm_rules.specs.Condition.{is_execute, is_manual}
-use Rattle.tm_types.specs.Functions.{function_of}
-use Rattle.tm_rules.specs.Mode.{mode_of}
-use Rattle.tm_word.specs.Matching.{matches, is_empty}
-use Rattle.tm_rules.specs.Policy.{live_domain, namespace_of, namespace_named, namespace_word, empty_namespace, permission}
-use Rattle.tm_rules.specs.Search.{Granting, aggregated, path_of, first}
-use Rattle.tm_rules.specs.Transition.{Decision, is_domain_name, can_enter, decision, candidate, target_name, is_strict}
-use Rattle.tm_rules.specs.Requests.{is_request, is_path_word, are_literal, has_its_attributes, has_bytes, bytes_if, has_exec, has_no_exec, is_symlink, may_have, is_stat}
-use Rattle.tm_word.specs.Spelling.{are_bytes}
-use Rattle.tm_rules.specs.Learned.{learned_line, line_of}
-use Rattle.tm_legal.specs.Verdict.{is_enforcing, denied, made, moving, by_entry, with_line, by_mode, move_to, is_ready, manual_verdict, execute_verdict, in_mode, verdict_in, verdict}
-use Rattle.tm_rules.specs.Changes.{is_task}
-use Rattle.tm_legal.specs.Steps.{fits_entry}
-use Rattle.tm_legal.specs.Legal.{steps_of_line, steps_of_move}
-use Rattle.tm_legal.specs.Stages.{NotAsk, LineFits, MoveFits, is_make, NoMake, EndsMake, DomainIn, Ready}
+use Rattle.tm_word.specs.Prelude.{Pattern, Text, Word, are_bytes, is_empty, matches, texts_equal}
+use Rattle.tm_rules.specs.Prelude.{Decision, DomainName, Grammar, Granting, IsGrammar, aggregated, are_literal, bytes_if, can_enter, candidate, decision, empty_namespace, first, has_bytes, has_exec, has_its_attributes, has_no_exec, is_domain_name, is_execute, is_manual, is_path_word, is_request, is_stat, is_strict, is_symlink, is_task, learned_line, line_of, live_domain, may_have, mode_of, namespace_named, namespace_of, namespace_word, path_of, permission, target_name}
+use Rattle.tm_rules.specs.Types.{Args, Attributes, Domain, Entry, Function, Mode, Move, NamePlace, Namespace, Policy, Proc, Profile, Reason, Request, Step, Verdict, function_of}
+use Rattle.tm_legal.specs.Prelude.{DomainIn, EndsMake, LineFits, MoveFits, NoMake, NotAsk, Ready, by_entry, by_mode, denied, execute_verdict, fits_entry, in_mode, is_enforcing, is_make, is_ready, made, manual_verdict, move_to, moving, steps_of_line, steps_of_move, verdict, verdict_in, with_line}
 use Rattle.tm_legal.proofs.Kept.{DomainIn-later, Keeps, Sound, Ready-later, live_in}
 
 -- Lists

@@ -2,18 +2,10 @@
 -- again is judged.
 use Rattle.std.proofs.Common.{◌≡◌, ℕ, [], ◌∷◌, true, refl, sym, subst, inl, inr}
 use Rattle.std.specs.Prelude.{Option, Some, IsSome, ◌⊎◌}
-use Rattle.tm_word.specs.Words.{Text}
-use Rattle.tm_types.specs.declared.request.Request.{Request}
-use Rattle.tm_types.specs.declared.step.Step.{Step}
-use Rattle.tm_rules.specs.Grammar.{Grammar, IsGrammar}
-use Rattle.tm_rules.specs.Requests.{is_request}
-use Rattle.tm_legal.specs.Verdict.{verdict}
-use Rattle.tm_legal.specs.Run.{History, Situation}
-use Rattle.tm_legal.specs.Steps.{State, apply}
-use Rattle.tm_legal.specs.Legal.{Scene}
-use Rattle.tm_legal.specs.Play.{Stage, InProgress}
-use Rattle.tm_legal.specs.Stages.{DomainIn, StageHolds, Settles, ToAsk}
-use Rattle.tm_legal.specs.Needs.{IsJudged, StageFits}
+use Rattle.tm_word.specs.Prelude.{Text}
+use Rattle.tm_rules.specs.Types.{Request, Step}
+use Rattle.tm_rules.specs.Prelude.{Grammar, IsGrammar, is_request}
+use Rattle.tm_legal.specs.Prelude.{DomainIn, History, InProgress, IsJudged, Scene, Settles, Situation, Stage, StageFits, StageHolds, State, ToAsk, apply, verdict}
 use Rattle.tm_legal.proofs.Kept.{Sound, ready-fits}
 use Rattle.tm_legal.proofs.Asked.{judged}
 

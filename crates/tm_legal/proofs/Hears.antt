@@ -2,19 +2,9 @@
 use Rattle.std.proofs.Common.{◌≡◌, ◌≤◌, ℕ, suc, [], ◌∷◌, ◌++◌, length, true, false, true≢false, refl, sym, ◌∙◌, subst, inl, le_refl}
 use Rattle.std.specs.Prelude.{Option, Some, None}
 use Rattle.std.specs.List.{AllByRecursion}
-use Rattle.tm_types.specs.declared.step.Step.{Step}
-use Rattle.tm_types.specs.declared.step.Reply.{Reply}
-use Rattle.tm_types.specs.declared.step.Held.{Held}
-use Rattle.tm_types.specs.declared.step.Answered.{Answered}
-use Rattle.tm_types.specs.declared.verdict.Reason.{Reason}
-use Rattle.tm_types.specs.declared.verdict.Move.{Move}
-use Rattle.tm_rules.specs.Queries.{Standing, numbered, answer_of}
-use Rattle.tm_legal.specs.Steps.{State}
-use Rattle.tm_legal.specs.Run.{History, reply_at}
-use Rattle.tm_legal.specs.Legal.{Scene, state_at, look_grants, steps_of_move, LookHears, Hears, is_retry, is_yes}
-use Rattle.tm_legal.specs.Cases.{LookDone}
-use Rattle.tm_legal.specs.Play.{InProgress, Stage, entered, with_own, with_heard, after_answer}
-use Rattle.tm_legal.specs.Stages.{DomainIn, Leads, FollowsTo, subject_now, Begins, ToAsk, Waits, StageHolds}
+use Rattle.tm_rules.specs.Types.{Answered, Held, Move, Reason, Reply, Step}
+use Rattle.tm_rules.specs.Prelude.{Standing, answer_of, numbered}
+use Rattle.tm_legal.specs.Prelude.{Begins, DomainIn, FollowsTo, Hears, History, InProgress, Leads, LookDone, LookHears, Scene, Stage, StageHolds, State, ToAsk, Waits, after_answer, entered, is_retry, is_yes, look_grants, reply_at, state_at, steps_of_move, subject_now, with_heard, with_own}
 use Rattle.tm_legal.proofs.Asked.{move-ready}
 use Rattle.tm_legal.proofs.Histories.{All-push, length-push, reply_at-last}
 use Rattle.tm_legal.proofs.Looked.{Looked-hears, look-done, own-done, asks-with, hears-answer, moves_after}

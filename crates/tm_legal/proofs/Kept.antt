@@ -5,26 +5,10 @@ use Rattle.std.specs.Prelude.{Option, Some, None, ◌&&◌, ◌==◌, cond, slic
 use Rattle.std.specs.List.{AllByRecursion, position_from}
 use Rattle.std.specs.Option.{option_map_or}
 use Rattle.std.proofs.lemmas.Bool.{eqb-true, and_parts}
-use Rattle.tm_word.specs.Words.{Text, Word, Pattern}
-use Rattle.tm_rules.specs.Words.{DomainName}
-use Rattle.tm_types.specs.declared.entry.Entry.{Entry}
-use Rattle.tm_types.specs.declared.policy.Namespace.{Namespace}
-use Rattle.tm_types.specs.declared.policy.Domain.{Domain}
-use Rattle.tm_types.specs.declared.policy.Policy.{Policy}
-use Rattle.tm_types.specs.declared.step.Step.{Step}
-use Rattle.tm_types.specs.declared.step.Reply.{Reply}
-use Rattle.tm_types.specs.declared.step.LearnReply.{LearnReply}
-use Rattle.tm_types.specs.declared.step.MakeReply.{MakeReply}
-use Rattle.tm_rules.specs.Grammar.{Grammar}
-use Rattle.tm_word.specs.Texts.{texts_equal}
-use Rattle.tm_rules.specs.Policy.{changed_at, domain_at, profile_of, live_domain, namespace_named, namespace_word}
-use Rattle.tm_rules.specs.Requests.{is_path_word}
-use Rattle.tm_rules.specs.Transition.{is_domain_name}
-use Rattle.tm_rules.specs.Edit.{new_domain}
-use Rattle.tm_rules.specs.Changes.{learned_domain, learn_reply, learn, made_new, make, fail}
-use Rattle.tm_legal.specs.Steps.{State, Applied, apply, on_policy, fits_entry}
-use Rattle.tm_legal.specs.Legal.{made_number}
-use Rattle.tm_legal.specs.Stages.{DomainIn, Ready}
+use Rattle.tm_word.specs.Prelude.{Pattern, Text, Word, texts_equal}
+use Rattle.tm_rules.specs.Prelude.{DomainName, Grammar, changed_at, domain_at, fail, is_domain_name, is_path_word, learn, learn_reply, learned_domain, live_domain, made_new, make, namespace_named, namespace_word, new_domain, profile_of}
+use Rattle.tm_rules.specs.Types.{Domain, Entry, LearnReply, MakeReply, Namespace, Policy, Reply, Step}
+use Rattle.tm_legal.specs.Prelude.{Applied, DomainIn, Ready, State, apply, fits_entry, made_number, on_policy}
 
 -- Texts and lists
 

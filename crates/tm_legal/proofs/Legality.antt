@@ -6,18 +6,9 @@ use Rattle.std.specs.List.{AllByRecursion}
 use Rattle.std.proofs.lemmas.Bool.{eqb-true}
 use Rattle.std.proofs.lemmas.List.{length-append, length-drop, length-map, length-take, map-append, take-append-drop}
 use Rattle.std.proofs.lemmas.Grind.{flat_map-append}
-use Rattle.tm_types.specs.declared.request.Item.{Item}
-use Rattle.tm_types.specs.declared.request.Tree.{Tree}
-use Rattle.tm_types.specs.declared.step.Look.{Look}
-use Rattle.tm_types.specs.declared.policy.Policy.{Policy}
-use Rattle.tm_types.specs.declared.step.Take.{Take}
-use Rattle.tm_types.specs.declared.step.Run.{Run}
-use Rattle.tm_rules.specs.Words.{Trace}
-use Rattle.tm_legal.specs.Steps.{State}
-use Rattle.tm_legal.specs.Run.{History, Situations, with_situation, with_ids, forked, after_take, at_start, Case, tree_cases, cases_from, do_pids, all_do_pids, seen, places}
-use Rattle.tm_legal.specs.Legal.{Scene, cases_of, TakesInOrder, subject_of, LooksRise, LookHolds, TakeHolds, OwnSteps, LookHears, TakeHears, EndsWith, last_look, own_numbers, times, is_end}
-use Rattle.tm_legal.specs.Cases.{LookDone, IsLegalTake, LegalTakesMakeLegalRuns, EachPlayed}
-use Rattle.tm_legal.specs.Play.{InProgress, Way}
+use Rattle.tm_rules.specs.Types.{Item, Look, Policy, Run, Take, Tree}
+use Rattle.tm_rules.specs.Prelude.{Trace}
+use Rattle.tm_legal.specs.Prelude.{Case, EndsWith, History, InProgress, IsLegalTake, LegalTakesMakeLegalRuns, LookDone, LookHears, LookHolds, LooksRise, OwnSteps, Scene, Situations, State, TakeHears, TakeHolds, TakesInOrder, Way, after_take, all_do_pids, at_start, cases_from, cases_of, do_pids, forked, is_end, last_look, own_numbers, places, seen, subject_of, times, tree_cases, with_ids, with_situation}
 use Rattle.tm_legal.proofs.Laws.{times-append}
 use Rattle.tm_legal.proofs.Asked.{All-append}
 use Rattle.tm_legal.proofs.Walks.{All-map, BegunHolds, EndsAs, is_over, WayHolds}
@@ -101,24 +92,6 @@ take-front (x ∷ xs) ys = ap (λ zs. x ∷ zs) (take-front xs ys)
 drop-front : {A : Type 0} (xs ys : List A) → drop (length xs) (xs ++ ys) ≡ ys
 drop-front [] ys = refl
 drop-front (x ∷ xs) ys = drop-front xs ys
-
--- the takes of each tree, tree by tree
-pub each-played : (scene : Scene) (history : History) (t : ℕ) (trees : Trace) (lists : List (List Take)) → EachPlayed scene history t trees lists → (map (λ (k : Take). k.pid) (flat_map (λ ks. ks) lists) ≡ all_do_pids trees) × AllByRecursion (IsLegalTake scene history) (cases_from t scene.policy trees (flat_map (λ ks. ks) lists))
-unfolding cases_from
-each-played scene history t [] [] h = (refl, tt)
-each-played scene history t [] (takes ∷ rest) h = absurd h
-each-played scene history t (tree ∷ trees) [] h = absurd h
-each-played scene history t (tree ∷ trees) (takes ∷ rest) h =
-    let later = each-played scene history (suc t) trees rest h.1 in
-    let others : List Take = flat_map (λ (ks : List Take). ks) rest in
-    let long : length (do_pids tree.records) ≡ length takes = sym (ap length h.0.pids) ∙ length-map takes (λ (k : Take). k.pid) in
-    let front : take (length (do_pids tree.records)) (takes ++ others) ≡ takes = rw long (take-front takes others) in
-    let back : drop (length (do_pids tree.records)) (takes ++ others) ≡ others = rw long (drop-front takes others) in (
-      rw (map-append (λ (k : Take). k.pid) takes others, h.0.pids, later.0) refl,
-      All-append (IsLegalTake scene history) (tree_cases t (at_start scene.policy tree) tree.records (take (length (do_pids tree.records)) (takes ++ others))) (cases_from (suc t) scene.policy trees (drop (length (do_pids tree.records)) (takes ++ others)))
-          (rw front h.0.cases)
-          (rw back later.1),
-    )
 
 -- Trees that are done
 

@@ -3,25 +3,10 @@ use Rattle.std.proofs.Common.{◌≡◌, ◌≤◌, ◌<◌, ℕ, suc, List, [],
 use Rattle.std.specs.Prelude.{Option, Some, None, if◌then◌else◌, unwrap_or, IfSome}
 use Rattle.std.specs.List.{AllByRecursion}
 use Rattle.std.proofs.lemmas.List.{length-append, map-append}
-use Rattle.tm_word.specs.Words.{Text}
-use Rattle.tm_types.specs.declared.step.Step.{Step}
-use Rattle.tm_types.specs.declared.step.Reply.{Reply}
-use Rattle.tm_types.specs.declared.step.MakeReply.{MakeReply}
-use Rattle.tm_types.specs.declared.step.Look.{Look}
-use Rattle.tm_types.specs.declared.step.Heard.{Heard}
-use Rattle.tm_types.specs.declared.policy.Mode.{Mode}
-use Rattle.tm_types.specs.declared.policy.Policy.{Policy}
-use Rattle.tm_types.specs.declared.verdict.Reason.{Reason}
-use Rattle.tm_types.specs.declared.verdict.Move.{Move}
-use Rattle.tm_types.specs.declared.verdict.Verdict.{Verdict}
-use Rattle.tm_legal.specs.Run.{History, step_at, reply_at, seen, heard_version}
-use Rattle.tm_legal.specs.Cases.{LookDone}
-use Rattle.tm_legal.specs.Play.{with_heard}
+use Rattle.tm_word.specs.Prelude.{Text}
+use Rattle.tm_rules.specs.Types.{Answered, Heard, Held, Look, MakeReply, Mode, Move, Policy, Reason, Reply, Step, Verdict}
+use Rattle.tm_legal.specs.Prelude.{AfterAnswer, AsksWith, DomainIn, Hears, History, Leads, LineFits, LookDone, LookHears, Looked, NotAsk, Scene, Subject, domain_after, heard_version, is_make, is_yes, last_number, look_grants, made_number, reply_at, retry_written, seen, step_at, steps_asked, steps_of_line, steps_of_move, with_heard}
 use Rattle.std.specs.Option.{option_map_or}
-use Rattle.tm_types.specs.declared.step.Held.{Held}
-use Rattle.tm_types.specs.declared.step.Answered.{Answered}
-use Rattle.tm_legal.specs.Legal.{Scene, Subject, AfterAnswer, steps_of_line, steps_of_move, steps_asked, retry_written, look_grants, is_yes, last_number, made_number, domain_after, Hears, LookHears, AsksWith}
-use Rattle.tm_legal.specs.Stages.{Looked, Leads, DomainIn, NotAsk, LineFits, is_make}
 use Rattle.tm_legal.proofs.Laws.{state_at-later, LookHolds-later}
 use Rattle.tm_legal.proofs.Kept.{DomainIn-later, Keeps}
 use Rattle.tm_legal.proofs.Asked.{ask_or_not, ask-line, same_line_steps, All-append}

@@ -1,10 +1,8 @@
 -- Whatever turns have led to it, a player has what the next event of each activity needs.
 use Rattle.std.proofs.Common.{List}
 use Rattle.std.specs.Prelude.{is_some}
-use Rattle.tm_types.specs.declared.step.Turn.{Turn}
-use Rattle.tm_legal.specs.Legal.{Scene}
-use Rattle.tm_legal.specs.Play.{CanPlay, start_of, turns, own_turns}
-use Rattle.tm_legal.specs.Needs.{CanGoOn}
+use Rattle.tm_rules.specs.Types.{Turn}
+use Rattle.tm_legal.specs.Prelude.{CanGoOn, CanPlay, Scene, own_turns, start_of, turns}
 use Rattle.tm_legal.proofs.OwnTurns.{start-goes, own-turns-go, goes-can, turns-are-own}
 
 -- whatever turns of its own have led to a player, it can go on

@@ -3,27 +3,10 @@ use Rattle.std.proofs.Common.{◌≡◌, ◌≤◌, ℕ, zero, suc, List, [], �
 use Rattle.std.specs.Prelude.{Option, Some, None, IsSome, option_map, slice_get, slice_set, if◌then◌else◌, ◌==◌, ◌||◌, unwrap_or, not, nat_lt, nat_le}
 use Rattle.std.specs.Option.{option_and_then, option_map_or}
 use Rattle.std.proofs.lemmas.Bool.{eqb-true, le-leb, leb-true, lt-ltb}
-use Rattle.tm_word.specs.Words.{Text}
-use Rattle.tm_rules.specs.Words.{DomainName, Cursor}
-use Rattle.tm_types.specs.declared.entry.Entry.{Entry}
-use Rattle.tm_types.specs.declared.policy.Domain.{Domain}
-use Rattle.tm_types.specs.declared.policy.Profile.{Profile}
-use Rattle.tm_types.specs.declared.policy.Policy.{Policy}
-use Rattle.tm_types.specs.declared.step.FileKind.{FileKind}
-use Rattle.tm_types.specs.declared.step.Step.{Step}
-use Rattle.tm_types.specs.declared.step.Reply.{Reply}
-use Rattle.tm_types.specs.declared.step.EditReply.{EditReply}
-use Rattle.tm_types.specs.declared.step.Editor.{Editor}
-use Rattle.tm_types.specs.declared.step.Held.{Held}
-use Rattle.tm_types.specs.declared.step.Answered.{Answered}
-use Rattle.tm_types.specs.declared.step.AnswerFault.{AnswerFault}
-use Rattle.tm_rules.specs.Grammar.{Grammar, IsGrammar}
-use Rattle.tm_rules.specs.Policy.{changed_at, domain_at, profile_of}
-use Rattle.tm_rules.specs.Edit.{Edited, apply_line, put_member}
-use Rattle.tm_rules.specs.Changes.{in_domain, learn, make, fail, is_manager}
-use Rattle.tm_rules.specs.Queries.{Standing, Queries, numbered, ask, answer, answer_coded, answer_fault, with_answer, attach, detach, closed}
-use Rattle.tm_legal.specs.Steps.{State, Applied, apply, unfit, on_policy, on_queries, fits_entry, fits_name, edit_step}
-use Rattle.tm_legal.specs.Stages.{DomainIn, Ready}
+use Rattle.tm_word.specs.Prelude.{Text}
+use Rattle.tm_rules.specs.Prelude.{Cursor, DomainName, Edited, Grammar, IsGrammar, Queries, Standing, answer, answer_coded, answer_fault, apply_line, ask, attach, changed_at, closed, detach, domain_at, fail, in_domain, is_manager, learn, make, numbered, profile_of, put_member, with_answer}
+use Rattle.tm_rules.specs.Types.{AnswerFault, Answered, Domain, EditReply, Editor, Entry, FileKind, Held, Policy, Profile, Reply, Step}
+use Rattle.tm_legal.specs.Prelude.{Applied, DomainIn, Ready, State, apply, edit_step, fits_entry, fits_name, on_policy, on_queries, unfit}
 use Rattle.tm_legal.proofs.Kept.{Sound, Keeps-refl, Evolves, Fits, ready-fits}
 use Rattle.tm_legal.proofs.Edits.{line-evolves}
 use Rattle.tm_legal.proofs.Walks.{StandingKeeps, is_over, Onward}

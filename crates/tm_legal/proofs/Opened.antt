@@ -5,36 +5,10 @@ use Rattle.std.specs.Prelude.{Option, Some, None, Ok, Err, Result, ◌&&◌, ◌
 use Rattle.std.specs.List.{list_any, position_from}
 use Rattle.std.specs.Option.{option_and_then, option_map_or}
 use Rattle.std.proofs.lemmas.Bool.{and_from, and_parts, eq-eqb}
-use Rattle.tm_word.specs.Words.{Text}
-use Rattle.tm_rules.specs.Words.{DomainName, Cursor}
-use Rattle.tm_types.specs.declared.entry.Entry.{Entry}
-use Rattle.tm_types.specs.declared.entry.LineKind.{LineKind}
-use Rattle.tm_types.specs.declared.policy.Domain.{Domain}
-use Rattle.tm_types.specs.declared.policy.Profile.{Profile}
-use Rattle.tm_types.specs.declared.policy.Policy.{Policy}
-use Rattle.tm_types.specs.declared.policy.DomainRule.{DomainRule}
-use Rattle.tm_types.specs.declared.policy.ExceptRule.{ExceptRule}
-use Rattle.tm_types.specs.declared.policy.ManagerRule.{ManagerRule}
-use Rattle.tm_types.specs.declared.policy.GroupLine.{GroupLine}
-use Rattle.tm_types.specs.declared.policy.PolicyLine.{PolicyLine}
-use Rattle.tm_types.specs.declared.step.FileKind.{FileKind}
-use Rattle.tm_types.specs.declared.step.EditReply.{EditReply}
-use Rattle.tm_types.specs.declared.step.Editor.{Editor}
-use Rattle.tm_types.specs.declared.step.Step.{Step}
-use Rattle.tm_types.specs.declared.step.LearnReply.{LearnReply}
-use Rattle.tm_rules.specs.Grammar.{Grammar, IsGrammar}
-use Rattle.tm_word.specs.Texts.{texts_equal}
-use Rattle.tm_rules.specs.Policy.{domain_at, profile_of, profile_numbered, live_domain, namespace_named, namespace_word, kernel, changed_at, at_key, adding, deleting, has_part}
-use Rattle.tm_rules.specs.Edit.{Edited, edited, refused, joining, leaving, put_key, remove_key, acl_group, with_group, changing_namespace, new_domain, chosen, on_chosen, changed_domain, removing, making_domain, choosing, selecting, dead, deleting_domain, domain_line, except_there, except_line, group_line, manager_line, apply_read, apply_parsed, apply_line}
-use Rattle.tm_rules.specs.Transition.{is_domain_name}
-use Rattle.tm_rules.specs.Changes.{in_domain, learned_domain, learn_reply, learn, made_new, make, fail, is_manager}
-use Rattle.tm_types.specs.declared.step.MakeReply.{MakeReply}
-use Rattle.tm_types.specs.declared.step.Run.{Run}
-use Rattle.tm_legal.specs.Steps.{State, apply, after, fits_entry, fits_name, edit_step}
-use Rattle.tm_legal.specs.Run.{steps_of}
-use Rattle.tm_legal.specs.Legal.{Scene, opening_of, final_policy}
-use Rattle.tm_legal.specs.Play.{IsOpened, CanPlay}
-use Rattle.tm_legal.specs.Stages.{DomainIn}
+use Rattle.tm_word.specs.Prelude.{Text, texts_equal}
+use Rattle.tm_rules.specs.Prelude.{Cursor, DomainName, Edited, Grammar, IsGrammar, acl_group, adding, apply_line, apply_parsed, apply_read, at_key, changed_at, changed_domain, changing_namespace, choosing, chosen, dead, deleting, deleting_domain, domain_at, domain_line, edited, except_line, except_there, fail, group_line, has_part, in_domain, is_domain_name, is_manager, joining, kernel, learn, learn_reply, learned_domain, leaving, live_domain, made_new, make, making_domain, manager_line, namespace_named, namespace_word, new_domain, on_chosen, profile_numbered, profile_of, put_key, refused, remove_key, removing, selecting, with_group}
+use Rattle.tm_rules.specs.Types.{Domain, DomainRule, EditReply, Editor, Entry, ExceptRule, FileKind, GroupLine, LearnReply, LineKind, MakeReply, ManagerRule, Policy, PolicyLine, Profile, Run, Step}
+use Rattle.tm_legal.specs.Prelude.{CanPlay, DomainIn, IsOpened, Scene, State, after, apply, edit_step, final_policy, fits_entry, fits_name, opening_of, steps_of}
 use Rattle.tm_legal.proofs.Kept.{Sound, ready-fits, same_texts, position_holds}
 use Rattle.tm_legal.proofs.Edits.{line-evolves}
 

@@ -6,30 +6,10 @@ use Rattle.std.specs.Option.{option_and_then, option_map_or}
 use Rattle.std.specs.List.{AllByRecursion, list_all, list_any}
 use Rattle.std.proofs.lemmas.Bool.{and_parts}
 use Rattle.std.proofs.lemmas.Option.{slice_get_within}
-use Rattle.tm_word.specs.Words.{Text}
-use Rattle.tm_types.specs.declared.policy.Policy.{Policy}
-use Rattle.tm_types.specs.declared.request.Request.{Request}
-use Rattle.tm_types.specs.declared.request.Item.{Item}
-use Rattle.tm_types.specs.declared.request.Tree.{Tree}
-use Rattle.tm_types.specs.declared.step.Answered.{Answered}
-use Rattle.tm_types.specs.declared.step.Book.{Book}
-use Rattle.tm_types.specs.declared.step.Editor.{Editor}
-use Rattle.tm_types.specs.declared.step.FileKind.{FileKind}
-use Rattle.tm_types.specs.declared.step.Held.{Held}
-use Rattle.tm_types.specs.declared.step.Look.{Look}
-use Rattle.tm_types.specs.declared.step.Reply.{Reply}
-use Rattle.tm_types.specs.declared.step.Step.{Step}
-use Rattle.tm_types.specs.declared.step.Turn.{Turn}
-use Rattle.tm_rules.specs.Grammar.{IsGrammar}
-use Rattle.tm_rules.specs.Policy.{live_domain}
-use Rattle.tm_rules.specs.Queries.{answer_of}
-use Rattle.tm_rules.specs.Requests.{is_request, item_is_request}
-use Rattle.tm_legal.specs.Steps.{State, apply, after}
-use Rattle.tm_legal.specs.Run.{History, Situation, Situations, steps_of, with_situation, with_ids, forked, at_start}
-use Rattle.tm_legal.specs.Legal.{Scene, opening_of, state_at}
-use Rattle.tm_legal.specs.Play.{Stage, InProgress, Way, Player, Settled, start_of, settle, passed, taken, ended_way, going_on, look_at, on_way, end_tree, first_look, after_step, after_answer, stage_event, take_event, tree_event, line_event, editor_event, supervisor_step, player_event, desk_turn, event, turn, turns, own_turn, own_turns, CanPlay, IsNamed}
-use Rattle.tm_legal.specs.Stages.{DomainIn, Begins, Settles, ToAsk, Waits, StageHolds}
-use Rattle.tm_legal.specs.Needs.{NextIsJudged, TreeFits, CanGoOn}
+use Rattle.tm_word.specs.Prelude.{Text}
+use Rattle.tm_rules.specs.Types.{Answered, Book, Editor, FileKind, Held, Item, Look, Policy, Reply, Request, Step, Tree, Turn}
+use Rattle.tm_rules.specs.Prelude.{IsGrammar, answer_of, is_request, item_is_request, live_domain}
+use Rattle.tm_legal.specs.Prelude.{Begins, CanGoOn, CanPlay, DomainIn, History, InProgress, IsNamed, NextIsJudged, Player, Scene, Settled, Settles, Situation, Situations, Stage, StageHolds, State, ToAsk, TreeFits, Waits, Way, after, after_answer, after_step, apply, at_start, desk_turn, editor_event, end_tree, ended_way, event, first_look, forked, going_on, line_event, look_at, on_way, opening_of, own_turn, own_turns, passed, player_event, settle, stage_event, start_of, state_at, steps_of, supervisor_step, take_event, taken, tree_event, turn, turns, with_ids, with_situation}
 use Rattle.tm_legal.proofs.Kept.{Sound, DomainIn-later, Fits, ready-fits, live_in, some_of}
 use Rattle.tm_legal.proofs.Histories.{state_at-newest}
 use Rattle.tm_legal.proofs.Plays.{some-then, some-all, start-good}

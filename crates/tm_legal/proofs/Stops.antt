@@ -6,16 +6,10 @@ use Rattle.std.specs.Option.{option_and_then}
 use Rattle.std.proofs.lemmas.List.{map-append}
 use Rattle.std.proofs.lemmas.Option.{slice_get_within}
 use Rattle.std.proofs.lemmas.Bool.{cases_lt, eq-eqb}
-use Rattle.tm_word.specs.Words.{Text}
-use Rattle.tm_types.specs.declared.step.FileKind.{FileKind}
-use Rattle.tm_types.specs.declared.step.Book.{Book}
-use Rattle.tm_types.specs.declared.step.Turn.{Turn}
-use Rattle.tm_types.specs.declared.step.Editor.{Editor}
-use Rattle.tm_rules.specs.Queries.{numbered, first_query}
-use Rattle.tm_legal.specs.Run.{cases_from, do_pids, places}
-use Rattle.tm_legal.specs.Legal.{Scene, Legal, state_at, is_of_supervisor, lines_of_editor, SupervisorActs, Supervised, TreesEnd, is_answer, is_some_end}
-use Rattle.tm_legal.specs.Cases.{IsLegalTake}
-use Rattle.tm_legal.specs.Play.{Player, Way, run_of, tree_event, editor_event, desk_turn, player_event, event, numbers_to, NobodyCanMove, CanPlay, HasEnded, IsFinished}
+use Rattle.tm_word.specs.Prelude.{Text}
+use Rattle.tm_rules.specs.Types.{Book, Editor, FileKind, Turn}
+use Rattle.tm_rules.specs.Prelude.{first_query, numbered}
+use Rattle.tm_legal.specs.Prelude.{CanPlay, HasEnded, IsFinished, IsLegalTake, Legal, NobodyCanMove, Player, Scene, Supervised, SupervisorActs, TreesEnd, Way, cases_from, desk_turn, do_pids, editor_event, event, is_answer, is_of_supervisor, is_some_end, lines_of_editor, numbers_to, places, player_event, run_of, state_at, tree_event}
 use Rattle.tm_legal.proofs.Histories.{All-push}
 use Rattle.tm_legal.proofs.Walks.{All-map, is_over, WayHolds}
 use Rattle.tm_legal.proofs.Counts.{way-at}

@@ -5,23 +5,10 @@ use Rattle.std.specs.Prelude.{Option, Some, None, slice_get, slice_set, if◌the
 use Rattle.std.specs.List.{AllByRecursion, list_all}
 use Rattle.std.specs.Option.{option_map_or}
 use Rattle.std.proofs.lemmas.Bool.{and_parts}
-use Rattle.tm_word.specs.Words.{Text}
-use Rattle.tm_types.specs.declared.policy.Policy.{Policy}
-use Rattle.tm_types.specs.declared.request.Item.{Item}
-use Rattle.tm_types.specs.declared.step.Step.{Step}
-use Rattle.tm_types.specs.declared.step.Reply.{Reply}
-use Rattle.tm_types.specs.declared.step.Held.{Held}
-use Rattle.tm_types.specs.declared.step.Answered.{Answered}
-use Rattle.tm_types.specs.declared.step.Look.{Look}
-use Rattle.tm_rules.specs.Requests.{is_request, item_is_request}
-use Rattle.tm_rules.specs.Grammar.{Grammar, IsGrammar}
-use Rattle.tm_rules.specs.Queries.{Standing, first_query, first_unanswered, numbered, answer_of}
-use Rattle.tm_legal.specs.Steps.{State, Applied, apply}
-use Rattle.tm_legal.specs.Run.{Situations, step_at, do_pids, seen, raised}
-use Rattle.tm_legal.specs.Legal.{Scene, state_at, steps_of_move, own_numbers, times, times_owned, is_own, is_end, is_attach, is_detach, is_answer, is_of_supervisor, is_some_end, LookHears, is_retry, edit_line}
-use Rattle.tm_legal.specs.Cases.{LookDone}
-use Rattle.tm_legal.specs.Play.{Player, InProgress, Stage, Way, on_way, after_step, after_answer, going_on, passed, first_look, stage_event, take_event, tree_event, retries_of, looks_left, steps_left, stage_left, way_left, unanswered, play_left}
-use Rattle.tm_legal.specs.Stages.{DomainIn, Ready, subject_now, Begins, Settles, ToAsk, Waits, StageHolds}
+use Rattle.tm_word.specs.Prelude.{Text}
+use Rattle.tm_rules.specs.Types.{Answered, Held, Item, Look, Policy, Reply, Step}
+use Rattle.tm_rules.specs.Prelude.{Grammar, IsGrammar, Standing, answer_of, first_query, first_unanswered, is_request, item_is_request, numbered}
+use Rattle.tm_legal.specs.Prelude.{Applied, Begins, DomainIn, InProgress, LookDone, LookHears, Player, Ready, Scene, Settles, Situations, Stage, StageHolds, State, ToAsk, Waits, Way, after_answer, after_step, apply, do_pids, edit_line, first_look, going_on, is_answer, is_attach, is_detach, is_end, is_of_supervisor, is_own, is_retry, is_some_end, looks_left, on_way, own_numbers, passed, play_left, raised, retries_of, seen, stage_event, stage_left, state_at, step_at, steps_left, steps_of_move, subject_now, take_event, times, times_owned, tree_event, unanswered, way_left}
 use Rattle.tm_legal.proofs.Laws.{times-append}
 use Rattle.tm_legal.proofs.Kept.{Fits, ready-fits}
 use Rattle.tm_legal.proofs.Asked.{move-ready}

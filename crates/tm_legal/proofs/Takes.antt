@@ -4,32 +4,9 @@ use Rattle.std.specs.Prelude.{Option, Some, None, if◌then◌else◌, unwrap_or
 use Rattle.std.specs.List.{AllByRecursion, list_all}
 use Rattle.std.proofs.lemmas.List.{length-append, map-append}
 use Rattle.std.proofs.lemmas.Bool.{and_parts}
-use Rattle.tm_rules.specs.Words.{DomainName}
-use Rattle.tm_types.specs.declared.unions.NamePlace.{NamePlace}
-use Rattle.tm_types.specs.declared.entry.Entry.{Entry}
-use Rattle.tm_types.specs.declared.policy.Mode.{Mode}
-use Rattle.tm_types.specs.declared.policy.Policy.{Policy}
-use Rattle.tm_types.specs.declared.request.Request.{Request}
-use Rattle.tm_types.specs.declared.request.Item.{Item}
-use Rattle.tm_types.specs.declared.request.Tree.{Tree}
-use Rattle.tm_types.specs.declared.step.Step.{Step}
-use Rattle.tm_types.specs.declared.step.Reply.{Reply}
-use Rattle.tm_types.specs.declared.step.Heard.{Heard}
-use Rattle.tm_types.specs.declared.step.Look.{Look}
-use Rattle.tm_types.specs.declared.step.Take.{Take}
-use Rattle.tm_types.specs.declared.verdict.Reason.{Reason}
-use Rattle.tm_types.specs.declared.verdict.Move.{Move}
-use Rattle.tm_types.specs.declared.verdict.Verdict.{Verdict}
-use Rattle.tm_rules.specs.Requests.{is_request, item_is_request}
-use Rattle.tm_rules.specs.Grammar.{Grammar, IsGrammar}
-use Rattle.tm_legal.specs.Verdict.{is_granting}
-use Rattle.tm_legal.specs.Steps.{State}
-use Rattle.tm_rules.specs.Audit.{audit_text}
-use Rattle.tm_legal.specs.Run.{History, Situation, Situations, with_situation, after_take, at_start, Case, tree_cases, do_pids, seen, places}
-use Rattle.tm_legal.specs.Legal.{Scene, Subject, subject_of, state_at, look_grants, grants_with, domain_after, steps_of_line, steps_of_move, steps_asked, made_number, opening_of, AfterAnswer, LookHears, last_look, is_end}
-use Rattle.tm_legal.specs.Cases.{LookDone, IsLegalTake}
-use Rattle.tm_legal.specs.Play.{InProgress, Stage, Way, Player, taken, ended_way, going_on, look_at, entered, after_step}
-use Rattle.tm_legal.specs.Stages.{DomainIn, Ready, NotAsk, LineFits, NoMake, is_make, MoveFits, Leads, AllAgree, RisesTo, FollowsTo, subject_now, Begins, Settles, ToAsk, StageHolds}
+use Rattle.tm_rules.specs.Prelude.{DomainName, Grammar, IsGrammar, audit_text, is_request, item_is_request}
+use Rattle.tm_rules.specs.Types.{Entry, Heard, Item, Look, Mode, Move, NamePlace, Policy, Reason, Reply, Request, Step, Take, Tree, Verdict}
+use Rattle.tm_legal.specs.Prelude.{AfterAnswer, AllAgree, Begins, Case, DomainIn, FollowsTo, History, InProgress, IsLegalTake, Leads, LineFits, LookDone, LookHears, MoveFits, NoMake, NotAsk, Player, Ready, RisesTo, Scene, Settles, Situation, Situations, Stage, StageHolds, State, Subject, ToAsk, Way, after_step, after_take, at_start, do_pids, domain_after, ended_way, entered, going_on, grants_with, is_end, is_granting, is_make, last_look, look_at, look_grants, made_number, opening_of, places, seen, state_at, steps_asked, steps_of_line, steps_of_move, subject_now, subject_of, taken, tree_cases, with_situation}
 use Rattle.tm_legal.proofs.Plays.{IsTrueTo}
 use Rattle.tm_legal.proofs.Kept.{Sound, Ready-later, RepliesTo}
 use Rattle.tm_legal.proofs.Asked.{ask_or_not, ask-line, NoMake-append, EndsMake-append, judged, owed-ready, line-ready, All-append}

@@ -5,24 +5,9 @@ use Rattle.std.specs.Prelude.{Option, Some, None, slice_get, slice_set, if◌the
 use Rattle.std.specs.List.{AllByRecursion, list_all}
 use Rattle.std.proofs.lemmas.Bool.{and_parts, eq-eqb, ne_eqb}
 use Rattle.std.proofs.lemmas.Option.{slice_get_within}
-use Rattle.tm_types.specs.declared.request.Request.{Request}
-use Rattle.tm_types.specs.declared.request.Item.{Item}
-use Rattle.tm_types.specs.declared.request.Tree.{Tree}
-use Rattle.tm_types.specs.declared.step.Step.{Step}
-use Rattle.tm_types.specs.declared.step.Reply.{Reply}
-use Rattle.tm_types.specs.declared.step.Look.{Look}
-use Rattle.tm_types.specs.declared.step.Take.{Take}
-use Rattle.tm_types.specs.declared.verdict.Verdict.{Verdict}
-use Rattle.tm_rules.specs.Requests.{is_request, item_is_request}
-use Rattle.tm_rules.specs.Queries.{first_query}
-use Rattle.tm_rules.specs.Edit.{put_member}
-use Rattle.tm_legal.specs.Steps.{State, Applied, apply}
-use Rattle.tm_legal.specs.Run.{History, Situation, Situations, do_pids, seen, places, Case}
-use Rattle.tm_legal.specs.Legal.{Scene, subject_of, own_numbers, times, is_end, is_attach}
-use Rattle.tm_rules.specs.Grammar.{IsGrammar}
-use Rattle.tm_legal.specs.Cases.{LookDone, IsLegalTake}
-use Rattle.tm_legal.specs.Play.{Player, Settled, InProgress, Stage, Way, settle, on_way, going_on, first_look, end_tree, retries_of, looks_left, steps_left, stage_left, way_left, ways_left, lines_left, unanswered, desk_left, left_with, play_left}
-use Rattle.tm_legal.specs.Stages.{Settles, ToAsk}
+use Rattle.tm_rules.specs.Types.{Item, Look, Reply, Request, Step, Take, Tree, Verdict}
+use Rattle.tm_rules.specs.Prelude.{IsGrammar, first_query, is_request, item_is_request, put_member}
+use Rattle.tm_legal.specs.Prelude.{Applied, Case, History, InProgress, IsLegalTake, LookDone, Player, Scene, Settled, Settles, Situation, Situations, Stage, State, ToAsk, Way, apply, desk_left, do_pids, end_tree, first_look, going_on, is_attach, is_end, left_with, lines_left, looks_left, on_way, own_numbers, places, play_left, retries_of, seen, settle, stage_left, steps_left, subject_of, times, unanswered, way_left, ways_left}
 use Rattle.tm_legal.proofs.Laws.{times-append}
 use Rattle.tm_legal.proofs.Histories.{places-push}
 use Rattle.tm_legal.proofs.Walks.{All-map, is_over, EndsAs, WayHolds, WayHolds-onward, WayHolds-later, Stands}

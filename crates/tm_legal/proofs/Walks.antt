@@ -4,22 +4,9 @@ use Rattle.std.proofs.Common.{◌≡◌, ◌≤◌, ◌<◌, ℕ, suc, List, [],
 use Rattle.std.specs.Prelude.{Option, Some, None, if◌then◌else◌, ◌==◌, IfSome, flat_map}
 use Rattle.std.specs.List.{AllByRecursion, list_all, list_any}
 use Rattle.std.proofs.lemmas.Bool.{eqb-true}
-use Rattle.tm_types.specs.declared.policy.Policy.{Policy}
-use Rattle.tm_types.specs.declared.request.Ids.{Ids}
-use Rattle.tm_types.specs.declared.request.Item.{Item}
-use Rattle.tm_types.specs.declared.request.Tree.{Tree}
-use Rattle.tm_types.specs.declared.step.Step.{Step}
-use Rattle.tm_types.specs.declared.step.Reply.{Reply}
-use Rattle.tm_types.specs.declared.step.Look.{Look}
-use Rattle.tm_types.specs.declared.step.Take.{Take}
-use Rattle.tm_rules.specs.Requests.{item_is_request}
-use Rattle.tm_rules.specs.Queries.{Standing, numbered}
-use Rattle.tm_legal.specs.Steps.{State}
-use Rattle.tm_legal.specs.Run.{History, Situation, Situations, with_situation, with_ids, forked, at_start, Case, tree_cases, do_pids, seen, raised, places}
-use Rattle.tm_legal.specs.Legal.{Scene, Subject, subject_of, LooksRise, LooksFollow, AsksWith, EndsWith, is_retry, is_end, last_look}
-use Rattle.tm_legal.specs.Cases.{LookDone, IsLegalTake}
-use Rattle.tm_legal.specs.Play.{InProgress, Stage, Way, passed, retries_of}
-use Rattle.tm_legal.specs.Stages.{Agrees, AllAgree, RisesTo, FollowsTo, subject_now, Begins, Settles, StageHolds, Ready}
+use Rattle.tm_rules.specs.Types.{Ids, Item, Look, Policy, Reply, Step, Take, Tree}
+use Rattle.tm_rules.specs.Prelude.{Standing, item_is_request, numbered}
+use Rattle.tm_legal.specs.Prelude.{Agrees, AllAgree, AsksWith, Begins, Case, EndsWith, FollowsTo, History, InProgress, IsLegalTake, LookDone, LooksFollow, LooksRise, Ready, RisesTo, Scene, Settles, Situation, Situations, Stage, StageHolds, State, Subject, Way, at_start, do_pids, forked, is_end, is_retry, last_look, passed, places, raised, retries_of, seen, subject_now, subject_of, tree_cases, with_ids, with_situation}
 use Rattle.tm_legal.proofs.Laws.{state_at-later}
 use Rattle.tm_legal.proofs.Kept.{DomainIn-later, Keeps, Evolves, Ready-later}
 use Rattle.tm_legal.proofs.Asked.{MoveFits-later}

@@ -1,12 +1,8 @@
 -- When one take is legal, and when all takes of a tree are: by their own lines and a history alone.
-use Rattle.std.specs.Prelude.{◌≡◌, ⊤, ℕ, suc, ◌<◌, ◌≤◌, List, [], ◌∷◌, length, map, Some}
+use Rattle.std.specs.Prelude.{◌≡◌, ℕ, ◌<◌, ◌≤◌, List, [], ◌∷◌, length, map, Some}
 use Rattle.std.specs.Option.{IfSome}
 use Rattle.std.specs.List.{AllByRecursion}
-use Rattle.tm_types.specs.declared.request.Tree.{Tree}
-use Rattle.tm_types.specs.declared.step.Look.{Look}
-use Rattle.tm_types.specs.declared.step.Take.{Take}
-use Rattle.tm_types.specs.declared.step.Run.{Run}
-use Rattle.tm_rules.specs.Words.{Trace}
+use Rattle.tm_rules.specs.Types.{Look, Run, Take, Tree}
 use Rattle.tm_legal.specs.Run.{Case, History, seen, at_start, tree_cases, do_pids, all_do_pids}
 use Rattle.tm_legal.specs.Legal.{Scene, Subject, subject_of, LookHolds, OwnSteps, LookHears, LooksRise, LooksFollow, EndsWith, last_look, EachCase, StepsHavePlaces, SupervisorActs, Legal}
 
@@ -43,11 +39,3 @@ pub record TreePlayed (scene : Scene) (history : History) (t : ℕ) (tree : Tree
   pub pids : map (λ (k : Take). k.pid) takes ≡ do_pids tree.records
   pub cases : AllByRecursion (IsLegalTake scene history)
       (tree_cases t (at_start scene.policy tree) tree.records takes)
-
--- of each tree of a trace with its takes, where the first tree has number t
-abbrev pub EachPlayed : Scene → History → ℕ → Trace → List (List Take) → Type 0
-EachPlayed scene history t [] [] = ⊤
-EachPlayed scene history t [] (takes ∷ rest) = ⊥
-EachPlayed scene history t (tree ∷ trees) [] = ⊥
-EachPlayed scene history t (tree ∷ trees) (takes ∷ rest) =
-    TreePlayed scene history t tree takes × EachPlayed scene history (suc t) trees rest

@@ -3,25 +3,9 @@
 use Rattle.std.specs.Prelude.{◌≡◌, ◌≤◌, ◌⊎◌, ℕ, suc, Bool, true, false, ◌&&◌, List, [], ◌∷◌, ◌++◌, length, map, Option, Some, None, IsSome}
 use Rattle.std.specs.Option.{IfSome}
 use Rattle.std.specs.List.{AllByRecursion}
-use Rattle.tm_word.specs.Words.{Text}
-use Rattle.tm_word.specs.Texts.{texts_equal}
-use Rattle.tm_rules.specs.Words.{DomainName}
-use Rattle.tm_types.specs.declared.entry.Entry.{Entry}
-use Rattle.tm_types.specs.declared.policy.Domain.{Domain}
-use Rattle.tm_types.specs.declared.policy.Profile.{Profile}
-use Rattle.tm_types.specs.declared.policy.Policy.{Policy}
-use Rattle.tm_types.specs.declared.verdict.Reason.{Reason}
-use Rattle.tm_types.specs.declared.verdict.Move.{Move}
-use Rattle.tm_types.specs.declared.verdict.Verdict.{Verdict}
-use Rattle.tm_types.specs.declared.step.Step.{Step}
-use Rattle.tm_types.specs.declared.step.Reply.{Reply}
-use Rattle.tm_types.specs.declared.step.Held.{Held}
-use Rattle.tm_types.specs.declared.step.Look.{Look}
-use Rattle.tm_rules.specs.Grammar.{Grammar}
-use Rattle.tm_rules.specs.Policy.{domain_at, profile_of, namespace_word}
-use Rattle.tm_rules.specs.Transition.{is_domain_name}
-use Rattle.tm_rules.specs.Audit.{audit_text}
-use Rattle.tm_rules.specs.Queries.{Standing, numbered}
+use Rattle.tm_word.specs.Prelude.{Text, texts_equal}
+use Rattle.tm_rules.specs.Prelude.{DomainName, Grammar, Standing, audit_text, domain_at, is_domain_name, namespace_word, numbered, profile_of}
+use Rattle.tm_rules.specs.Types.{Domain, Entry, Held, Look, Move, Policy, Profile, Reason, Reply, Step, Verdict}
 use Rattle.tm_legal.specs.Steps.{State, fits_entry}
 use Rattle.tm_legal.specs.Run.{History, Situation, Situations, step_at, reply_at, seen, raised}
 use Rattle.tm_legal.specs.Legal.{Scene, Subject, state_at, verdict_at, IsShown, RisesFrom, MakesAfterYes, steps_asked, look_grants, last_number, made_number, LookHears, AsksWith, is_retry}

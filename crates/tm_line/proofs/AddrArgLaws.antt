@@ -3,7 +3,7 @@ use Rattle.std.proofs.Common.{◌≡◌, ℕ, ◌+◌, ◌-◌, ◌*◌, ◌/◌
 use Rattle.std.proofs.lemmas.Bool.{eqb-true, ltb-true, lt-ltb, leb-true, le-leb}
 use Rattle.std.specs.List.{list_any, position, slice_split}
 use Rattle.std.specs.Str.Parse.{digits_value}
-use Rattle.tm_word.specs.Words.{Text}
+use Rattle.tm_word.specs.Prelude.{Text, begins_with_byte}
 use Rattle.tm_addr.specs.Addr.{Addr}
 use Rattle.tm_addr.specs.AddrRange.{AddrRange}
 use Rattle.tm_addr.specs.Addresses.{addr_le}
@@ -23,7 +23,6 @@ use Rattle.tm_domain.specs.AddrUnion.{AddrUnion}
 use Rattle.tm_line.specs.Arguments.{addr_range_word, one_address, address_word, address_at}
 use Rattle.tm_line.specs.Printing.{address_spelling}
 use Rattle.tm_line.specs.Written.{is_addr, is_addr_range, is_address}
-use Rattle.tm_word.specs.Texts.{begins_with_byte}
 use Rattle.tm_line.proofs.Steps.{bind_ok, ok_is, kinded_ok, both}
 use Rattle.tm_line.proofs.GroupLaws.{or_again, or_one, or_found}
 

@@ -2,12 +2,10 @@
 use Rattle.std.proofs.Common.{◌≡◌, suc, ◌-◌, ◌||◌, ◌==◌, nat_le, Bool, true, false, ◌&&◌, List, [], ◌∷◌, ◌++◌, length, take, drop, Result, Ok, Err, refl, sym, ap, subst, ◌∙◌, arith}
 use Rattle.std.specs.Prelude.{codes}
 use Rattle.std.proofs.lemmas.Bool.{eqb-true}
-use Rattle.tm_word.specs.Texts.{texts_equal, begins_with_byte}
+use Rattle.tm_word.specs.Prelude.{Text, begins_with_byte, joined, texts_equal}
 use Rattle.std.specs.List.{list_all}
 use Rattle.std.specs.Result.{is_ok}
 use Rattle.std.proofs.lemmas.List.Splits.{join_with_byte-slice_split}
-use Rattle.tm_word.specs.Words.{Text}
-use Rattle.tm_word.specs.Spelling.{joined}
 use Rattle.tm_domain.specs.LineKind.{LineKind}
 use Rattle.tm_domain.specs.Words.{DomainName}
 use Rattle.tm_domain.specs.Transition.{is_namespace_word, is_domain_name, root_name}
@@ -115,9 +113,6 @@ words_right words name e =
     let same : name ≡ joined words = same_name (joined words) name h in
     let right : is_domain_name is_path (joined words) ≡ true = right_name (joined words) ∙ ap is_read h in
     (same, subst (λ t. is_domain_name is_path t ≡ true) (sym same) right)
-
-abbrev pair_done : DomainName × List Text → Result (DomainName × List Text) LineKind
-pair_done x = Ok x
 
 pub at_right : (words : List Text) (x : DomainName × List Text) → domain_at words ≡ Ok x → is_domain_name is_path x.0 ≡ true
 unfolding domain_at

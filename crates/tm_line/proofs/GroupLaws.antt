@@ -1,14 +1,11 @@
 -- Groups after `@`, and what stands in their place.
 use Rattle.std.proofs.Common.{◌≡◌, ◌==◌, Bool, true, false, cond, [], ◌∷◌, Option, Some, None, Result, Ok, ◌⊎◌, inl, inr, refl, ap, subst, ◌∙◌}
 use Rattle.std.proofs.lemmas.Bool.{eqb-true}
-use Rattle.tm_word.specs.Words.{Text, Word}
-use Rattle.tm_word.specs.Spelling.{spell, spelled_word}
+use Rattle.tm_word.specs.Prelude.{Text, Word, begins_with_byte, spell, spelled_word, ◌>>=◌}
 use Rattle.tm_word.proofs.Spelled.{word_found, word_again, word_small}
 use Rattle.tm_domain.specs.LineKind.{LineKind}
-use Rattle.tm_word.specs.Gives.{◌>>=◌}
 use Rattle.tm_line.specs.Arguments.{not_empty, group_word, group_or}
 use Rattle.tm_line.specs.Written.{is_group}
-use Rattle.tm_word.specs.Texts.{begins_with_byte}
 use Rattle.tm_line.proofs.Steps.{bind_ok, done, ok_is}
 
 abbrev IsFound : Text → Word → Type 0

@@ -1,8 +1,7 @@
 -- Joined words.
 use Rattle.std.proofs.Common.{◌≡◌, List, [], ◌∷◌, ◌++◌, refl, sym, ap, ◌∙◌, append_assoc}
 use Rattle.std.proofs.lemmas.List.{append-nil}
-use Rattle.tm_word.specs.Words.{Text}
-use Rattle.tm_word.specs.Spelling.{joined}
+use Rattle.tm_word.specs.Prelude.{Text, joined}
 use Rattle.tm_line.specs.Lines.{spaced}
 
 -- the first word, and each other one after a space

@@ -7,7 +7,7 @@ use Rattle.tm_addr.specs.Reading.{range_of as addr_range_of}
 use Rattle.tm_addr.specs.Reading.{group_of as hex_group_of}
 use Rattle.tm_domain.specs.Tokens.{token_at}
 use Rattle.tm_domain.specs.Reading.{step, ended, parsed, pattern_of}
-use Rattle.tm_word.specs.Spelling.{spelled_word, word_of, head_of}
+use Rattle.tm_word.specs.Prelude.{head_of, spelled_word, word_of}
 use Rattle.tm_domain.specs.LineKind.{LineKind}
 use Rattle.tm_domain.specs.NameUnion.{NameUnion}
 use Rattle.tm_domain.specs.Names.{domain_of, is_path}

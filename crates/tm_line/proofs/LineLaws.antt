@@ -5,9 +5,7 @@ use Rattle.std.specs.List.{list_all, slice_split, onto_first}
 use Rattle.std.proofs.lemmas.Bool.{ne_eqb}
 use Rattle.std.proofs.lemmas.List.{append_assoc, append-nil}
 use Rattle.std.proofs.lemmas.List.Splits.{slice_split-cons_no, slice_split-cons_yes}
-use Rattle.tm_word.specs.Words.{Text}
-use Rattle.tm_word.specs.Spelling.{is_separator, words_of}
-use Rattle.tm_word.specs.Texts.{lines_of, is_solid, is_word}
+use Rattle.tm_word.specs.Prelude.{Text, is_separator, is_solid, is_word, lines_of, words_of}
 use Rattle.tm_line.proofs.Steps.{both}
 use Rattle.tm_addr.proofs.Free.{Free, free_append, split_at}
 use Rattle.tm_line.specs.Lines.{spaced}

@@ -2,11 +2,9 @@
 use Rattle.std.proofs.Common.{◌≡◌, ℕ, ◌*◌, ◌==◌, Bool, true, false, cond, ◌||◌, List, [], ◌∷◌, Some, refl, sym, ap, subst}
 use Rattle.std.specs.List.{list_all, list_any}
 use Rattle.std.proofs.lemmas.Bool.{eqb-true}
-use Rattle.tm_word.specs.Words.{Text}
-use Rattle.tm_word.specs.Texts.{texts_equal, begins}
+use Rattle.tm_word.specs.Prelude.{Text, begins, begins_row, name_of, named, texts_equal}
 use Rattle.tm_word.proofs.TextLaws.{texts_sound}
 use Rattle.tm_line.specs.declared.permissions.Row.{Row}
-use Rattle.tm_word.specs.Closed.{named, begins_row, name_of}
 use Rattle.tm_line.specs.Permissions.{names, masked, mask_from, perm_on, perms_from, perms_spelling}
 use Rattle.tm_line.proofs.Steps.{both}
 

@@ -1,7 +1,6 @@
 -- Name arguments: what is written is read again, and what is read can be written.
 use Rattle.std.proofs.Common.{◌≡◌, ◌==◌, true, false, List, [], ◌∷◌, Ok, inl, inr, refl, subst, ◌∙◌}
-use Rattle.tm_word.specs.Words.{Text, Pattern}
-use Rattle.tm_word.specs.Printing.{spelled_pattern}
+use Rattle.tm_word.specs.Prelude.{Pattern, Text, begins_with_byte, spelled_pattern}
 use Rattle.tm_domain.specs.Reading.{pattern_of}
 use Rattle.tm_domain.specs.Grammar.{is_right}
 use Rattle.tm_domain.proofs.LexLaws.{pattern_found}
@@ -12,7 +11,6 @@ use Rattle.tm_domain.specs.NameUnion.{NameUnion}
 use Rattle.tm_line.specs.Arguments.{pattern_word, one_name, name_word, name_at}
 use Rattle.tm_line.specs.Printing.{name_spelling}
 use Rattle.tm_line.specs.Written.{begins_name, is_name}
-use Rattle.tm_word.specs.Texts.{begins_with_byte}
 use Rattle.tm_line.proofs.Steps.{bind_ok, ok_is, kinded_ok, both, all, not_true, to_not}
 use Rattle.tm_line.proofs.GroupLaws.{or_again, or_one, or_found}
 

@@ -2,7 +2,7 @@
 use Rattle.std.proofs.Common.{◌≡◌, ◌==◌, Bool, true, false, List, [], ◌∷◌, Result, Ok, Err, refl, sym, ap, subst, ◌∙◌}
 use Rattle.std.specs.Prelude.{if◌then◌else◌}
 use Rattle.std.specs.List.{list_any}
-use Rattle.tm_word.specs.Words.{Text}
+use Rattle.tm_word.specs.Prelude.{Text, ◌>>=◌}
 use Rattle.tm_domain.specs.LineKind.{LineKind}
 use Rattle.tm_domain.specs.Reading.{pattern_of, parsed, step, ended}
 use Rattle.tm_domain.specs.Tokens.{token_at}
@@ -10,7 +10,6 @@ use Rattle.tm_domain.specs.Policy.{kernel}
 use Rattle.tm_domain.specs.declared.DomainFault.{DomainFault}
 use Rattle.tm_domain.specs.Names.{domain_of, is_path}
 use Rattle.tm_domain.proofs.NameLaws.{same_name}
-use Rattle.tm_word.specs.Gives.{◌>>=◌}
 use Rattle.tm_line.specs.Arguments.{kinded}
 use Rattle.tm_line.specs.Namespaces.{opens, namespace_of, namespace_at, IsNamespace}
 

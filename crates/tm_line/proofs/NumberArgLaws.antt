@@ -7,7 +7,7 @@ use Rattle.std.specs.Char.{digit_value}
 use Rattle.std.specs.List.{position}
 use Rattle.std.specs.Fmt.{decimal}
 use Rattle.std.specs.Str.Parse.{IsNumeral}
-use Rattle.tm_word.specs.Words.{Text}
+use Rattle.tm_word.specs.Prelude.{Text, begins_with_byte}
 use Rattle.tm_addr.specs.Base.{Base}
 use Rattle.tm_addr.specs.Number.{Number}
 use Rattle.tm_addr.specs.Range.{Range}
@@ -23,7 +23,6 @@ use Rattle.tm_line.specs.Arguments.{range_word, one_number, number_word, number_
 use Rattle.tm_line.specs.Lines.{or_kind}
 use Rattle.tm_line.specs.Printing.{number_spelling}
 use Rattle.tm_line.specs.Written.{is_range, is_number}
-use Rattle.tm_word.specs.Texts.{begins_with_byte}
 use Rattle.tm_line.proofs.Steps.{bind_ok, ok_is, kinded_ok, both}
 use Rattle.tm_line.proofs.GroupLaws.{or_again, or_one, or_found}
 

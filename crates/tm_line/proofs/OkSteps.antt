@@ -1,10 +1,9 @@
 -- What is read has a property, step by step.
 use Rattle.std.proofs.Common.{◌≡◌, Bool, true, false, List, [], ◌∷◌, Result, Ok, Err, refl, subst}
 use Rattle.std.specs.Prelude.{if◌then◌else◌}
-use Rattle.tm_word.specs.Words.{Text}
+use Rattle.tm_word.specs.Prelude.{Text, ◌>>=◌}
 use Rattle.tm_domain.specs.LineKind.{LineKind}
 use Rattle.tm_line.specs.Lines.{word_at}
-use Rattle.tm_word.specs.Gives.{◌>>=◌}
 
 abbrev pub OkIs : {A : Type 0} → (A → Type 0) → Result A LineKind → Type 0
 OkIs P (Ok x) = P x

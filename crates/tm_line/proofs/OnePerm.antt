@@ -2,7 +2,7 @@
 use Rattle.std.specs.Prelude.{◌≡◌, ℕ, Bool, ◌&&◌, ◌==◌, List, [], ◌∷◌, Some, None, Ok, bit_or}
 use Rattle.std.proofs.Common.{ap, ◌∙◌}
 use Rattle.std.specs.List.{position}
-use Rattle.tm_word.specs.Words.{Text}
+use Rattle.tm_word.specs.Prelude.{Text}
 use Rattle.tm_word.proofs.Cuts.{cut_none}
 use Rattle.tm_line.specs.declared.permissions.Row.{Row}
 use Rattle.tm_line.specs.Permissions.{mask_in, pieces_of, with_mask, bits_of, finishes, bits_or_kind, perms_of}

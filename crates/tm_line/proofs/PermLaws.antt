@@ -7,9 +7,8 @@ use Rattle.std.proofs.Math.Nat.{one-le-pow}
 use Rattle.std.proofs.lemmas.Grind.{pow_more}
 use Rattle.std.proofs.lemmas.Nat.{or_lt, le_or_l, le_or_r}
 use Rattle.std.proofs.lemmas.Bool.{eqb-true, ltb-true, lt-ltb}
-use Rattle.tm_word.specs.Words.{Text}
+use Rattle.tm_word.specs.Prelude.{Text, texts_equal}
 use Rattle.tm_word.proofs.Cuts.{pieces_of as cut_of}
-use Rattle.tm_word.specs.Texts.{texts_equal}
 use Rattle.tm_line.specs.declared.permissions.Row.{Row}
 use Rattle.tm_line.specs.Permissions.{names, mask_from, mask_in, pieces_of, with_mask, bits_of, finishes, bits_or_kind, perms_of, perm_on, perms_spelling}
 use Rattle.tm_line.specs.Written.{is_set}

@@ -2,12 +2,11 @@
 use Rattle.std.proofs.Common.{◌≡◌, ◌+◌, ◌-◌, ◌&&◌, List, [], ◌∷◌, ◌++◌, length, take, drop, Result, Ok, refl, sym, ap, subst, ◌∙◌, arith, append_assoc, length-append}
 use Rattle.std.proofs.Math.Seq.{drop-append-add}
 use Rattle.std.proofs.lemmas.List.{take-append-drop}
-use Rattle.tm_word.specs.Words.{Text}
+use Rattle.tm_word.specs.Prelude.{Text, begins, texts_equal}
 use Rattle.tm_domain.specs.LineKind.{LineKind}
 use Rattle.tm_domain.specs.NameUnion.{NameUnion}
 use Rattle.tm_domain.specs.NumberUnion.{NumberUnion}
 use Rattle.tm_domain.specs.AddrUnion.{AddrUnion}
-use Rattle.tm_word.specs.Texts.{texts_equal, begins}
 use Rattle.tm_domain.specs.Words.{DomainName}
 use Rattle.tm_line.specs.Lines.{is_last, keyword_kind, keyword_at, word_at}
 use Rattle.tm_line.specs.Arguments.{name_word, number_word, address_word, name_at, number_at, address_at}

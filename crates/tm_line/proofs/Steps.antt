@@ -1,7 +1,7 @@
 -- Steps of reading that went well.
 use Rattle.std.proofs.Common.{◌≡◌, Bool, true, false, cond, ◌&&◌, not, Result, Ok, Err, refl, ap}
 use Rattle.tm_domain.specs.LineKind.{LineKind}
-use Rattle.tm_word.specs.Gives.{◌>>=◌}
+use Rattle.tm_word.specs.Prelude.{◌>>=◌}
 use Rattle.tm_line.specs.Arguments.{kinded}
 
 -- a step that went well has a value, and what comes after it went well

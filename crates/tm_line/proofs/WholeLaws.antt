@@ -12,10 +12,7 @@ use Rattle.std.proofs.lemmas.List.Splits.{slice_split-cons_no, slice_split-cons_
 use Rattle.tm_word.specs.declared.Element.{Element}
 use Rattle.tm_word.specs.declared.Component.{Component}
 use Rattle.tm_word.specs.declared.Repeat.{Repeat}
-use Rattle.tm_word.specs.Words.{Text, Word, Part, Pattern}
-use Rattle.tm_word.specs.Spelling.{is_separator, words_of, joined, spelling_of, spell}
-use Rattle.tm_word.specs.Matching.{is_empty, is_once}
-use Rattle.tm_word.specs.Printing.{spelled_element, spelled_part, spelled_minus, opening, closing, spelled_component, spelled_pattern}
+use Rattle.tm_word.specs.Prelude.{Part, Pattern, Text, Word, begins_with_byte, closing, is_empty, is_once, is_separator, is_solid, is_word, joined, opening, spell, spelled_component, spelled_element, spelled_minus, spelled_part, spelled_pattern, spelling_of, texts_equal, words_of}
 use Rattle.tm_addr.specs.Addr.{Addr}
 use Rattle.tm_addr.specs.AddrRange.{AddrRange}
 use Rattle.tm_addr.specs.Base.{Base}
@@ -36,7 +33,6 @@ use Rattle.tm_domain.specs.PatternFault.{PatternFault}
 use Rattle.tm_domain.specs.Reading.{pattern_of}
 use Rattle.tm_domain.proofs.LexLaws.{pattern_found}
 use Rattle.tm_domain.proofs.RightLaws.{read-right}
-use Rattle.tm_word.specs.Texts.{texts_equal, is_solid, is_word, begins_with_byte}
 use Rattle.tm_domain.specs.Words.{DomainName}
 use Rattle.tm_domain.specs.Transition.{is_namespace_word, is_domain_name, root_name}
 use Rattle.std.specs.Result.{is_ok}
@@ -253,10 +249,6 @@ addr_range_solid r h =
     ends_solid (addr_spelling r.low) (addr_spelling r.high) (same_addr r.low r.high) (free_solid (addr_spelling r.low) (addr_free r.low is.low)) (free_solid (addr_spelling r.high) (addr_free r.high is.high))
 
 -- ---- arguments are words
-
--- a text that is read as a word isn't empty
-not_none : (text : Text) → (length text == 0) ≡ false → is_solid text ≡ true → is_word text ≡ true
-not_none text some h = rw (some, h) refl
 
 full : (b : ℕ) (text : Text) → (length (b ∷ text) == 0) ≡ false
 full b text = ne_eqb _ _ (λ e. absurd (omega (arith, e)))

@@ -1,19 +1,17 @@
 -- The arguments of lines, each one word.
 use Rattle.std.specs.Prelude.{ℕ, ◌==◌, if◌then◌else◌, List, [], ◌∷◌, Option, Some, None, Result, Ok, Err}
-use Rattle.tm_word.specs.Words.{Text, Word, Pattern}
+use Rattle.tm_word.specs.Prelude.{Pattern, Text, Word, spelled_word, ◌>>=◌}
 use Rattle.tm_addr.specs.Range.{Range}
 use Rattle.tm_addr.specs.AddrRange.{AddrRange}
 use Rattle.tm_addr.specs.Numbers.{plain_of, range_of}
 use Rattle.tm_addr.specs.Reading.{range_of as addr_range_of}
 use Rattle.tm_domain.specs.Reading.{pattern_of}
-use Rattle.tm_word.specs.Spelling.{spelled_word}
 use Rattle.tm_domain.specs.LineKind.{LineKind}
 use Rattle.tm_domain.specs.NameUnion.{NameUnion}
 use Rattle.tm_domain.specs.NumberUnion.{NumberUnion}
 use Rattle.tm_domain.specs.AddrUnion.{AddrUnion}
 use Rattle.tm_domain.specs.Names.{is_path}
 use Rattle.tm_line.specs.Lines.{or_kind, word_at}
-use Rattle.tm_word.specs.Gives.{◌>>=◌}
 
 -- a value in its grammar, or a fault of this kind
 abbrev pub kinded : {A F : Type 0} → LineKind → Result A F → Result A LineKind

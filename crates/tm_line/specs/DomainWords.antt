@@ -1,9 +1,8 @@
 -- The words of a domain name in a line, and the words that may follow one.
 use Rattle.std.specs.Prelude.{◌==◌, Bool, true, not, List, [], ◌∷◌}
 use Rattle.std.specs.List.{slice_split}
-use Rattle.tm_word.specs.Words.{Text}
+use Rattle.tm_word.specs.Prelude.{Text, begins_with_byte}
 use Rattle.tm_domain.specs.Words.{DomainName}
-use Rattle.tm_word.specs.Texts.{begins_with_byte}
 
 -- what stands between the spaces of a name
 abbrev pub domain_parts : DomainName → List Text

@@ -1,13 +1,10 @@
 -- Domain names in lines: a namespace word and the words after it.
 use Rattle.std.specs.Prelude.{ℕ, List, [], ◌∷◌, take, drop, Result, Ok, Err}
 use Rattle.std.specs.List.{prefix_len}
-use Rattle.tm_word.specs.Words.{Text}
-use Rattle.tm_word.specs.Spelling.{joined}
+use Rattle.tm_word.specs.Prelude.{Text, begins_with_byte, joined, ◌>>=◌}
 use Rattle.tm_domain.specs.LineKind.{LineKind}
 use Rattle.tm_domain.specs.Words.{DomainName}
 use Rattle.tm_domain.specs.Names.{domain_of}
-use Rattle.tm_word.specs.Texts.{begins_with_byte}
-use Rattle.tm_word.specs.Gives.{◌>>=◌}
 use Rattle.tm_line.specs.Arguments.{kinded}
 
 -- the words as one domain name

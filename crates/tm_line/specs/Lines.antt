@@ -2,11 +2,9 @@
 -- there is the line's.
 use Rattle.std.specs.Prelude.{◌&&◌, if◌then◌else◌, Bool, true, false, List, [], ◌∷◌, Option, Some, None, Result, Ok, Err}
 use Rattle.std.specs.List.{flat_map}
-use Rattle.tm_word.specs.Words.{Text}
+use Rattle.tm_word.specs.Prelude.{Text, begins, texts_equal, ◌>>=◌}
 use Rattle.tm_domain.specs.LineKind.{LineKind}
 use Rattle.tm_domain.specs.LineFault.{LineFault}
-use Rattle.tm_word.specs.Texts.{texts_equal, begins}
-use Rattle.tm_word.specs.Gives.{◌>>=◌}
 
 -- the kind of a fault; want of memory has none
 abbrev pub line_cause : LineFault → Option LineKind

@@ -1,13 +1,11 @@
 -- The namespace word that a policy line may begin with.
 use Rattle.std.specs.Prelude.{◌≡◌, ◌==◌, Bool, if◌then◌else◌, List, [], ◌∷◌, ◌++◌, Result, Ok, Err}
 use Rattle.std.specs.List.{list_any}
-use Rattle.tm_word.specs.Words.{Text}
-use Rattle.tm_word.specs.Texts.{begins_with_byte}
+use Rattle.tm_word.specs.Prelude.{Text, begins_with_byte, ◌>>=◌}
 use Rattle.tm_domain.specs.LineKind.{LineKind}
 use Rattle.tm_domain.specs.Policy.{kernel}
 use Rattle.tm_domain.specs.Names.{domain_of}
 use Rattle.tm_line.specs.Lines.{spaced}
-use Rattle.tm_word.specs.Gives.{◌>>=◌}
 use Rattle.tm_line.specs.Arguments.{kinded}
 
 -- only a namespace word begins with `<`

@@ -1,9 +1,8 @@
 -- Permissions of one row, joined by `/` in any order, and their printed form in the row's order.
 use Rattle.std.specs.Prelude.{ℕ, ◌*◌, ◌==◌, ◌&&◌, bit_or, bit_and, if◌then◌else◌, Bool, false, List, [], ◌∷◌, ◌++◌, length, codes, Option, Some, None, is_some, Result, Ok, Err}
 use Rattle.std.specs.List.{slice_split, list_any}
-use Rattle.tm_word.specs.Words.{Text}
+use Rattle.tm_word.specs.Prelude.{Text, begins, texts_equal}
 use Rattle.tm_domain.specs.LineKind.{LineKind}
-use Rattle.tm_word.specs.Texts.{texts_equal, begins}
 use Rattle.tm_line.specs.declared.permissions.Row.{Row}
 use Rattle.tm_line.specs.Lines.{keyword_kind}
 

@@ -1,8 +1,6 @@
 -- The printed form of arguments.
 use Rattle.std.specs.Prelude.{◌∷◌}
-use Rattle.tm_word.specs.Words.{Text}
-use Rattle.tm_word.specs.Spelling.{spell}
-use Rattle.tm_word.specs.Printing.{spelled_pattern}
+use Rattle.tm_word.specs.Prelude.{Text, spell, spelled_pattern}
 use Rattle.tm_addr.specs.Numbers.{range_spelling}
 use Rattle.tm_addr.specs.Printing.{addr_range_spelling}
 use Rattle.tm_domain.specs.NameUnion.{NameUnion}

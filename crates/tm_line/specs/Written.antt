@@ -1,8 +1,7 @@
 -- The values that a line can write: those that are read from some text.
 use Rattle.std.specs.Prelude.{ℕ, ◌^◌, ◌==◌, nat_lt, nat_le, Bool, false, ◌&&◌, not, [], ◌∷◌, length}
 use Rattle.std.specs.List.{list_all}
-use Rattle.tm_word.specs.Words.{Text, Word}
-use Rattle.tm_word.specs.Printing.{spelled_pattern}
+use Rattle.tm_word.specs.Prelude.{Text, Word, spelled_pattern}
 use Rattle.tm_addr.specs.Addr.{Addr}
 use Rattle.tm_addr.specs.AddrRange.{AddrRange}
 use Rattle.tm_addr.specs.Range.{Range}

@@ -1,7 +1,7 @@
 //! Arguments of lines, each one word.
 ghost use Rattle.std.specs.Prelude.{◌≡◌, ◌^◌};
-ghost use Rattle.tm_word.specs.Gives.{Gives, GivesNow};
-ghost use Rattle.tm_line.specs.Lines.{line_cause};
+ghost use Rattle.tm_word.specs.Prelude.{Gives, GivesNow};
+ghost use Rattle.tm_line.specs.Lines.{line_cause, word_at};
 ghost use Rattle.tm_line.specs.Arguments.{one_name, one_number, one_address, group_word, pattern_word, path_word, range_word, addr_range_word, name_word, number_word, address_word, plain_word, name_at, number_at, address_at};
 
 use std::alloc::Global;
@@ -146,6 +146,18 @@ pub fn small_number(text: &[u8]) -> Result<u8, LineFault>
     match tm_addr::number::plain_number(256, text) {
         Some(number) => Ok(number as u8),
         None => Err(LineFault::Kind(LineKind::Number)),
+    }
+}
+
+/// Reads such a number as the first word, and gives the words after it. Errors: `Arity` where no word
+/// is left, `Number`. Takes no memory.
+pub fn small_number_at(words: &[Text]) -> Result<(u8, &[Text]), LineFault>
+    ensures { GivesNow line_cause (λ x. (x.0, x.1.now)) result
+        (word_at (plain_word 256) words.now) }
+{
+    match words {
+        [] => Err(LineFault::Kind(LineKind::Arity)),
+        [word, rest @ ..] => Ok((small_number(word.bytes())?, rest)),
     }
 }
 

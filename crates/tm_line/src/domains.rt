@@ -1,7 +1,6 @@
 //! Domain names in lines.
 ghost use Rattle.std.specs.Prelude.{◌≡◌, ◌≤◌, ◌∷◌, length};
-ghost use Rattle.tm_word.specs.Texts.{begins_with_byte};
-ghost use Rattle.tm_word.specs.Gives.{Gives};
+ghost use Rattle.tm_word.specs.Prelude.{Gives, begins_with_byte};
 ghost use Rattle.tm_line.specs.Lines.{line_cause};
 ghost use Rattle.tm_line.specs.Domains.{domain_words, paths_in, domain_at, domain_to_end};
 

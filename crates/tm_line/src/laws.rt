@@ -2,9 +2,7 @@
 ghost use Rattle.std.specs.Prelude.{◌≡◌, ◌<◌, ◌^◌, ◌++◌, ℕ, Bool, true, List, Ok, Result};
 ghost use Rattle.std.specs.Fmt.{decimal};
 ghost use Rattle.std.specs.List.{list_all};
-ghost use Rattle.tm_word.specs.Words.{Text, Word, Pattern};
-ghost use Rattle.tm_word.specs.Spelling.{spell, words_of, joined};
-ghost use Rattle.tm_word.specs.Printing.{spelled_pattern};
+ghost use Rattle.tm_word.specs.Prelude.{Pattern, Text, Word, is_solid, is_word, joined, spell, spelled_pattern, words_of};
 ghost use Rattle.tm_addr.specs.Range.{Range};
 ghost use Rattle.tm_addr.specs.AddrRange.{AddrRange};
 ghost use Rattle.tm_addr.specs.Numbers.{range_spelling};
@@ -21,7 +19,6 @@ ghost use Rattle.tm_line.specs.Permissions.{perms_of, perms_spelling};
 ghost use Rattle.tm_line.specs.Arguments.{group_word, pattern_word, range_word, addr_range_word, name_word, number_word, address_word, plain_word};
 ghost use Rattle.tm_line.specs.Domains.{domain_at, domain_to_end};
 ghost use Rattle.tm_line.specs.DomainWords.{domain_parts, ends_domain};
-ghost use Rattle.tm_word.specs.Texts.{is_solid, is_word};
 ghost use Rattle.tm_line.specs.Printing.{name_spelling, number_spelling, address_spelling};
 ghost use Rattle.tm_line.specs.Written.{is_group, is_name, is_range, is_number, is_addr_range, is_address, is_set};
 

@@ -1,6 +1,8 @@
 //! What the readers and printers of lines share: keywords, permissions, arguments, domain names.
-//! It stands on the crates of words, numbers, addresses, patterns and domain names.
-//! It promises what its reading functions give, one text a value, and that it is read again.
+//! Stands on the crates of words, numbers, addresses, patterns and domain names.
+//! Of its own, below tm_file, tm_net, tm_cond, tm_profile, tm_except and tm_script, none of which
+//! stands on another.
+//! Promises what its reading functions give, one text a value, and that it is read again.
 #![tactic(auto)]
 
 mod arguments;
@@ -13,7 +15,7 @@ mod words;
 
 pub use arguments::{
     addr_range_word, address_at, address_word, group_word, name_at, name_word, number_at,
-    number_word, path_word, pattern_word, plain_number, range_word, small_number,
+    number_word, path_word, pattern_word, plain_number, range_word, small_number, small_number_at,
 };
 pub use domains::{domain_at, domain_to_end};
 pub use laws::{printed_words, round_trip};

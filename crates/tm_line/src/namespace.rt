@@ -3,8 +3,7 @@
 //! and that a namespace word is read whatever follows it.
 
 ghost use Rattle.std.specs.Prelude.{◌≡◌, ◌==◌, ◌∷◌, List, true, Ok};
-ghost use Rattle.tm_word.specs.Words.{Text};
-ghost use Rattle.tm_word.specs.Gives.{Gives};
+ghost use Rattle.tm_word.specs.Prelude.{Gives, Text};
 ghost use Rattle.tm_line.specs.Lines.{line_cause};
 ghost use Rattle.tm_domain.specs.Policy.{kernel};
 ghost use Rattle.tm_line.specs.Namespaces.{opens, namespace_of, namespace_at, IsNamespace};

@@ -1,6 +1,6 @@
 //! Lists of permissions.
 ghost use Rattle.std.specs.Prelude.{◌≡◌, ◌++◌, map, Bool, Ok, ⊤, MatchOption, IfOk, OnOk, OnErr};
-ghost use Rattle.tm_word.specs.Gives.{Gives};
+ghost use Rattle.tm_word.specs.Prelude.{Gives};
 ghost use Rattle.tm_line.specs.Lines.{line_cause};
 ghost use Rattle.tm_line.specs.Permissions.{names, masked, mask_in, starts_in, pieces_of, bits_of, finishes, perms_of, perm_on, perms_spelling};
 

@@ -1,6 +1,6 @@
 //! Printing arguments.
 ghost use Rattle.std.specs.Prelude.{◌≡◌, ◌++◌, ◌∷◌, IfOk, OnOk, OnErr};
-ghost use Rattle.tm_word.specs.Spelling.{spell};
+ghost use Rattle.tm_word.specs.Prelude.{spell};
 ghost use Rattle.tm_line.specs.Lines.{spaced};
 ghost use Rattle.tm_line.specs.DomainWords.{domain_parts};
 ghost use Rattle.tm_line.specs.Printing.{name_spelling, number_spelling, address_spelling};

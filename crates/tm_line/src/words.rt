@@ -1,7 +1,6 @@
 //! Words of lines.
 ghost use Rattle.std.specs.Prelude.{◌≡◌, ◌∷◌, IfOk};
-ghost use Rattle.tm_word.specs.Spelling.{joined};
-ghost use Rattle.tm_word.specs.Gives.{GivesNow};
+ghost use Rattle.tm_word.specs.Prelude.{GivesNow, joined};
 ghost use Rattle.tm_line.specs.Lines.{line_cause, ended, keyword_kind, keyword_at, option_at};
 
 use std::alloc::Global;

@@ -1,17 +1,9 @@
 -- The blocks of a header that tell of files and folders.
 use Rattle.std.specs.Prelude.{ℕ, ◌^◌, if◌then◌else◌, List, [], ◌∷◌, ◌++◌, codes, Option, Some, None, Result, Ok, Err}
-use Rattle.tm_word.specs.Words.{Text}
-use Rattle.tm_word.specs.Texts.{texts_equal, after}
-use Rattle.tm_word.specs.Gives.{◌>>=◌}
-use Rattle.tm_number.specs.declared.Base.{Base}
-use Rattle.tm_number.specs.declared.Number.{Number}
+use Rattle.tm_word.specs.Prelude.{Text, after, texts_equal, ◌>>=◌}
+use Rattle.tm_rules.specs.Types.{Base, FileKindWord, LineKind, Number, Stat, StatField, StatPlace}
 use Rattle.tm_number.specs.declared.text.NumberFault.{NumberFault}
 use Rattle.tm_number.specs.Numbers.{number_of}
-use Rattle.tm_types.specs.declared.entry.FileKindWord.{FileKindWord}
-use Rattle.tm_types.specs.declared.entry.LineKind.{LineKind}
-use Rattle.tm_types.specs.declared.entry.StatPlace.{StatPlace}
-use Rattle.tm_types.specs.declared.entry.StatField.{StatField}
-use Rattle.tm_types.specs.declared.request.Stat.{Stat}
 use Rattle.tm_line.specs.Lines.{word_at}
 use Rattle.tm_cond.specs.Attributes.{kind_word}
 use Rattle.tm_trace.specs.Requests.{only_at}

@@ -1,10 +1,8 @@
 -- What a header tells of an execute.
 use Rattle.std.specs.Prelude.{ℕ, ◌+◌, ◌==◌, ◌||◌, Bool, not, if◌then◌else◌, List, [], ◌∷◌, ◌++◌, length, take, drop, codes, Option, Some, None, Result, Ok, Err}
 use Rattle.std.specs.List.{position}
-use Rattle.tm_word.specs.Words.{Text, Word}
-use Rattle.tm_word.specs.Texts.{texts_equal}
-use Rattle.tm_word.specs.Gives.{◌>>=◌}
-use Rattle.tm_types.specs.declared.entry.LineKind.{LineKind}
+use Rattle.tm_word.specs.Prelude.{Text, Word, texts_equal, ◌>>=◌}
+use Rattle.tm_rules.specs.Types.{LineKind}
 use Rattle.tm_trace.specs.Requests.{only_at}
 use Rattle.tm_trace.specs.Attributes.{has_name}
 use Rattle.tm_log.specs.declared.exec.Exec.{Exec}

@@ -1,8 +1,6 @@
 -- Which lines make a record.
-use Rattle.std.specs.Prelude.{ℕ, ◌+◌, ◌-◌, ◌^◌, nat_lt, if◌then◌else◌, List, [], ◌∷◌, ◌++◌, length, Option, Some, None, option_to_list}
-use Rattle.tm_word.specs.Words.{Text}
-use Rattle.tm_word.specs.Spelling.{words_of}
-use Rattle.tm_word.specs.Texts.{begins_with_byte}
+use Rattle.std.specs.Prelude.{ℕ, ◌+◌, ◌-◌, ◌^◌, nat_lt, if◌then◌else◌, List, [], ◌∷◌, ◌++◌, length, Option, Some, None}
+use Rattle.tm_word.specs.Prelude.{Text, begins_with_byte, words_of}
 use Rattle.tm_log.specs.declared.gather.Lines.{Lines}
 use Rattle.tm_log.specs.declared.gather.Gatherer.{Gatherer}
 use Rattle.tm_log.specs.declared.gather.LineSort.{LineSort}
@@ -59,13 +57,3 @@ gathered_as LineSort.GoesOn s line = with_line s line
 
 abbrev pub gathered : Gatherer → Text → Gatherer × Option Lines
 gathered s line = gathered_as (sort_of (words_of line)) s line
-
--- the records of lines, after what was read
-abbrev pub records_from : Gatherer → List Text → List Lines
-records_from s [] = option_to_list s.current
-records_from s (line ∷ lines) =
-    option_to_list (gathered s line).1 ++ records_from (gathered s line).0 lines
-
--- the records of a log
-abbrev pub records_of : List Text → List Lines
-records_of lines = records_from no_lines lines

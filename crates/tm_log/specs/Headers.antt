@@ -1,14 +1,7 @@
 -- The header of a record, as Linux 6.1 prints it.
 use Rattle.std.specs.Prelude.{ℕ, ◌-◌, ◌==◌, length, take, ◌||◌, ◌&&◌, Bool, true, false, not, if◌then◌else◌, List, [], ◌∷◌, codes, Option, Some, None, Result, Ok, Err}
-use Rattle.tm_word.specs.Words.{Text, Word}
-use Rattle.tm_word.specs.Texts.{texts_equal, begins_with_byte, after}
-use Rattle.tm_word.specs.Gives.{◌>>=◌}
-use Rattle.tm_word.specs.Closed.{of_word}
-use Rattle.tm_types.specs.Texts.{mode_text, modes}
-use Rattle.tm_types.specs.declared.entry.LineKind.{LineKind}
-use Rattle.tm_types.specs.declared.policy.Mode.{Mode}
-use Rattle.tm_types.specs.declared.request.Ids.{Ids}
-use Rattle.tm_types.specs.declared.request.Proc.{Proc}
+use Rattle.tm_word.specs.Prelude.{Text, Word, after, begins_with_byte, of_word, texts_equal, ◌>>=◌}
+use Rattle.tm_rules.specs.Types.{Ids, LineKind, Mode, Proc, mode_text, modes}
 use Rattle.tm_line.specs.Lines.{word_at, ended}
 use Rattle.tm_cond.specs.Attributes.{ends_in}
 use Rattle.tm_trace.specs.Requests.{only_at}

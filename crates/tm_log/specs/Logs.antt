@@ -1,7 +1,7 @@
 -- The records of a log, from its bytes.
 use Rattle.std.specs.Prelude.{ℕ, ◌+◌, ◌-◌, ◌^◌, ◌==◌, ◌||◌, nat_lt, Bool, if◌then◌else◌, List, [], ◌∷◌, ◌++◌, length, min, Option, Some, None, Result, Ok, Err}
-use Rattle.tm_word.specs.Words.{Text}
-use Rattle.tm_types.specs.declared.request.Request.{Request}
+use Rattle.tm_word.specs.Prelude.{Text}
+use Rattle.tm_rules.specs.Types.{Request}
 use Rattle.tm_trace.specs.Printing.{request_text, attributes_text}
 use Rattle.tm_log.specs.declared.faults.Reason.{Reason}
 use Rattle.tm_log.specs.declared.gather.Lines.{Lines}
@@ -58,11 +58,6 @@ taken log lines =
 abbrev pub taken_if : Log → Option Lines → Log
 taken_if log None = log
 taken_if log (Some lines) = taken log lines
-
--- the log of these records, after what was read
-abbrev pub log_from : Log → List Lines → Log
-log_from log [] = log
-log_from log (lines ∷ more) = log_from (taken log lines) more
 
 -- Bytes, in whatever parts they come
 

@@ -1,8 +1,7 @@
 -- Why a record is left out.
 use Rattle.std.specs.Prelude.{codes, Option, Some, None, Result, Ok, Err}
-use Rattle.tm_word.specs.Words.{Text}
-use Rattle.tm_types.specs.declared.step.LineFault.{LineFault}
-use Rattle.tm_types.specs.declared.entry.LineKind.{LineKind}
+use Rattle.tm_word.specs.Prelude.{Text}
+use Rattle.tm_rules.specs.Types.{LineFault, LineKind}
 use Rattle.tm_log.specs.declared.faults.Reason.{Reason}
 use Rattle.tm_log.specs.declared.faults.RecordFault.{RecordFault}
 

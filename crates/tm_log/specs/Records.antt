@@ -1,15 +1,8 @@
 -- What a record tells, and why one is left out.
 use Rattle.std.specs.Prelude.{ℕ, ◌==◌, ◌||◌, ◌&&◌, Bool, false, if◌then◌else◌, List, [], ◌∷◌, ◌++◌, codes, Option, Some, None, is_some, Result, Ok, Err}
-use Rattle.tm_word.specs.Words.{Text, Word}
-use Rattle.tm_word.specs.Spelling.{words_of}
-use Rattle.tm_word.specs.Gives.{◌>>=◌}
-use Rattle.tm_types.specs.declared.entry.Args.{Args}
-use Rattle.tm_types.specs.declared.entry.LineKind.{LineKind}
-use Rattle.tm_types.specs.declared.entry.StatPlace.{StatPlace}
-use Rattle.tm_types.specs.declared.request.Attributes.{Attributes}
-use Rattle.tm_types.specs.declared.request.Request.{Request}
-use Rattle.tm_types.specs.declared.request.Stat.{Stat}
-use Rattle.tm_rules.specs.Words.{DomainName}
+use Rattle.tm_word.specs.Prelude.{Text, Word, words_of, ◌>>=◌}
+use Rattle.tm_rules.specs.Types.{Args, Attributes, LineKind, Request, Stat, StatPlace}
+use Rattle.tm_rules.specs.Prelude.{DomainName}
 use Rattle.tm_line.specs.Domains.{domain_to_end}
 use Rattle.tm_trace.specs.Requests.{request_line}
 use Rattle.tm_log.specs.declared.blocks.Found.{Found}

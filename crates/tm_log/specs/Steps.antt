@@ -1,13 +1,11 @@
 -- Reading a header word by word: fields of the form NAME=VALUE.
 use Rattle.std.specs.Prelude.{ℕ, ◌^◌, ◌==◌, Bool, false, if◌then◌else◌, List, [], ◌∷◌, Option, Some, None, Result, Ok, Err}
-use Rattle.tm_word.specs.Words.{Text, Word}
-use Rattle.tm_word.specs.Texts.{texts_equal, after}
-use Rattle.tm_word.specs.Spelling.{spelled_word}
-use Rattle.tm_word.specs.Gives.{◌>>=◌}
+use Rattle.tm_word.specs.Prelude.{Text, Word, after, spelled_word, texts_equal, ◌>>=◌}
 use Rattle.tm_number.specs.Numbers.{plain_of}
-use Rattle.tm_types.specs.declared.entry.LineKind.{LineKind}
+use Rattle.tm_rules.specs.Types.{LineKind}
 use Rattle.tm_line.specs.Lines.{or_kind, word_at}
 use Rattle.tm_cond.specs.Attributes.{quoted}
+use Rattle.tm_trace.specs.Processes.{not_zero}
 
 -- this word stands next
 abbrev pub stands : Text → List Text → Bool
@@ -38,18 +36,14 @@ id_at front words = number_at front (2 ^ 32) words
 abbrev pub parent_pid_at : Text → List Text → Result (ℕ × List Text) LineKind
 parent_pid_at front words = number_at front 4194305 words
 
--- a pid is not 0
-abbrev pub some_pid : ℕ → Result ℕ LineKind
-some_pid pid = if pid == 0 then Err LineKind.Number else Ok pid
-
 unfoldable pub pid_at : Text → List Text → Result (ℕ × List Text) LineKind
 pid_at front words = do
   read ← parent_pid_at front words
-  pid ← some_pid read.0
+  pid ← not_zero read.0
   Ok (pid, read.1)
 
 unfoldable pub pid_text : Text → Result ℕ LineKind
-pid_text text = plain_text 4194305 text >>= some_pid
+pid_text text = plain_text 4194305 text >>= not_zero
 
 -- a spelled word in double quotes
 unfoldable pub quoted_word : Text → Result Word LineKind

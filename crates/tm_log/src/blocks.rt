@@ -1,14 +1,15 @@
 //! The blocks `path1={ .. }`, `path1.parent={ .. }`, `path2={ .. }` and `path2.parent={ .. }` of a
 //! header.
 ghost use Rattle.std.specs.Prelude.{◌≡◌, ◌++◌, OnOk};
-ghost use Rattle.tm_word.specs.Gives.{GivesNow};
+ghost use Rattle.tm_word.specs.Prelude.{GivesNow};
 ghost use Rattle.tm_line.specs.Lines.{line_cause};
 ghost use Rattle.tm_log.specs.Blocks.{long_at, perm_text, perm_at, type_text, type_at, numbers_at, device_at, owner_at, file_at, folder_at, file_block, folder_block, found_at, owner_stats, device_stats, kind_stats, folder_stats, file_stats, found_stats};
 
-use crate::steps::{number_at, only_at, stands};
+use crate::steps::{number_at, stands};
 use tm_cond::kind_word;
 use tm_list::NoMemory;
 use tm_number::{Base, read_number};
+use tm_trace::only_at;
 use tm_types::entry::{FileKindWord, LineKind, StatField, StatPlace};
 use tm_types::request::Stat;
 use tm_types::step::LineFault;

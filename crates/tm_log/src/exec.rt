@@ -1,16 +1,17 @@
 //! What a header tells of an execute: `exec={ .. }`.
 ghost use Rattle.std.specs.Prelude.{◌≡◌, [], IfOk};
-ghost use Rattle.tm_word.specs.Gives.{Gives, GivesNow};
+ghost use Rattle.tm_word.specs.Prelude.{Gives, GivesNow};
 ghost use Rattle.tm_line.specs.Lines.{line_cause};
 ghost use Rattle.tm_log.specs.Execs.{list_at, environment_at, counts_at, lists_at, exec_at, exec_block, is_cut, with_pair, split, environment_of};
 ghost use Rattle.tm_trace.specs.Attributes.{has_name};
 
-use crate::steps::{id_at, only_at, quoted_at, quoted_word};
+use crate::steps::{id_at, quoted_at, quoted_word};
 use std::alloc::Global;
 use tm_list::{NoMemory, Seq};
+use tm_trace::{has_name, only_at};
 use tm_types::entry::LineKind;
 use tm_types::step::LineFault;
-use tm_word::{Text, Word, bytes_equal, place_of, texts_equal};
+use tm_word::{Text, Word, bytes_equal, place_of};
 
 /// What the kernel tells of an execute: the file's path, how many arguments and environment words
 /// there are, and those of both that it had room for.
@@ -130,18 +131,6 @@ pub(crate) fn is_cut(exec: &Exec) -> bool
     ensures { result ≡ is_cut exec.now }
 {
     exec.argv.len() as u64 != u64::from(exec.argc) || exec.envp.len() as u64 != u64::from(exec.envc)
-}
-
-// Whether the environment has this name.
-fn has_name(name: &Word, envp: &[(Word, Word)]) -> bool
-    ensures { result ≡ has_name name.now envp.now }
-{
-    for (other, _) in envp {
-        if texts_equal(other, name) {
-            return true;
-        }
-    }
-    false
 }
 
 // What stands before the first `=` of a word, and what after it.

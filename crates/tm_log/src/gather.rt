@@ -1,7 +1,7 @@
 //! Which lines make a record: a longest run of lines with words, in which only the first may begin
 //! with a word that begins with `#`.
 ghost use Rattle.std.specs.Prelude.{◌≡◌, None, IfOk};
-ghost use Rattle.tm_word.specs.Spelling.{words_of};
+ghost use Rattle.tm_word.specs.Prelude.{words_of};
 ghost use Rattle.tm_log.specs.Gathering.{sort_of, next, no_lines, begun, with_line, with_more, gathered};
 
 use std::alloc::Global;

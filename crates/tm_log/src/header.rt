@@ -1,15 +1,14 @@
 //! Reading the header of a record, as Linux 6.1 prints it.
 ghost use Rattle.std.specs.Prelude.{◌≡◌};
-ghost use Rattle.tm_word.specs.Gives.{Gives, GivesNow};
+ghost use Rattle.tm_word.specs.Prelude.{Gives, GivesNow};
 ghost use Rattle.tm_line.specs.Lines.{line_cause};
 ghost use Rattle.tm_log.specs.Headers.{is_whole_date, date_end, date_at, mode_value, mode_at, granted_at, closed_pid, global_pid_at, both_at, ids_at, handler_at, task_at, target_at, facts_at, refused_at, process_at, first_at, second_at, files_at, header_of};
 
 use crate::blocks::{Found, found_at};
 use crate::exec::{Exec, exec_block};
-use crate::steps::{
-    ends_in, id_at, number_at, only_at, parent_pid_at, pid_at, pid_text, quoted_at,
-};
+use crate::steps::{ends_in, id_at, number_at, parent_pid_at, pid_at, pid_text, quoted_at};
 use std::alloc::Global;
+use tm_trace::only_at;
 use tm_types::entry::LineKind;
 use tm_types::policy::Mode;
 use tm_types::request::{Ids, Proc};

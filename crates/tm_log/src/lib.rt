@@ -1,6 +1,7 @@
 //! Audit logs: which lines make a record, what it tells, and which records of a log can be used.
-//! It stands on `tm_line`, `tm_cond` and `tm_trace`, whose readers of words and requests it takes.
-//! It promises the grammar, the first reason why a record is left out, and one log from any parts.
+//! Stands on `tm_line`, `tm_cond` and `tm_trace`, whose readers of words and requests it takes.
+//! Of its own, so that records are read before a process is supposed, which tm_log_trace does.
+//! Promises the grammar, the first reason why a record is left out, and one log from any parts.
 #![tactic(auto)]
 
 mod blocks;

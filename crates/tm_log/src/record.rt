@@ -1,7 +1,6 @@
 //! Reading a record: who asked for what in which domain, and whether it was refused.
 ghost use Rattle.std.specs.Prelude.{◌≡◌, ◌++◌, [], IfOk, OnOk};
-ghost use Rattle.tm_word.specs.Gives.{Gives, GivesNow};
-ghost use Rattle.tm_word.specs.Spelling.{words_of};
+ghost use Rattle.tm_word.specs.Prelude.{Gives, GivesNow, words_of};
 ghost use Rattle.tm_line.specs.Lines.{line_cause};
 ghost use Rattle.tm_log.specs.Reasons.{record_cause};
 ghost use Rattle.tm_log.specs.Records.{is_flag, is_task, whole, whole_request, first_stats, second_stats, stats_of, attributes_of, executed, linked, no_words, with_attributes, asked, told, header_in, domain_in, with_domain, three_lines, record_of, is_cut_execute};

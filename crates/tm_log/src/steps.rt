@@ -1,10 +1,10 @@
 //! The steps of reading a header: a word, or a field `NAME=VALUE`, and the words after it.
 ghost use Rattle.std.specs.Prelude.{◌≡◌, ◌<◌, IfOk};
-ghost use Rattle.tm_word.specs.Gives.{Gives, GivesNow};
+ghost use Rattle.tm_word.specs.Prelude.{Gives, GivesNow};
 ghost use Rattle.tm_line.specs.Lines.{line_cause};
 ghost use Rattle.tm_cond.specs.Attributes.{ends_in};
-ghost use Rattle.tm_trace.specs.Requests.{only_at};
-ghost use Rattle.tm_log.specs.Steps.{stands, plain_text, plain_field, number_at, id_at, parent_pid_at, some_pid, pid_at, pid_text, quoted_word, quoted_field, quoted_at};
+ghost use Rattle.tm_log.specs.Steps.{stands, plain_text, plain_field, number_at, id_at, parent_pid_at, pid_at, pid_text, quoted_word, quoted_field, quoted_at};
+ghost use Rattle.tm_trace.specs.Processes.{not_zero};
 
 use std::alloc::Global;
 use tm_cond::quoted;
@@ -20,23 +20,6 @@ pub(crate) fn stands(keyword: &[u8], words: &[Text]) -> bool
     match words {
         [] => false,
         [word, ..] => bytes_equal(word.bytes(), keyword),
-    }
-}
-
-/// The words after this one, which has to stand next. Errors: `Arity` where no word is left,
-/// `Keyword`.
-pub(crate) fn only_at<'a>(keyword: &[u8], words: &'a [Text]) -> Result<&'a [Text], LineFault>
-    ensures { GivesNow line_cause (λ rest. rest.now) result (only_at keyword.now words.now) }
-{
-    match words {
-        [] => Err(LineFault::Kind(LineKind::Arity)),
-        [word, rest @ ..] => {
-            if bytes_equal(word.bytes(), keyword) {
-                Ok(rest)
-            } else {
-                Err(LineFault::Kind(LineKind::Keyword))
-            }
-        }
     }
 }
 
@@ -106,8 +89,8 @@ pub(crate) fn parent_pid_at<'a>(
 }
 
 // A pid that isn't 0.
-fn some_pid(pid: u32) -> Result<u32, LineFault>
-    ensures { GivesNow line_cause (λ n. n) result (some_pid pid) }
+fn not_zero(pid: u32) -> Result<u32, LineFault>
+    ensures { GivesNow line_cause (λ n. n) result (not_zero pid) }
 {
     if pid == 0 {
         Err(LineFault::Kind(LineKind::Number))
@@ -123,7 +106,7 @@ pub(crate) fn pid_at<'a>(front: &[u8], words: &'a [Text]) -> Result<(u32, &'a [T
     ensures { GivesNow line_cause (λ x. (x.0, x.1.now)) result (pid_at front.now words.now) }
 {
     let (pid, rest) = parent_pid_at(front, words)?;
-    Ok((some_pid(pid)?, rest))
+    Ok((not_zero(pid)?, rest))
 }
 
 /// The text of a pid as a word of its own: a plain number, 1 to 4,194,304. Errors: `Number`.
@@ -132,7 +115,7 @@ pub(crate) fn pid_text(text: &[u8]) -> Result<u32, LineFault>
     ensures { GivesNow line_cause (λ n. n) result (pid_text text.now) }
 {
     let value = plain_text(4_194_305, text)?;
-    some_pid(value as u32)
+    not_zero(value as u32)
 }
 
 /// A spelled word in double quotes, possibly empty, which may have double quotes in it. Errors:

@@ -1,6 +1,6 @@
 -- Lines that go to their trees.
 use Rattle.std.proofs.Common.{◌≡◌, List, [], ◌∷◌, ◌++◌, refl}
-use Rattle.tm_types.specs.declared.request.Tree.{Tree}
+use Rattle.tm_rules.specs.Types.{Tree}
 use Rattle.tm_log_processes.specs.declared.forest.TraceLine.{TraceLine}
 use Rattle.tm_log_processes.specs.Forests.{with_line, in_trees}
 

@@ -1,9 +1,8 @@
 -- Which domains a process may be in after one transition.
 use Rattle.std.specs.Prelude.{Bool, true, ◌||◌, Option, Some, None}
-use Rattle.tm_rules.specs.Words.{DomainName}
-use Rattle.tm_rules.specs.Policy.{namespace_word}
+use Rattle.tm_rules.specs.Prelude.{DomainName, namespace_word}
 use Rattle.tm_domain.specs.Names.{parent_of}
-use Rattle.tm_word.specs.Texts.{texts_equal}
+use Rattle.tm_word.specs.Prelude.{texts_equal}
 
 -- to a namespace word, to the domain with one more word, or to its namespace word with one more
 -- word

@@ -1,10 +1,8 @@
 -- The lines of a trace that is being made.
 use Rattle.std.specs.Prelude.{ℕ, ◌+◌, ◌-◌, ◌^◌, ◌==◌, nat_lt, nat_le, ◌&&◌, Bool, if◌then◌else◌, List, [], ◌∷◌, ◌++◌, length, min, map, slice_get, slice_set, Option, Some, None}
 use Rattle.std.specs.List.{flat_map}
-use Rattle.tm_types.specs.declared.request.Ids.{Ids}
-use Rattle.tm_types.specs.declared.request.Item.{Item}
-use Rattle.tm_types.specs.declared.request.Tree.{Tree}
-use Rattle.tm_rules.specs.Words.{DomainName, Trace}
+use Rattle.tm_rules.specs.Types.{Ids, Item, Tree}
+use Rattle.tm_rules.specs.Prelude.{DomainName, Trace, pid_of_line}
 use Rattle.tm_log_processes.specs.declared.forest.TraceLine.{TraceLine}
 use Rattle.tm_log_processes.specs.Processes.{digits}
 
@@ -17,12 +15,6 @@ pub record Grown : Type 0 where
 
 abbrev pub bare : Grown
 bare = record { trees = []; lines = []; records = 0; bytes = 0 }
-
--- the process of a line
-abbrev pub pid_of : Item → ℕ
-pid_of (Item.Ids pid ids) = pid
-pid_of (Item.Fork pid child) = pid
-pid_of (Item.Do pid request) = pid
 
 -- a sum that stays within 64 bits
 abbrev pub sum_of : ℕ → ℕ → ℕ
@@ -63,7 +55,7 @@ with_child line child = record line { children = line.children ++ child ∷ [] }
 
 abbrev pub forked_if : Option TraceLine → Grown → ℕ → ℕ → Grown
 forked_if None s place child = s
-forked_if (Some line) s place child = record (counted s (fork_length (pid_of line.item) child)) { lines = slice_set s.lines place (with_child line child) }
+forked_if (Some line) s place child = record (counted s (fork_length (pid_of_line line.item) child)) { lines = slice_set s.lines place (with_child line child) }
 
 unfoldable pub forked_before : Grown → ℕ → ℕ → Grown
 forked_before s place child = forked_if (slice_get s.lines place) s place child
@@ -84,7 +76,7 @@ has_room s size = nat_le s.records 199995 && nat_le (length s.trees) 4094 && nat
 
 -- a line with the forks before it
 abbrev pub items_of : TraceLine → List Item
-items_of line = map (Item.Fork (pid_of line.item)) line.children ++ line.item ∷ []
+items_of line = map (Item.Fork (pid_of_line line.item)) line.children ++ line.item ∷ []
 
 -- at the end of its tree
 abbrev pub with_items : Tree → List Item → Tree

@@ -1,7 +1,7 @@
 -- The processes in the order of their making, and the domain of each.
 use Rattle.std.specs.Prelude.{ℕ, zero, suc, ◌==◌, ◌&&◌, ◌||◌, Bool, true, false, not, if◌then◌else◌, List, [], ◌∷◌, ◌++◌, length, slice_get, slice_set, unwrap_or, Option, Some, None}
-use Rattle.tm_rules.specs.Words.{DomainName}
-use Rattle.tm_word.specs.Texts.{texts_equal}
+use Rattle.tm_rules.specs.Prelude.{DomainName}
+use Rattle.tm_word.specs.Prelude.{texts_equal}
 use Rattle.tm_log_processes.specs.declared.process.Process.{Process}
 use Rattle.tm_log_processes.specs.Domains.{leads}
 use Rattle.tm_log_processes.specs.Processes.{nobody}

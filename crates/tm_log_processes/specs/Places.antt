@@ -1,8 +1,8 @@
 -- The places of executes, and the domain at each.
 use Rattle.std.specs.Prelude.{ℕ, Bool, List, [], ◌∷◌, ◌++◌, slice_get, Option}
 use Rattle.std.specs.List.{position}
-use Rattle.tm_rules.specs.Words.{DomainName}
-use Rattle.tm_word.specs.Texts.{texts_equal}
+use Rattle.tm_rules.specs.Prelude.{DomainName}
+use Rattle.tm_word.specs.Prelude.{texts_equal}
 use Rattle.tm_log_processes.specs.declared.process.Place.{Place}
 use Rattle.tm_log_processes.specs.Lists.{is_named}
 

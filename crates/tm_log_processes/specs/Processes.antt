@@ -1,12 +1,9 @@
 -- Processes as a log tells them.
 use Rattle.std.specs.Prelude.{ℕ, ◌^◌, ◌==◌, ◌&&◌, nat_lt, Bool, false, if◌then◌else◌, Option, Some, None}
-use Rattle.tm_types.specs.declared.request.Ids.{Ids}
+use Rattle.tm_rules.specs.Types.{Ids}
 use Rattle.tm_log_processes.specs.declared.process.Origin.{Origin}
 use Rattle.tm_log_processes.specs.declared.process.Process.{Process}
-
--- all eight are 0
-abbrev pub no_ids : Ids
-no_ids = record { uid = 0; euid = 0; suid = 0; fsuid = 0; gid = 0; egid = 0; sgid = 0; fsgid = 0 }
+use Rattle.tm_rules.specs.Prelude.{no_ids}
 
 -- a new process: no execute was its last move, none was refused, and it wrote nowhere
 abbrev pub born : Origin → ℕ → Ids → Process

@@ -1,7 +1,8 @@
 //! The lines of a trace that is being made, each with its tree.
 ghost use Rattle.std.specs.Prelude.{◌≡◌, ◌≤◌, ◌++◌, ◌∷◌, [], map, length, IfOk, OnOk};
-ghost use Rattle.tm_types.specs.declared.request.Item.{Item};
-ghost use Rattle.tm_log_processes.specs.Forests.{bare, pid_of, fork_length, ids_length, line_length, counted, added, forked_before, planted, has_room, new_line, with_line, in_trees};
+ghost use Rattle.tm_rules.specs.Types.{Item};
+ghost use Rattle.tm_log_processes.specs.Forests.{bare, fork_length, ids_length, line_length, counted, added, forked_before, planted, has_room, new_line, with_line, in_trees};
+ghost use Rattle.tm_rules.specs.Prelude.{pid_of_line};
 
 use crate::process::digits;
 use std::alloc::Global;
@@ -53,8 +54,8 @@ impl Model for Forest {
 }
 
 // The process of a line.
-fn pid_of(item: &Item) -> u32
-    ensures { result ≡ pid_of item.now }
+fn pid_of_line(item: &Item) -> u32
+    ensures { result ≡ pid_of_line item.now }
 {
     match item {
         Item::Ids(pid, _) => *pid,
@@ -121,7 +122,7 @@ fn put_line(trees: &mut Vec<Tree>, line: TraceLine) -> Result<(), NoMemory>
         item,
     } = line;
     if tree < trees.len() {
-        let pid = pid_of(&item);
+        let pid = pid_of_line(&item);
         push_line(pid, children.as_slice(), item, &mut trees[tree].records)?;
     }
     Ok(())
@@ -199,7 +200,7 @@ impl Forest {
         ensures { OnOk result (self.new ≡ forked_before self.old line child) }
     {
         if line < self.lines.len() {
-            let pid = pid_of(&self.lines[line].item);
+            let pid = pid_of_line(&self.lines[line].item);
             self.lines[line].children.push(child)?;
             self.count(fork_length(pid, child));
         }

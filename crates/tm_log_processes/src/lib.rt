@@ -1,5 +1,6 @@
 //! The processes of an audit log, and the lines of the trace that is made of it.
 //! Stands on tm_domain, whose names of domains are compared, and on the types of tm_types.
+//! Of its own, beside tm_log, so that a change of one doesn't prove the other anew.
 //! Promises that each step on processes, places and lines is the defined one.
 #![tactic(auto)]
 

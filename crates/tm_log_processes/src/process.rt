@@ -1,6 +1,7 @@
 //! Processes as a log tells them.
 ghost use Rattle.std.specs.Prelude.{◌≡◌, ◌≤◌};
-ghost use Rattle.tm_log_processes.specs.Processes.{nobody, born, same_ids, no_ids, digits};
+ghost use Rattle.tm_log_processes.specs.Processes.{nobody, born, same_ids, digits};
+ghost use Rattle.tm_rules.specs.Prelude.{no_ids};
 
 use tm_types::request::Ids;
 

@@ -1,7 +1,7 @@
 -- Why no text is given of a log's trace.
 use Rattle.std.specs.Prelude.{⊤}
 use Rattle.std.specs.Result.{IsErr}
-use Rattle.tm_word.specs.Words.{Text}
+use Rattle.tm_word.specs.Prelude.{Text}
 use Rattle.tm_trace.specs.Reading.{trace_of}
 use Rattle.tm_log_trace.specs.declared.text.TextFault.{TextFault}
 

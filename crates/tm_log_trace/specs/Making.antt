@@ -3,22 +3,16 @@ use Rattle.std.specs.Prelude.{ℕ, ◌+◌, ◌-◌, ◌^◌, ◌==◌, ◌&&◌
 use Rattle.std.specs.Ordering.{nat_cmp}
 use Rattle.std.specs.BTreeMap.{is_at, insert_entry}
 use Rattle.std.specs.Map.{lookup}
-use Rattle.tm_word.specs.Words.{Text, Word}
-use Rattle.tm_word.specs.Texts.{texts_equal}
-use Rattle.tm_types.specs.Request.{argument_words, no_attributes}
-use Rattle.tm_types.specs.declared.entry.Args.{Args}
-use Rattle.tm_types.specs.declared.request.Item.{Item}
-use Rattle.tm_types.specs.declared.request.Proc.{Proc}
-use Rattle.tm_types.specs.declared.request.Request.{Request}
-use Rattle.tm_rules.specs.Condition.{is_execute}
-use Rattle.tm_rules.specs.Words.{DomainName}
+use Rattle.tm_word.specs.Prelude.{Text, Word, texts_equal}
+use Rattle.tm_rules.specs.Types.{Args, Item, Proc, Request, argument_words, no_attributes}
+use Rattle.tm_rules.specs.Prelude.{DomainName, is_execute, no_ids}
 use Rattle.tm_log.specs.declared.record.Record.{Record}
 use Rattle.tm_log.specs.declared.log.Source.{Source}
 use Rattle.tm_log.specs.declared.log.Used.{Used}
 use Rattle.tm_log_processes.specs.declared.process.Origin.{Origin}
 use Rattle.tm_log_processes.specs.declared.process.Place.{Place}
 use Rattle.tm_log_processes.specs.declared.process.Process.{Process}
-use Rattle.tm_log_processes.specs.Processes.{no_ids, born, same_ids}
+use Rattle.tm_log_processes.specs.Processes.{born, same_ids}
 use Rattle.tm_log_processes.specs.Lists.{Listed, none_listed, at, with_process, with_domain, is_in, moved, fits, entered, is_settled, settled_in, comes_from}
 use Rattle.tm_log_processes.specs.Places.{Left, no_places, with_place, first_in, is_at as is_place_in}
 use Rattle.tm_log_processes.specs.Forests.{Grown, bare, sum_of, added, forked_before, planted}

@@ -2,6 +2,7 @@
 //! supposed where the log doesn't show it.
 //! Stands on tm_log, which has the records, and on tm_log_processes, which keeps the processes and
 //! the lines.
+//! Of its own, above both, so that neither records nor processes know of the other.
 //! Promises that the trace and the report of a log are the defined ones, and that the text of the
 //! trace is one that `read_trace` accepts.
 #![tactic(auto)]

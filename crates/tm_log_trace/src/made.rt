@@ -39,7 +39,8 @@ struct TakenAll {
     cut: Option<Source>,
 }
 
-// The domains of the first records of pids.
+// A maker that has taken no record yet, but knows by pid the domain of the first record in which
+// the pid is the global one.
 fn see_all(alloc: Global, used: &[Used]) -> Result<Maker, NoMemory>
     ensures { IfOk result (λ maker. maker ≡ all_seen nothing_made used.now) }
 {

@@ -1,6 +1,6 @@
 //! Making a trace, record by record.
 ghost use Rattle.std.specs.Prelude.{◌≡◌, length, IfOk, OnOk};
-ghost use Rattle.tm_types.specs.Request.{argument_words};
+ghost use Rattle.tm_rules.specs.Types.{argument_words};
 ghost use Rattle.tm_log_processes.specs.Forests.{has_room, in_trees};
 ghost use Rattle.tm_log_trace.specs.Making.{nothing_made, warned, named, process_with, manual_request, forked, forked_at, tree_planted, first_left, put, gone_manually, next_number, warned_of_tree, start_of, parent_of, left_by, child_last, child, origin_of, has_no_parent, made_as, made, moved_on, settled, handed, again, differs, known, warned_of_thread, process_of, key_of, with_ids, executed, ends, name_ends, writes_own_domain, writing, asked, warned_of_cut, taken_as, at_source, with_invented, taken, seen};
 

@@ -3,9 +3,8 @@ use Rattle.std.proofs.Common.{◌≡◌, ℕ, suc, ◌+◌, ◌<◌, ◌≤◌, 
 use Rattle.std.specs.Prelude.{Option, Some, None, slice_get, nat_le}
 use Rattle.std.proofs.lemmas.Bool.{leb-true}
 use Rattle.std.proofs.lemmas.List.{length-map}
-use Rattle.tm_types.specs.declared.request.Item.{Item}
-use Rattle.tm_rules.specs.Condition.{is_execute}
-use Rattle.tm_rules.specs.Words.{DomainName}
+use Rattle.tm_rules.specs.Types.{Item}
+use Rattle.tm_rules.specs.Prelude.{DomainName, is_execute}
 use Rattle.tm_log.specs.declared.log.Source.{Source}
 use Rattle.tm_log.specs.declared.log.Used.{Used}
 use Rattle.tm_log.specs.declared.record.Record.{Record}

@@ -7,14 +7,13 @@ use Rattle.std.specs.Map.{lookup}
 use Rattle.std.specs.List.{AllByRecursion, flat_map}
 use Rattle.std.proofs.lemmas.Bool.{eqb-true, eqb-false}
 use Rattle.std.proofs.lemmas.Grind.{flat_map-append}
-use Rattle.tm_types.specs.declared.request.Item.{Item}
-use Rattle.tm_types.specs.declared.request.Tree.{Tree}
-use Rattle.tm_rules.specs.Words.{DomainName, Trace}
+use Rattle.tm_rules.specs.Types.{Item, Tree}
+use Rattle.tm_rules.specs.Prelude.{DomainName, Trace, pid_of_line}
 use Rattle.tm_log.specs.declared.record.Record.{Record}
 use Rattle.tm_log.specs.declared.log.Source.{Source}
 use Rattle.tm_log.specs.declared.log.Used.{Used}
 use Rattle.tm_log_processes.specs.declared.forest.TraceLine.{TraceLine}
-use Rattle.tm_log_processes.specs.Forests.{has_room, items_of, with_items, put_if, with_line, in_trees, pid_of}
+use Rattle.tm_log_processes.specs.Forests.{has_room, items_of, with_items, put_if, with_line, in_trees}
 use Rattle.tm_log_trace.specs.Making.{Making, nothing_made, taken, seen}
 use Rattle.tm_log_trace.specs.Made.{all_seen, step, step_if, count_next, taken_all, none_taken, trace_made}
 use Rattle.tm_log_trace_laws.specs.History.{Happening, Replays, firsts_from}
@@ -91,9 +90,9 @@ items-append t (x ∷ xs) ys = by (x.tree == t) (items-append t xs ys)
 items-of : (t : ℕ) (m : Marked) → items_in t (happenings m) ≡ (if m.line.tree == t then items_of m.line else [])
 items-of t m = items-append t (forks_of m m.line.children) (line_of m ∷ []) ∙ by (m.line.tree == t) refl
   where
-    forks-true : (cs : List ℕ) → (m.line.tree == t) ≡ true → items_in t (forks_of m cs) ≡ map (Item.Fork (pid_of m.line.item)) cs
+    forks-true : (cs : List ℕ) → (m.line.tree == t) ≡ true → items_in t (forks_of m cs) ≡ map (Item.Fork (pid_of_line m.line.item)) cs
     forks-true [] e = refl
-    forks-true (c ∷ cs) e = rw e (ap (λ items. Item.Fork (pid_of m.line.item) c ∷ items) (forks-true cs e))
+    forks-true (c ∷ cs) e = rw e (ap (λ items. Item.Fork (pid_of_line m.line.item) c ∷ items) (forks-true cs e))
 
     forks-false : (cs : List ℕ) → (m.line.tree == t) ≡ false → items_in t (forks_of m cs) ≡ []
     forks-false [] e = refl
@@ -132,7 +131,7 @@ supposed-all (m ∷ ms) =
     here (c ∷ cs) = here cs
 
 -- what holds of a line holds of its forks
-each-all : (P : Happening → Type 0) (ms : List Marked) → ((m : Marked) (c : ℕ) → P (line_of m) → P (fork_line m.line.tree (pid_of m.line.item) c m.domain)) → AllByRecursion (λ (m : Marked). P (line_of m)) ms → AllByRecursion P (history ms)
+each-all : (P : Happening → Type 0) (ms : List Marked) → ((m : Marked) (c : ℕ) → P (line_of m) → P (fork_line m.line.tree (pid_of_line m.line.item) c m.domain)) → AllByRecursion (λ (m : Marked). P (line_of m)) ms → AllByRecursion P (history ms)
 each-all P [] forks all = tt
 each-all P (m ∷ ms) forks all = All-both P (happenings m) (history ms) (here m.line.children) (each-all P ms forks all.1)
   where
@@ -269,7 +268,7 @@ one_line_each log pids rises = (
     records = t.is ∙ ap (λ rs. rs ++ t.rest) (sym sound.told.records ∙ sym (records-all sound.marked));
     cut = t.at_cut;
     each = each-all (λ (h : Happening). IsOf h.used h) sound.marked (λ m c is. tt) sound.told.each;
-    named = each-all (λ (h : Happening). IsNamed made.warnings h.used (pid_of h.item)) sound.marked (λ m c is. tt) sound.told.named;
+    named = each-all (λ (h : Happening). IsNamed made.warnings h.used (pid_of_line h.item)) sound.marked (λ m c is. tt) sound.told.named;
     manuals = supposed-all sound.marked ∙ sound.told.manuals;
     replays = subst (λ s. Replays s (history sound.marked)) (sym (firsts-trees trees lines)) sound.walk.replays;
   },

@@ -4,7 +4,7 @@ use Rattle.std.specs.Prelude.{Option, Some, None, slice_get, slice_set}
 use Rattle.std.specs.Ordering.{nat_cmp}
 use Rattle.std.specs.BTreeMap.{insert_entry}
 use Rattle.std.proofs.lemmas.Bool.{eq-eqb, ne_eqb, eqb-true, eqb-false}
-use Rattle.tm_rules.specs.Words.{DomainName}
+use Rattle.tm_rules.specs.Prelude.{DomainName}
 use Rattle.tm_log.specs.declared.log.Used.{Used}
 use Rattle.tm_log.specs.declared.record.Record.{Record}
 use Rattle.tm_log_processes.specs.declared.process.Origin.{Origin}

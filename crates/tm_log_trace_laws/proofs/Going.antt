@@ -2,11 +2,11 @@
 use Rattle.std.proofs.Common.{◌≡◌, ℕ, ◌+◌, ◌<◌, Bool, true, false, true≢false, List, [], ◌∷◌, ◌++◌, length, refl, sym, ap, ◌∙◌, subst, arith, append_assoc, length-append, inl}
 use Rattle.std.specs.Prelude.{Option, Some, None, slice_get, slice_set}
 use Rattle.std.specs.List.{AllByRecursion}
-use Rattle.tm_types.specs.declared.request.Item.{Item}
-use Rattle.tm_rules.specs.Words.{DomainName, Trace}
+use Rattle.tm_rules.specs.Types.{Item}
+use Rattle.tm_rules.specs.Prelude.{DomainName, Trace, pid_of_line}
 use Rattle.tm_log.specs.declared.log.Used.{Used}
 use Rattle.tm_log_processes.specs.declared.process.Process.{Process}
-use Rattle.tm_log_processes.specs.Forests.{pid_of, new_tree}
+use Rattle.tm_log_processes.specs.Forests.{new_tree}
 use Rattle.tm_log_processes.specs.Lists.{Listed, with_process, with_domain, entered}
 use Rattle.tm_log_trace_laws.specs.History.{Happening, Stand, Stands, stand_of, StandsIn, stand_after, with_child, after_line, Replays, firsts_from}
 use Rattle.tm_log_trace_laws.proofs.Lists.{All-set, All-both, All-later, All-get, SplitAt, split-at, set-same}
@@ -56,13 +56,13 @@ ends-push : (trees : Trace) (marked : List Marked) (tree : ℕ) (item : Item) (d
 ends-push trees marked tree item domain used =
     ap (after_lines (firsts_from 0 trees)) (history-push marked tree item domain used) ∙ after-append (firsts_from 0 trees) (history marked) (line_of (mark tree item domain used) ∷ [])
 
-replays-push : (trees : Trace) (marked : List Marked) (tree : ℕ) (item : Item) (domain : DomainName) (used : Option Used) → Replays (firsts_from 0 trees) (history marked) → StandsIn (stand_of (ends trees marked) (pid_of item)) tree domain → Replays (firsts_from 0 trees) (history (marked ++ mark tree item domain used ∷ []))
+replays-push : (trees : Trace) (marked : List Marked) (tree : ℕ) (item : Item) (domain : DomainName) (used : Option Used) → Replays (firsts_from 0 trees) (history marked) → StandsIn (stand_of (ends trees marked) (pid_of_line item)) tree domain → Replays (firsts_from 0 trees) (history (marked ++ mark tree item domain used ∷ []))
 replays-push trees marked tree item domain used h fits =
     subst (λ hs. Replays (firsts_from 0 trees) hs) (sym (history-push marked tree item domain used))
     (replays-both (firsts_from 0 trees) (history marked) (line_of (mark tree item domain used) ∷ []) h (fits, tt))
 
 -- a line of a process that makes no other one
-pub walk-line : (F : ℕ → Type 0) (trees : Trace) (list : Listed) (marked : List Marked) (p : ℕ) (old new : Process) (own domain to : DomainName) (item : Item) (used : Option Used) → Walk F trees list marked → There list p old own → MayGo old own domain → pid_of item ≡ old.origin.number → ((st : Stand) (t : Stands) → with_child item st t ≡ t) → new.origin.number ≡ old.origin.number → new.tree ≡ old.tree → HeldIn (Some (stand_after (line_of (mark old.tree item domain used)))) new to → Walk F trees (with_domain (with_process list p new) p to) (marked ++ mark old.tree item domain used ∷ [])
+pub walk-line : (F : ℕ → Type 0) (trees : Trace) (list : Listed) (marked : List Marked) (p : ℕ) (old new : Process) (own domain to : DomainName) (item : Item) (used : Option Used) → Walk F trees list marked → There list p old own → MayGo old own domain → pid_of_line item ≡ old.origin.number → ((st : Stand) (t : Stands) → with_child item st t ≡ t) → new.origin.number ≡ old.origin.number → new.tree ≡ old.tree → HeldIn (Some (stand_after (line_of (mark old.tree item domain used)))) new to → Walk F trees (with_domain (with_process list p new) p to) (marked ++ mark old.tree item domain used ∷ [])
 walk-line F trees list marked p old new own domain to item used h there goes pid quiet number tree held =
     record {
       replays = replays-push trees marked old.tree item domain used h.replays (rw pid (held-fits (stand_of w old.origin.number) old own domain (h.listing.held p old own there) goes));
@@ -82,10 +82,10 @@ walk-line F trees list marked p old new own domain to item used h there goes pid
     st = stand_after line
 
     end : ends trees (marked ++ mark old.tree item domain used ∷ []) ≡ (old.origin.number, st) ∷ w
-    end = ends-push trees marked old.tree item domain used ∙ quiet st ((pid_of item, st) ∷ w) ∙ ap (λ n. (n, st) ∷ w) pid
+    end = ends-push trees marked old.tree item domain used ∙ quiet st ((pid_of_line item, st) ∷ w) ∙ ap (λ n. (n, st) ∷ w) pid
 
 -- it stays in its domain
-pub walk-line-kept : (F : ℕ → Type 0) (trees : Trace) (list : Listed) (marked : List Marked) (p : ℕ) (old new : Process) (own : DomainName) (item : Item) (used : Option Used) → Walk F trees list marked → There list p old own → pid_of item ≡ old.origin.number → ((st : Stand) (t : Stands) → with_child item st t ≡ t) → new.origin.number ≡ old.origin.number → new.tree ≡ old.tree → HeldIn (Some (stand_after (line_of (mark old.tree item own used)))) new own → Walk F trees (with_process list p new) (marked ++ mark old.tree item own used ∷ [])
+pub walk-line-kept : (F : ℕ → Type 0) (trees : Trace) (list : Listed) (marked : List Marked) (p : ℕ) (old new : Process) (own : DomainName) (item : Item) (used : Option Used) → Walk F trees list marked → There list p old own → pid_of_line item ≡ old.origin.number → ((st : Stand) (t : Stands) → with_child item st t ≡ t) → new.origin.number ≡ old.origin.number → new.tree ≡ old.tree → HeldIn (Some (stand_after (line_of (mark old.tree item own used)))) new own → Walk F trees (with_process list p new) (marked ++ mark old.tree item own used ∷ [])
 walk-line-kept F trees list marked p old new own item used h there pid quiet number tree held =
     subst (λ (ds : List DomainName). Walk F trees (record { processes = slice_set list.processes p new; domains = ds }) (marked ++ mark old.tree item own used ∷ [])) (set-same list.domains p own there.inside)
     (walk-line F trees list marked p old new own own own item used h there (inl refl) pid quiet number tree held)
@@ -207,7 +207,7 @@ walk-forks-before F trees list marked k m child h at quiet fresh tree closed wit
     was = ap history split.is ∙ history-append split.before (m ∷ split.behind) ∙ ap (λ t. history split.before ++ t) (append_assoc (forks_of m m.line.children) (line_of m ∷ []) ys) ∙ sym (append_assoc (history split.before) (forks_of m m.line.children) (line_of m ∷ ys))
 
     fork : Happening
-    fork = fork_line m.line.tree (pid_of m.line.item) c m.domain
+    fork = fork_line m.line.tree (pid_of_line m.line.item) c m.domain
 
     becomes : history later ≡ xs ++ fork ∷ line_of m ∷ ys
     becomes =
@@ -218,7 +218,7 @@ walk-forks-before F trees list marked k m child h at quiet fresh tree closed wit
       where
         forks-bearing : (cs : List ℕ) → forks_of (bearing m c) (cs ++ c ∷ []) ≡ forks_of m cs ++ fork ∷ []
         forks-bearing [] = refl
-        forks-bearing (x ∷ cs) = ap (λ t. fork_line m.line.tree (pid_of m.line.item) x m.domain ∷ t) (forks-bearing cs)
+        forks-bearing (x ∷ cs) = ap (λ t. fork_line m.line.tree (pid_of_line m.line.item) x m.domain ∷ t) (forks-bearing cs)
 
         regroup : (fs : List Happening) (f l : Happening) (zs : List Happening) → ((fs ++ f ∷ []) ++ l ∷ []) ++ zs ≡ fs ++ f ∷ l ∷ zs
         regroup [] f l zs = refl

@@ -3,8 +3,8 @@ use Rattle.std.proofs.Common.{◌≡◌, ℕ, zero, suc, ◌<◌, ◌==◌, ◌&
 use Rattle.std.specs.Prelude.{Option, Some, None, slice_get, slice_set, unwrap_or}
 use Rattle.std.proofs.lemmas.Bool.{eqb-true, eqb-false}
 use Rattle.std.proofs.lemmas.Option.{slice_get_within}
-use Rattle.tm_rules.specs.Words.{DomainName}
-use Rattle.tm_word.specs.Texts.{texts_equal}
+use Rattle.tm_rules.specs.Prelude.{DomainName}
+use Rattle.tm_word.specs.Prelude.{texts_equal}
 use Rattle.tm_word.proofs.TextLaws.{texts_sound}
 use Rattle.tm_log_processes.specs.declared.process.Process.{Process}
 use Rattle.tm_log_processes.specs.Domains.{leads}

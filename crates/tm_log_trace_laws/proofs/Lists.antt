@@ -1,6 +1,6 @@
 -- Lists at their places.
 use Rattle.std.proofs.Common.{◌≡◌, ℕ, zero, suc, List, [], ◌∷◌, ◌++◌, length, map, refl, ap, arith, ◌⊎◌, inl, inr}
-use Rattle.std.specs.Prelude.{Some, None, slice_get, slice_set}
+use Rattle.std.specs.Prelude.{Some, slice_get, slice_set}
 use Rattle.std.specs.List.{AllByRecursion}
 
 pub get-set-other : {A : Type 0} (xs : List A) (k t : ℕ) (x : A) → (t ≡ k → ⊥) → slice_get (slice_set xs k x) t ≡ slice_get xs t
@@ -19,11 +19,6 @@ pub length-set : {A : Type 0} (xs : List A) (k : ℕ) (x : A) → length (slice_
 length-set [] k x = refl
 length-set (y ∷ xs) zero x = refl
 length-set (y ∷ xs) (suc k) x = ap suc (length-set xs k x)
-
-pub set-past : {A : Type 0} (xs : List A) (k : ℕ) (x : A) → slice_get xs k ≡ None → slice_set xs k x ≡ xs
-set-past [] k x at = refl
-set-past (y ∷ xs) zero x at = absurd cc
-set-past (y ∷ xs) (suc k) x at = ap (λ t. y ∷ t) (set-past xs k x at)
 
 pub map-set : {A B : Type 0} (f : A → B) (xs : List A) (k : ℕ) (x : A) → map f (slice_set xs k x) ≡ slice_set (map f xs) k (f x)
 map-set f [] k x = refl
@@ -79,14 +74,6 @@ All-later P Q (x ∷ xs) f all = (f x all.0, All-later P Q xs f all.1)
 pub All-both : {A : Type 0} (P : A → Type 0) (xs ys : List A) → AllByRecursion P xs → AllByRecursion P ys → AllByRecursion P (xs ++ ys)
 All-both P [] ys all more = more
 All-both P (x ∷ xs) ys all more = (all.0, All-both P xs ys all.1 more)
-
-pub All-front : {A : Type 0} (P : A → Type 0) (xs ys : List A) → AllByRecursion P (xs ++ ys) → AllByRecursion P xs
-All-front P [] ys all = tt
-All-front P (x ∷ xs) ys all = (all.0, All-front P xs ys all.1)
-
-pub All-back : {A : Type 0} (P : A → Type 0) (xs ys : List A) → AllByRecursion P (xs ++ ys) → AllByRecursion P ys
-All-back P [] ys all = all
-All-back P (x ∷ xs) ys all = All-back P xs ys all.1
 
 -- a list around one of its elements
 pub record SplitAt {A : Type 0} (xs : List A) (k : ℕ) (x : A) : Type 0 where

@@ -3,9 +3,7 @@ use Rattle.std.proofs.Common.{◌≡◌, ℕ, suc, ◌+◌, ◌-◌, ◌^◌, �
 use Rattle.std.specs.Prelude.{Option, Some, None, Result, Ok, Err}
 use Rattle.std.specs.List.{AllByRecursion}
 use Rattle.std.proofs.lemmas.Bool.{lt-ltb}
-use Rattle.tm_word.specs.Words.{Text}
-use Rattle.tm_word.specs.Spelling.{words_of}
-use Rattle.tm_word.specs.Texts.{begins_with_byte}
+use Rattle.tm_word.specs.Prelude.{Text, begins_with_byte, words_of}
 use Rattle.tm_log.specs.declared.faults.Reason.{Reason}
 use Rattle.tm_log.specs.declared.gather.Gatherer.{Gatherer}
 use Rattle.tm_log.specs.declared.gather.Lines.{Lines}

@@ -1,7 +1,7 @@
 -- What is read passes a test, step by step.
 use Rattle.std.specs.Prelude.{Result, Ok, Err}
-use Rattle.tm_word.specs.Gives.{◌>>=◌}
-use Rattle.tm_types.specs.declared.entry.LineKind.{LineKind}
+use Rattle.tm_word.specs.Prelude.{◌>>=◌}
+use Rattle.tm_rules.specs.Types.{LineKind}
 use Rattle.tm_log.specs.declared.faults.Reason.{Reason}
 use Rattle.tm_log.specs.Reasons.{for_reason}
 

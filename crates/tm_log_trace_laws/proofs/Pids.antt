@@ -1,22 +1,18 @@
 -- The pids that a record of a log tells are at most 4,194,304.
 use Rattle.std.proofs.Common.{◌≡◌, ℕ, ◌-◌, ◌<◌, ◌≤◌, ◌==◌, Bool, true, false, if◌then◌else◌, List, [], ◌∷◌, length, take, refl, arith}
 use Rattle.std.specs.Prelude.{Option, Some, None, Result, Ok, Err, codes}
-use Rattle.tm_word.specs.Words.{Text}
-use Rattle.tm_word.specs.Spelling.{words_of}
-use Rattle.tm_word.specs.Texts.{after}
-use Rattle.tm_word.specs.Gives.{◌>>=◌}
+use Rattle.tm_word.specs.Prelude.{Text, after, words_of, ◌>>=◌}
 use Rattle.tm_number.specs.Numbers.{plain_of}
 use Rattle.tm_number.proofs.NumberLaws.{plain_small}
-use Rattle.tm_types.specs.declared.entry.LineKind.{LineKind}
-use Rattle.tm_types.specs.declared.request.Proc.{Proc}
-use Rattle.tm_types.specs.declared.request.Request.{Request}
+use Rattle.tm_rules.specs.Types.{LineKind, Proc, Request}
 use Rattle.tm_line.specs.Lines.{or_kind, word_at}
 use Rattle.tm_cond.specs.Attributes.{ends_in}
 use Rattle.tm_trace.specs.Requests.{only_at}
 use Rattle.tm_log.specs.declared.faults.Reason.{Reason}
 use Rattle.tm_log.specs.declared.header.Header.{Header}
 use Rattle.tm_log.specs.declared.record.Record.{Record}
-use Rattle.tm_log.specs.Steps.{after_front, plain_text, plain_field, parent_pid_at, some_pid, pid_at, pid_text}
+use Rattle.tm_log.specs.Steps.{after_front, plain_text, plain_field, parent_pid_at, pid_at, pid_text}
+use Rattle.tm_trace.specs.Processes.{not_zero}
 use Rattle.tm_log.specs.Headers.{closed_pid, global_pid_at, ids_at, handler_at, task_at, refused_at, process_at, files_at, facts_at, header_of}
 use Rattle.tm_log_trace_laws.specs.Told.{IsNoManual}
 use Rattle.tm_log_trace_laws.proofs.Passing.{OkIs, bound, anything, reasoned}
@@ -44,7 +40,7 @@ worded P read (word ∷ words) h = bound P (λ x. P x.0) (read word) (λ x. Ok (
 parent-pid : (front : Text) (words : List Text) → OkIs (λ (x : ℕ × List Text). IsPid x.0) (parent_pid_at front words)
 parent-pid front words = worded IsPid (plain_field front 4194305) words (λ word. fronted IsPid (plain_text 4194305) (after front word) (plain 4194305))
 
-some-pid : (n : ℕ) → IsPid n → OkIs IsPid (some_pid n)
+some-pid : (n : ℕ) → IsPid n → OkIs IsPid (not_zero n)
 some-pid n h = by (n == 0)
   where
     by : (b : Bool) → OkIs IsPid (if b then Err LineKind.Number else Ok n)
@@ -54,12 +50,12 @@ some-pid n h = by (n == 0)
 pid-at : (front : Text) (words : List Text) → OkIs (λ (x : ℕ × List Text). IsPid x.0) (pid_at front words)
 unfolding pid_at
 pid-at front words =
-    bound (λ (x : ℕ × List Text). IsPid x.0) (λ (x : ℕ × List Text). IsPid x.0) (parent_pid_at front words) (λ read. some_pid read.0 >>= λ pid. Ok (pid, read.1)) (parent-pid front words)
-    (λ read p. bound IsPid (λ (x : ℕ × List Text). IsPid x.0) (some_pid read.0) (λ pid. Ok (pid, read.1)) (some-pid read.0 p) (λ pid q. q))
+    bound (λ (x : ℕ × List Text). IsPid x.0) (λ (x : ℕ × List Text). IsPid x.0) (parent_pid_at front words) (λ read. not_zero read.0 >>= λ pid. Ok (pid, read.1)) (parent-pid front words)
+    (λ read p. bound IsPid (λ (x : ℕ × List Text). IsPid x.0) (not_zero read.0) (λ pid. Ok (pid, read.1)) (some-pid read.0 p) (λ pid q. q))
 
 pid-text : (text : Text) → OkIs IsPid (pid_text text)
 unfolding pid_text
-pid-text text = bound IsPid IsPid (plain_text 4194305 text) some_pid (plain 4194305 text) some-pid
+pid-text text = bound IsPid IsPid (plain_text 4194305 text) not_zero (plain 4194305 text) some-pid
 
 closed-pid : (text : Text) → OkIs IsPid (closed_pid text)
 closed-pid text = by (ends_in 41 text)

@@ -4,16 +4,16 @@ use Rattle.std.specs.Prelude.{Option, Some, None, slice_get, slice_set, codes}
 use Rattle.std.proofs.lemmas.Bool.{eqb-true, eqb-false}
 use Rattle.std.proofs.lemmas.Option.{slice_get-get_or}
 use Rattle.std.proofs.lemmas.List.Quantifiers.{position-Some}
-use Rattle.tm_word.specs.Texts.{texts_equal}
+use Rattle.tm_word.specs.Prelude.{texts_equal}
 use Rattle.tm_word.proofs.TextLaws.{texts_sound}
-use Rattle.tm_types.specs.declared.request.Item.{Item}
-use Rattle.tm_rules.specs.Words.{DomainName}
+use Rattle.tm_rules.specs.Types.{Item}
+use Rattle.tm_rules.specs.Prelude.{DomainName, no_ids}
 use Rattle.tm_log.specs.declared.log.Used.{Used}
 use Rattle.tm_log_processes.specs.declared.forest.TraceLine.{TraceLine}
 use Rattle.tm_log_processes.specs.declared.process.Origin.{Origin}
 use Rattle.tm_log_processes.specs.declared.process.Place.{Place}
 use Rattle.tm_log_processes.specs.declared.process.Process.{Process}
-use Rattle.tm_log_processes.specs.Processes.{born, no_ids}
+use Rattle.tm_log_processes.specs.Processes.{born}
 use Rattle.tm_log_processes.specs.Forests.{Grown, added, forked_before, forked_if, planted, sum_of}
 use Rattle.tm_log_processes.specs.Lists.{Listed, at, with_process, with_domain, entered, is_settled, settled_in, moved, is_named}
 use Rattle.tm_log_processes.specs.Places.{Left, with_place, first_in}

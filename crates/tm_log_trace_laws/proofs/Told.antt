@@ -6,12 +6,11 @@ use Rattle.std.proofs.lemmas.List.{map-append}
 use Rattle.std.proofs.lemmas.Grind.{flat_map-append}
 use Rattle.std.proofs.lemmas.Bool.{le-leb}
 use Rattle.std.proofs.lemmas.Bool.Decides.{leb_tells}
-use Rattle.tm_types.specs.declared.request.Item.{Item}
-use Rattle.tm_types.specs.declared.request.Tree.{Tree}
-use Rattle.tm_rules.specs.Words.{DomainName}
+use Rattle.tm_rules.specs.Types.{Item, Tree}
+use Rattle.tm_rules.specs.Prelude.{DomainName, pid_of_line}
 use Rattle.tm_log.specs.declared.log.Used.{Used}
 use Rattle.tm_log_processes.specs.declared.forest.TraceLine.{TraceLine}
-use Rattle.tm_log_processes.specs.Forests.{Grown, pid_of, new_line, with_child, added, forked_before, planted, new_tree, sum_of}
+use Rattle.tm_log_processes.specs.Forests.{Grown, new_line, with_child, added, forked_before, planted, new_tree, sum_of}
 use Rattle.tm_log_trace.specs.declared.notes.Note.{Note}
 use Rattle.tm_log_trace.specs.declared.notes.Warning.{Warning}
 use Rattle.tm_log_trace_laws.specs.History.{Happening}
@@ -33,7 +32,7 @@ line_of m = record { tree = m.line.tree; item = m.line.item; domain = m.domain; 
 
 abbrev pub forks_of : Marked → List ℕ → List Happening
 forks_of m [] = []
-forks_of m (child ∷ children) = fork_line m.line.tree (pid_of m.line.item) child m.domain ∷ forks_of m children
+forks_of m (child ∷ children) = fork_line m.line.tree (pid_of_line m.line.item) child m.domain ∷ forks_of m children
 
 abbrev pub happenings : Marked → List Happening
 happenings m = forks_of m m.line.children ++ line_of m ∷ []
@@ -48,13 +47,6 @@ bearing m child = record m { line = with_child m.line child }
 pub history-append : (xs ys : List Marked) → history (xs ++ ys) ≡ history xs ++ history ys
 history-append [] ys = refl
 history-append (x ∷ xs) ys = rw (history-append xs ys) (sym (append_assoc (happenings x) (history xs) (history ys)))
-
-pub forks-append : (m : Marked) (xs ys : List ℕ) → forks_of m (xs ++ ys) ≡ forks_of m xs ++ forks_of m ys
-forks-append m [] ys = refl
-forks-append m (x ∷ xs) ys = ap (λ t. fork_line m.line.tree (pid_of m.line.item) x m.domain ∷ t) (forks-append m xs ys)
-
-abbrev pub marked_record : Marked → List Used
-marked_record m = record_in m.used
 
 -- a record has a lesser number
 abbrev pub IsPast : ℕ → Option Used → Type 0
@@ -118,15 +110,15 @@ at-later notes note one key later =
     ap (number_told key) (up-to-append one.source.number notes (note ∷ []))
     ∙ rw (le-false note.source.number one.source.number later) (ap (number_told key) (append-nil (notes_up_to one.source.number notes)))
 
-named-plain : (notes : List Note) (note : Note) (marked : List Marked) → IsPlain note.warning → AllByRecursion (λ (m : Marked). IsNamed notes m.used (pid_of m.line.item)) marked → AllByRecursion (λ (m : Marked). IsNamed (notes ++ note ∷ []) m.used (pid_of m.line.item)) marked
+named-plain : (notes : List Note) (note : Note) (marked : List Marked) → IsPlain note.warning → AllByRecursion (λ (m : Marked). IsNamed notes m.used (pid_of_line m.line.item)) marked → AllByRecursion (λ (m : Marked). IsNamed (notes ++ note ∷ []) m.used (pid_of_line m.line.item)) marked
 named-plain notes note marked plain all =
-    All-later (λ (m : Marked). IsNamed notes m.used (pid_of m.line.item)) (λ (m : Marked). IsNamed (notes ++ note ∷ []) m.used (pid_of m.line.item)) marked
-    (λ m h. named-same notes (notes ++ note ∷ []) m.used (pid_of m.line.item) (λ one e key. at-plain notes note one key plain) h) all
+    All-later (λ (m : Marked). IsNamed notes m.used (pid_of_line m.line.item)) (λ (m : Marked). IsNamed (notes ++ note ∷ []) m.used (pid_of_line m.line.item)) marked
+    (λ m h. named-same notes (notes ++ note ∷ []) m.used (pid_of_line m.line.item) (λ one e key. at-plain notes note one key plain) h) all
 
-named-later : (notes : List Note) (note : Note) (marked : List Marked) → AllByRecursion (λ (m : Marked). IsPast note.source.number m.used) marked → AllByRecursion (λ (m : Marked). IsNamed notes m.used (pid_of m.line.item)) marked → AllByRecursion (λ (m : Marked). IsNamed (notes ++ note ∷ []) m.used (pid_of m.line.item)) marked
+named-later : (notes : List Note) (note : Note) (marked : List Marked) → AllByRecursion (λ (m : Marked). IsPast note.source.number m.used) marked → AllByRecursion (λ (m : Marked). IsNamed notes m.used (pid_of_line m.line.item)) marked → AllByRecursion (λ (m : Marked). IsNamed (notes ++ note ∷ []) m.used (pid_of_line m.line.item)) marked
 named-later notes note [] past all = tt
 named-later notes note (m ∷ ms) past all = (
-  named-same notes (notes ++ note ∷ []) m.used (pid_of m.line.item) (λ one e key. at-later notes note one key (rw e at past.0)) all.0,
+  named-same notes (notes ++ note ∷ []) m.used (pid_of_line m.line.item) (λ one e key. at-later notes note one key (rw e at past.0)) all.0,
   named-later notes note ms past.1 all.1,
 )
 
@@ -135,7 +127,7 @@ pub record Told (recs : List Used) (now : ℕ) (forest : Grown) (warnings : List
   pub lines : forest.lines ≡ map (λ (m : Marked). m.line) marked
   pub records : flat_map (λ (m : Marked). record_in m.used) marked ≡ recs
   pub each : AllByRecursion (λ (m : Marked). IsOf m.used (line_of m)) marked
-  pub named : AllByRecursion (λ (m : Marked). IsNamed warnings m.used (pid_of m.line.item)) marked
+  pub named : AllByRecursion (λ (m : Marked). IsNamed warnings m.used (pid_of_line m.line.item)) marked
   pub past : AllByRecursion (λ (m : Marked). IsPast now m.used) marked
   pub notes : AllByRecursion (λ (note : Note). note.source.number ≤ now) warnings
   pub manuals : flat_map (λ (m : Marked). supposed_in m.used m.line.item) marked ≡ manuals_in warnings
@@ -188,7 +180,7 @@ told-later recs now later forest warnings marked le h =
     }
 
 -- a line of no record, after warnings that rename no process
-pub told-push : (recs : List Used) (now : ℕ) (forest : Grown) (warnings later : List Note) (marked : List Marked) (tree : ℕ) (item : Item) (size : ℕ) (domain : DomainName) → Told recs now forest warnings marked → tree < length forest.trees → manuals_in later ≡ manuals_in warnings ++ supposed_in None item → AllByRecursion (λ (m : Marked). IsNamed later m.used (pid_of m.line.item)) marked → AllByRecursion (λ (note : Note). note.source.number ≤ now) later → Told recs now (added forest tree item size) later (marked ++ mark tree item domain None ∷ [])
+pub told-push : (recs : List Used) (now : ℕ) (forest : Grown) (warnings later : List Note) (marked : List Marked) (tree : ℕ) (item : Item) (size : ℕ) (domain : DomainName) → Told recs now forest warnings marked → tree < length forest.trees → manuals_in later ≡ manuals_in warnings ++ supposed_in None item → AllByRecursion (λ (m : Marked). IsNamed later m.used (pid_of_line m.line.item)) marked → AllByRecursion (λ (note : Note). note.source.number ≤ now) later → Told recs now (added forest tree item size) later (marked ++ mark tree item domain None ∷ [])
 unfolding added
 told-push recs now forest warnings later marked tree item size domain h within manuals named notes =
     let m : Marked = mark tree item domain None in
@@ -196,7 +188,7 @@ told-push recs now forest warnings later marked tree item size domain h within m
       lines = rw (map-append (λ (m : Marked). m.line) marked (m ∷ [])) (ap (λ t. t ++ new_line tree item ∷ []) h.lines);
       records = flat-push (λ (m : Marked). record_in m.used) marked m ∙ append-nil (flat_map (λ (m : Marked). record_in m.used) marked) ∙ h.records;
       each = All-both (λ (m : Marked). IsOf m.used (line_of m)) marked (m ∷ []) h.each (tt, tt);
-      named = All-both (λ (m : Marked). IsNamed later m.used (pid_of m.line.item)) marked (m ∷ []) named (tt, tt);
+      named = All-both (λ (m : Marked). IsNamed later m.used (pid_of_line m.line.item)) marked (m ∷ []) named (tt, tt);
       past = All-both (λ (m : Marked). IsPast now m.used) marked (m ∷ []) h.past (tt, tt);
       notes = notes;
       manuals = flat-push (λ (m : Marked). supposed_in m.used m.line.item) marked m ∙ ap (λ t. t ++ supposed_in None item) h.manuals ∙ sym manuals;
@@ -219,7 +211,7 @@ told-manual recs now forest warnings marked tree item size domain note h within 
     (All-both (λ (note : Note). note.source.number ≤ now) warnings (note ∷ []) h.notes (low, tt))
 
 -- the line of a record, which is the latest
-pub told-asked : (recs : List Used) (forest : Grown) (warnings : List Note) (marked : List Marked) (tree : ℕ) (item : Item) (size : ℕ) (domain : DomainName) (used : Used) → Told recs used.source.number forest warnings marked → tree < length forest.trees → IsOf (Some used) (line_of (mark tree item domain (Some used))) → (pid_of item ≡ number_told used.«record».process.pid warnings) ⊎ (pid_of item ≡ number_told used.«record».global_pid warnings) → Told (recs ++ used ∷ []) (suc used.source.number) (added forest tree item size) warnings (marked ++ mark tree item domain (Some used) ∷ [])
+pub told-asked : (recs : List Used) (forest : Grown) (warnings : List Note) (marked : List Marked) (tree : ℕ) (item : Item) (size : ℕ) (domain : DomainName) (used : Used) → Told recs used.source.number forest warnings marked → tree < length forest.trees → IsOf (Some used) (line_of (mark tree item domain (Some used))) → (pid_of_line item ≡ number_told used.«record».process.pid warnings) ⊎ (pid_of_line item ≡ number_told used.«record».global_pid warnings) → Told (recs ++ used ∷ []) (suc used.source.number) (added forest tree item size) warnings (marked ++ mark tree item domain (Some used) ∷ [])
 unfolding added
 told-asked recs forest warnings marked tree item size domain used h within is key =
     let m : Marked = mark tree item domain (Some used) in
@@ -228,7 +220,7 @@ told-asked recs forest warnings marked tree item size domain used h within is ke
       lines = rw (map-append (λ (m : Marked). m.line) marked (m ∷ [])) (ap (λ t. t ++ new_line tree item ∷ []) h.lines);
       records = flat-push (λ (m : Marked). record_in m.used) marked m ∙ ap (λ t. t ++ used ∷ []) h.records;
       each = All-both (λ (m : Marked). IsOf m.used (line_of m)) marked (m ∷ []) h.each (is, tt);
-      named = All-both (λ (m : Marked). IsNamed warnings m.used (pid_of m.line.item)) marked (m ∷ []) h.named (rw (sym (up-to-all now warnings h.notes)) at key, tt);
+      named = All-both (λ (m : Marked). IsNamed warnings m.used (pid_of_line m.line.item)) marked (m ∷ []) h.named (rw (sym (up-to-all now warnings h.notes)) at key, tt);
       past = All-both (λ (m : Marked). IsPast (suc now) m.used) marked (m ∷ []) (All-later (λ (m : Marked). IsPast now m.used) (λ (m : Marked). IsPast (suc now) m.used) marked (λ m p. past-later now (suc now) m.used (omega arith) p) h.past) (omega arith, tt);
       notes = All-later (λ (note : Note). note.source.number ≤ now) (λ (note : Note). note.source.number ≤ suc now) warnings (λ note le. omega (arith, le)) h.notes;
       manuals = flat-push (λ (m : Marked). supposed_in m.used m.line.item) marked m ∙ append-nil (flat_map (λ (m : Marked). supposed_in m.used m.line.item) marked) ∙ h.manuals;
@@ -247,7 +239,7 @@ told-before recs now forest warnings marked k child m h at =
       lines = rw (map-set (λ (m : Marked). m.line) marked k (bearing m child)) (ap (λ ls. slice_set ls k (with_child m.line child)) h.lines);
       records = flat-set (λ (m : Marked). record_in m.used) marked k m (bearing m child) at refl ∙ h.records;
       each = All-set (λ (m : Marked). IsOf m.used (line_of m)) marked k (bearing m child) h.each (All-get (λ (m : Marked). IsOf m.used (line_of m)) marked k m h.each at);
-      named = All-set (λ (m : Marked). IsNamed warnings m.used (pid_of m.line.item)) marked k (bearing m child) h.named (All-get (λ (m : Marked). IsNamed warnings m.used (pid_of m.line.item)) marked k m h.named at);
+      named = All-set (λ (m : Marked). IsNamed warnings m.used (pid_of_line m.line.item)) marked k (bearing m child) h.named (All-get (λ (m : Marked). IsNamed warnings m.used (pid_of_line m.line.item)) marked k m h.named at);
       past = All-set (λ (m : Marked). IsPast now m.used) marked k (bearing m child) h.past (All-get (λ (m : Marked). IsPast now m.used) marked k m h.past at);
       notes = h.notes;
       manuals = flat-set (λ (m : Marked). supposed_in m.used m.line.item) marked k m (bearing m child) at refl ∙ h.manuals;
@@ -276,7 +268,7 @@ told-planted recs now forest warnings marked start pid h =
     }
 
 -- a warning that is of no manual transition
-warned-with : (recs : List Used) (now : ℕ) (forest : Grown) (warnings : List Note) (marked : List Marked) (note : Note) → manual_in note.warning ≡ [] → note.source.number ≤ now → AllByRecursion (λ (m : Marked). IsNamed (warnings ++ note ∷ []) m.used (pid_of m.line.item)) marked → Told recs now forest warnings marked → Told recs now forest (warnings ++ note ∷ []) marked
+warned-with : (recs : List Used) (now : ℕ) (forest : Grown) (warnings : List Note) (marked : List Marked) (note : Note) → manual_in note.warning ≡ [] → note.source.number ≤ now → AllByRecursion (λ (m : Marked). IsNamed (warnings ++ note ∷ []) m.used (pid_of_line m.line.item)) marked → Told recs now forest warnings marked → Told recs now forest (warnings ++ note ∷ []) marked
 warned-with recs now forest warnings marked note none low named h =
     record {
       lines = h.lines;

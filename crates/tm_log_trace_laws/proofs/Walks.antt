@@ -2,11 +2,9 @@
 use Rattle.std.proofs.Common.{◌≡◌, ℕ, suc, ◌+◌, ◌==◌, Bool, true, false, if◌then◌else◌, List, [], ◌∷◌, ◌++◌, length, refl, sym, ap, ◌∙◌, subst, arith, inl}
 use Rattle.std.specs.Prelude.{Option, Some, None}
 use Rattle.std.proofs.lemmas.Bool.{eq-eqb, ne_eqb}
-use Rattle.tm_types.specs.declared.request.Item.{Item}
-use Rattle.tm_types.specs.declared.request.Tree.{Tree}
-use Rattle.tm_rules.specs.Words.{DomainName, Trace}
+use Rattle.tm_rules.specs.Types.{Item, Tree}
+use Rattle.tm_rules.specs.Prelude.{DomainName, Trace, pid_of_line}
 use Rattle.tm_log.specs.declared.log.Used.{Used}
-use Rattle.tm_log_processes.specs.Forests.{pid_of}
 use Rattle.tm_log_trace_laws.specs.History.{Happening, Stand, Stands, stand_of, StandsIn, stand_after, with_child, after_line, Replays, firsts_from}
 
 abbrev pub after_lines : Stands → List Happening → Stands
@@ -58,8 +56,8 @@ same-child c (Item.Do pid request) st s t same = same
 
 pub same-line : (c : ℕ) (h : Happening) (s t : Stands) → SameBut c s t → SameBut c (after_line s h) (after_line t h)
 same-line c h s t same =
-    same-child c h.item (stand_after h) ((pid_of h.item, stand_after h) ∷ s) ((pid_of h.item, stand_after h) ∷ t)
-    (same-more c (pid_of h.item) (stand_after h) s t same)
+    same-child c h.item (stand_after h) ((pid_of_line h.item, stand_after h) ∷ s) ((pid_of_line h.item, stand_after h) ∷ t)
+    (same-more c (pid_of_line h.item) (stand_after h) s t same)
 
 pub same-after : (c : ℕ) (hs : List Happening) (s t : Stands) → SameBut c s t → SameBut c (after_lines s hs) (after_lines t hs)
 same-after c [] s t same = same
@@ -69,7 +67,7 @@ same-after c (h ∷ hs) s t same = same-after c hs (after_line s h) (after_line 
 
 -- who has no stand after a line isn't its process nor its child, and had none before
 pub record Unnamed (c : ℕ) (s : Stands) (h : Happening) : Type 0 where
-  pub other : pid_of h.item ≡ c → ⊥
+  pub other : pid_of_line h.item ≡ c → ⊥
   pub none : stand_of s c ≡ None
   pub kept : (t : Stands) → stand_of (after_line t h) c ≡ stand_of t c
 
@@ -80,7 +78,7 @@ unnamed-head s n c st none = (apart, sym (stand-other s n c st apart) ∙ none)
     apart e = (let same : stand_of ((n, st) ∷ s) n ≡ Some st = stand-same s n st in let two : stand_of ((n, st) ∷ s) n ≡ None = rw (← e) at none in absurd cc)
 
 -- the same of its parts
-unnamed-by : (c : ℕ) (s : Stands) (item : Item) (st : Stand) → stand_of (with_child item st ((pid_of item, st) ∷ s)) c ≡ None → (pid_of item ≡ c → ⊥) × (stand_of s c ≡ None) × ((t : Stands) → stand_of (with_child item st ((pid_of item, st) ∷ t)) c ≡ stand_of t c)
+unnamed-by : (c : ℕ) (s : Stands) (item : Item) (st : Stand) → stand_of (with_child item st ((pid_of_line item, st) ∷ s)) c ≡ None → (pid_of_line item ≡ c → ⊥) × (stand_of s c ≡ None) × ((t : Stands) → stand_of (with_child item st ((pid_of_line item, st) ∷ t)) c ≡ stand_of t c)
 unnamed-by c s (Item.Fork pid child) st none =
     let a : (child ≡ c → ⊥) × (stand_of ((pid, st) ∷ s) c ≡ None) = unnamed-head ((pid, st) ∷ s) child c st none in
     let b : (pid ≡ c → ⊥) × (stand_of s c ≡ None) = unnamed-head s pid c st a.1 in
@@ -106,7 +104,7 @@ pub frame : (c : ℕ) (s t : Stands) (hs : List Happening) → SameBut c s t →
 frame c s t [] same none all = tt
 frame c s t (h ∷ hs) same none all =
     let here : Unnamed c s h = unnamed c s h (unnamed-before c (after_line s h) hs none) in (
-      subst (λ (o : Option Stand). StandsIn o h.tree h.domain) (same (pid_of h.item) here.other) all.0,
+      subst (λ (o : Option Stand). StandsIn o h.tree h.domain) (same (pid_of_line h.item) here.other) all.0,
       frame c (after_line s h) (after_line t h) hs (same-line c h s t same) none all.1,
     )
 
@@ -132,12 +130,8 @@ fork_line tree pid child domain = record { tree = tree; item = Item.Fork pid chi
 abbrev pub settled_at : ℕ → DomainName → Stand
 settled_at tree domain = record { tree = tree; domain = domain; is_open = false }
 
--- at the end
-pub fork-last : (c n tree : ℕ) (domain : DomainName) (s : Stands) → stand_of s c ≡ None → (n ≡ c → ⊥) → SameBut c ((n, settled_at tree domain) ∷ s) (after_line s (fork_line tree n c domain))
-fork-last c n tree domain s none ne = same-one c (settled_at tree domain) ((n, settled_at tree domain) ∷ s) ((n, settled_at tree domain) ∷ s) (same-refl c ((n, settled_at tree domain) ∷ s))
-
 -- just before a line that makes no process itself
-pub fork-before : (c tree : ℕ) (item : Item) (domain : DomainName) (used : Option Used) (s : Stands) (xs ys : List Happening) → ((st : Stand) (t : Stands) → with_child item st t ≡ t) → (let line : Happening = record { tree = tree; item = item; domain = domain; used = used } in Replays s (xs ++ line ∷ ys) → stand_of (after_lines s (xs ++ line ∷ ys)) c ≡ None → Joined c s s (xs ++ line ∷ ys) (xs ++ fork_line tree (pid_of item) c domain ∷ line ∷ ys) (settled_at tree domain))
+pub fork-before : (c tree : ℕ) (item : Item) (domain : DomainName) (used : Option Used) (s : Stands) (xs ys : List Happening) → ((st : Stand) (t : Stands) → with_child item st t ≡ t) → (let line : Happening = record { tree = tree; item = item; domain = domain; used = used } in Replays s (xs ++ line ∷ ys) → stand_of (after_lines s (xs ++ line ∷ ys)) c ≡ None → Joined c s s (xs ++ line ∷ ys) (xs ++ fork_line tree (pid_of_line item) c domain ∷ line ∷ ys) (settled_at tree domain))
 fork-before c tree item domain used s xs ys quiet all none =
     record {
       replays = replays-both s xs (fork ∷ line ∷ ys) (replays-front s xs (line ∷ ys) all) (back.0, (fits, frame c (after_line mid line) (after_line made line) ys same none-back back.1));
@@ -146,7 +140,7 @@ fork-before c tree item domain used s xs ys quiet all none =
     }
   where
     n : ℕ
-    n = pid_of item
+    n = pid_of_line item
 
     st : Stand
     st = settled_at tree domain

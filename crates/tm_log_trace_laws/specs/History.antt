@@ -1,12 +1,9 @@
 -- The lines of a trace in the order in which they happened, and where each process is.
 use Rattle.std.specs.Prelude.{◌≡◌, ⊤, ℕ, suc, ◌==◌, ◌&&◌, not, Bool, true, false, if◌then◌else◌, ◌⊎◌, List, [], ◌∷◌, Option, Some, None}
-use Rattle.tm_types.specs.declared.entry.Args.{Args}
-use Rattle.tm_types.specs.declared.request.Item.{Item}
-use Rattle.tm_rules.specs.Condition.{is_execute}
-use Rattle.tm_rules.specs.Words.{DomainName, Trace}
+use Rattle.tm_rules.specs.Types.{Args, Item}
+use Rattle.tm_rules.specs.Prelude.{DomainName, Trace, is_execute, pid_of_line}
 use Rattle.tm_log.specs.declared.log.Used.{Used}
 use Rattle.tm_log_processes.specs.Domains.{leads}
-use Rattle.tm_log_processes.specs.Forests.{pid_of}
 
 -- a line of the trace: the place of its tree, from 0, the line itself, the domain in which its
 -- process is there, and the record of the log that it is of, if any
@@ -70,13 +67,13 @@ with_child (Item.Ids pid ids) stand stands = stands
 with_child (Item.Do pid request) stand stands = stands
 
 abbrev pub after_line : Stands → Happening → Stands
-after_line stands h = with_child h.item (stand_after h) ((pid_of h.item, stand_after h) ∷ stands)
+after_line stands h = with_child h.item (stand_after h) ((pid_of_line h.item, stand_after h) ∷ stands)
 
 -- each line is of a process that is in the line's tree and may be in the line's domain
 abbrev pub Replays : Stands → List Happening → Type 0
 Replays stands [] = ⊤
 Replays stands (h ∷ more) =
-    StandsIn (stand_of stands (pid_of h.item)) h.tree h.domain × Replays (after_line stands h) more
+    StandsIn (stand_of stands (pid_of_line h.item)) h.tree h.domain × Replays (after_line stands h) more
 
 -- the first process of each tree, the first of which has this place
 abbrev pub firsts_from : ℕ → Trace → Stands

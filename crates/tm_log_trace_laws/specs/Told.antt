@@ -1,14 +1,11 @@
 -- What the trace of a log tells of its records.
 use Rattle.std.specs.Prelude.{◌≡◌, ⊤, ℕ, suc, ◌-◌, ◌^◌, ◌<◌, ◌≤◌, ◌==◌, nat_le, if◌then◌else◌, ◌⊎◌, List, [], ◌∷◌, ◌++◌, length, slice_get, Option, Some, None}
 use Rattle.std.specs.List.{AllByRecursion, flat_map}
-use Rattle.tm_types.specs.declared.entry.Args.{Args}
-use Rattle.tm_types.specs.declared.request.Item.{Item}
-use Rattle.tm_types.specs.declared.request.Request.{Request}
-use Rattle.tm_types.specs.declared.request.Tree.{Tree}
+use Rattle.tm_rules.specs.Types.{Args, Item, Request, Tree}
 use Rattle.tm_log.specs.declared.log.Log.{Log}
 use Rattle.tm_log.specs.declared.log.Source.{Source}
 use Rattle.tm_log.specs.declared.log.Used.{Used}
-use Rattle.tm_log_processes.specs.Forests.{pid_of}
+use Rattle.tm_rules.specs.Prelude.{pid_of_line}
 use Rattle.tm_log_trace.specs.declared.made.Made.{Made}
 use Rattle.tm_log_trace.specs.declared.notes.Note.{Note}
 use Rattle.tm_log_trace.specs.declared.notes.Warning.{Warning}
@@ -34,7 +31,7 @@ records_of history = flat_map (λ (h : Happening). record_in h.used) history
 abbrev pub IsOf : Option Used → Happening → Type 0
 IsOf None h = ⊤
 IsOf (Some used) h =
-    (h.item ≡ Item.Do (pid_of h.item) used.«record».request) × (h.domain ≡ used.«record».domain)
+    (h.item ≡ Item.Do (pid_of_line h.item) used.«record».request) × (h.domain ≡ used.«record».domain)
 
 -- the lines `do` that no record is of, each with its pid
 abbrev pub supposed_in : Option Used → Item → List (ℕ × Request)
@@ -103,7 +100,7 @@ pub record IsHistory (log : Log) (made : Made) (history : List Happening) (rest 
   pub records : log.used ≡ records_of history ++ rest
   pub cut : IsCutBefore made.cut rest
   pub each : AllByRecursion (λ (h : Happening). IsOf h.used h) history
-  pub named : AllByRecursion (λ (h : Happening). IsNamed made.warnings h.used (pid_of h.item)) history
+  pub named : AllByRecursion (λ (h : Happening). IsNamed made.warnings h.used (pid_of_line h.item)) history
   pub manuals : supposed_of history ≡ manuals_in made.warnings
   pub replays : Replays (firsts_from 0 made.trace) history
 

@@ -5,23 +5,11 @@ use Rattle.std.proofs.lemmas.Bool.Decides.{leb_tells}
 use Rattle.std.proofs.lemmas.Option.{slice_get_past}
 use Rattle.std.specs.Prelude.{Option, Some, None, is_some, ◌&&◌, if◌then◌else◌, nat_lt, nat_le, not, slice_get, slice_set, unwrap_or, option_map}
 use Rattle.std.specs.Option.{option_and_then, option_map_or}
-use Rattle.tm_word.specs.Words.{Text}
-use Rattle.tm_rules.specs.Words.{DomainName, Cursor}
-use Rattle.tm_types.specs.declared.entry.Entry.{Entry}
-use Rattle.tm_types.specs.declared.policy.Domain.{Domain}
-use Rattle.tm_types.specs.declared.policy.Profile.{Profile}
-use Rattle.tm_types.specs.declared.policy.Policy.{Policy}
-use Rattle.tm_types.specs.declared.step.FileKind.{FileKind}
-use Rattle.tm_types.specs.declared.step.EditReply.{EditReply}
-use Rattle.tm_types.specs.declared.step.Editor.{Editor}
-use Rattle.tm_types.specs.declared.step.Step.{Step}
-use Rattle.tm_types.specs.declared.step.Reply.{Reply}
-use Rattle.tm_rules.specs.Policy.{domain_at, profile_of}
-use Rattle.tm_rules.specs.Edit.{Edited, apply_line}
-use Rattle.tm_rules.specs.Changes.{in_domain, learn, make, fail, is_manager}
-use Rattle.tm_rules.specs.Queries.{ask}
+use Rattle.tm_word.specs.Prelude.{Text}
+use Rattle.tm_rules.specs.Prelude.{Cursor, DomainName, Edited, apply_line, ask, domain_at, fail, in_domain, is_manager, learn, make, profile_of}
+use Rattle.tm_rules.specs.Types.{Domain, EditReply, Editor, Entry, FileKind, Policy, Profile, Reply, Step}
 use Rattle.tm_rep.specs.Tomoyo.{tomoyo_grammar}
-use Rattle.tm_legal.specs.Steps.{State, Applied, apply, unfit, on_policy, on_queries, fits_entry, fits_name, edit_step}
+use Rattle.tm_legal.specs.Prelude.{Applied, State, apply, edit_step, fits_entry, fits_name, on_policy, on_queries, unfit}
 use Rattle.tm_machine.specs.Fitting.{is_there, fits_now}
 
 -- whatever is done there, a domain with its profile has to be there

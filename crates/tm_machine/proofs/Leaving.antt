@@ -1,9 +1,8 @@
 -- What a step of a machine leaves, by the laws of made steps.
 use Rattle.std.proofs.Common.{◌≡◌, subst}
-use Rattle.tm_types.specs.declared.step.Step.{Step}
-use Rattle.tm_types.specs.declared.step.Reply.{Reply}
+use Rattle.tm_rules.specs.Types.{Reply, Step}
 use Rattle.tm_rep.specs.Tomoyo.{tomoyo_grammar}
-use Rattle.tm_legal.specs.Steps.{State, Applied}
+use Rattle.tm_legal.specs.Prelude.{Applied, State}
 use Rattle.tm_made.specs.Domains.{IsKeptIn}
 use Rattle.tm_made.specs.Refusals.{IsUnchanged}
 use Rattle.tm_made.proofs.Sparing.{domains-are-kept}

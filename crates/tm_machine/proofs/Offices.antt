@@ -3,13 +3,9 @@ use Rattle.std.proofs.Common.{◌≡◌, ◌<◌, ◌≤◌, ℕ, zero, suc, Lis
 use Rattle.std.specs.Prelude.{◌↔◌, Option, Some, None, IsSome, MatchOption, true, false, option_map, slice_get}
 use Rattle.std.specs.Borrow.{Bor}
 use Rattle.std.specs.Option.{option_copied}
-use Rattle.tm_types.specs.declared.step.Made.{Made}
-use Rattle.tm_types.specs.declared.step.Step.{Step}
-use Rattle.tm_types.specs.declared.step.Reply.{Reply}
+use Rattle.tm_rules.specs.Types.{Made, Reply, Step}
 use Rattle.tm_rep.specs.Tomoyo.{tomoyo_grammar}
-use Rattle.tm_legal.specs.Steps.{State, opening, apply, after}
-use Rattle.tm_legal.specs.Run.{History, steps_of, reply_at}
-use Rattle.tm_legal.specs.Legal.{Replies}
+use Rattle.tm_legal.specs.Prelude.{History, Replies, State, after, apply, opening, reply_at, steps_of}
 use Rattle.tm_made.specs.Made.{steps_made, state_made, told_from}
 use Rattle.tm_made.proofs.Telling.{told-again}
 use Rattle.tm_machine.specs.Machine as machine

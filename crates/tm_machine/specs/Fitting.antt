@@ -1,10 +1,9 @@
 -- Whether a step fits a state.
 use Rattle.std.specs.Prelude.{ℕ, Bool, is_some}
-use Rattle.tm_types.specs.declared.policy.Policy.{Policy}
-use Rattle.tm_types.specs.declared.step.Step.{Step}
-use Rattle.tm_rules.specs.Changes.{in_domain}
+use Rattle.tm_rules.specs.Types.{Policy, Step}
+use Rattle.tm_rules.specs.Prelude.{in_domain}
 use Rattle.tm_rep.specs.Tomoyo.{tomoyo_grammar}
-use Rattle.tm_legal.specs.Steps.{State, apply}
+use Rattle.tm_legal.specs.Prelude.{State, apply}
 
 -- the domain is there with its profile
 abbrev pub is_there : Policy → ℕ → Bool

@@ -1,18 +1,10 @@
 -- What a machine answers, as functions of its opening and of its steps with their makers.
 use Rattle.std.specs.Prelude.{◌≡◌, ℕ, Bool, true, List, ◌++◌, map, Option}
 use Rattle.std.proofs.Common.{refl}
-use Rattle.tm_types.specs.declared.step.Made.{Made}
-use Rattle.tm_types.specs.declared.step.Maker.{Maker}
-use Rattle.tm_types.specs.declared.step.Step.{Step}
-use Rattle.tm_types.specs.declared.step.Reply.{Reply}
-use Rattle.tm_types.specs.declared.step.Start.{Start}
-use Rattle.tm_types.specs.declared.step.Answered.{Answered}
-use Rattle.tm_types.specs.declared.step.Query.{Query}
-use Rattle.tm_rules.specs.Queries.{answer_of, first_query}
+use Rattle.tm_rules.specs.Types.{Answered, Made, Maker, Query, Reply, Start, Step}
+use Rattle.tm_rules.specs.Prelude.{answer_of, first_query}
 use Rattle.tm_rep.specs.Tomoyo.{tomoyo_grammar}
-use Rattle.tm_legal.specs.Steps.{opening, apply, fits}
-use Rattle.tm_legal.specs.Run.{reply_at}
-use Rattle.tm_legal.specs.Play.{all_ended}
+use Rattle.tm_legal.specs.Prelude.{all_ended, apply, fits, opening, reply_at}
 use Rattle.tm_made.specs.Made.{steps_made, state_made, told_from}
 use Rattle.tm_made.proofs.Fits.{made-fits-stays}
 use Rattle.tm_machine.specs.Machine.{Course}

@@ -1,12 +1,10 @@
 //! The state at the newest version, and what each of the nine steps does to it.
 ghost use Rattle.std.specs.Prelude.{◌≡◌, ◌==◌, Some, IsSome, IfOk, OnErr};
 ghost use Rattle.std.specs.List.{list_any};
-ghost use Rattle.tm_rules.specs.Few.{IsFew};
-ghost use Rattle.tm_rules.specs.Changes.{in_domain, is_manager};
-ghost use Rattle.tm_types.specs.declared.step.Step.{Step};
+ghost use Rattle.tm_rules.specs.Prelude.{IsFew, in_domain, is_manager};
+ghost use Rattle.tm_rules.specs.Types.{Step};
 ghost use Rattle.tm_rep.specs.Tomoyo.{tomoyo_grammar};
-ghost use Rattle.tm_legal.specs.Steps.{opening};
-ghost use Rattle.tm_legal.specs.Play.{all_ended};
+ghost use Rattle.tm_legal.specs.Prelude.{all_ended, opening};
 ghost use Rattle.tm_machine.specs.Current.{Fits, Makes};
 
 use std::alloc::Global;
@@ -35,7 +33,7 @@ pub(crate) struct Current<R: Rep> {
 
 impl<R: Rep> Model for Current<R> {
     ghost use Rattle.std.specs.Prelude.{◌≡◌, length};
-    ghost use Rattle.tm_rules.specs.Few.{IsFew};
+    ghost use Rattle.tm_rules.specs.Prelude.{IsFew};
     ghost use Rattle.tm_machine.specs.Current as now;
 
     ghost Value = { now.Current };

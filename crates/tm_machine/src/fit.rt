@@ -1,8 +1,8 @@
 //! Whether a step fits the state at the newest version.
 ghost use Rattle.std.specs.Prelude.{◌≡◌, IfOk};
-ghost use Rattle.tm_types.specs.declared.step.Step.{Step};
+ghost use Rattle.tm_rules.specs.Types.{Step};
 ghost use Rattle.tm_rep.specs.Tomoyo.{tomoyo_grammar};
-ghost use Rattle.tm_legal.specs.Steps.{fits_entry, fits_name};
+ghost use Rattle.tm_legal.specs.Prelude.{fits_entry, fits_name};
 ghost use Rattle.tm_machine.specs.Fitting.{is_there, fits_now};
 
 use crate::current::Current;

@@ -2,15 +2,10 @@
 ghost use Rattle.std.specs.Prelude.{◌≡◌, ◌<◌, ◌+◌, [], ◌∷◌, ◌++◌, ◌||◌, ◌==◌, IsSome, IfOk, OnOk, OnErr, length, map, vec_len, vec_capacity, if◌then◌else◌};
 ghost use Rattle.std.specs.List.{list_any};
 ghost use Rattle.std.specs.Option.{option_copied};
-ghost use Rattle.tm_types.specs.declared.step.Made.{Made};
-ghost use Rattle.tm_types.specs.declared.step.Reply.{Reply};
-ghost use Rattle.tm_rules.specs.Few.{IsFew};
-ghost use Rattle.tm_rules.specs.Queries.{numbered, answer_of, first_query};
+ghost use Rattle.tm_rules.specs.Types.{Made, Reply};
+ghost use Rattle.tm_rules.specs.Prelude.{IsFew, answer_of, first_query, numbered};
 ghost use Rattle.tm_rep.specs.Tomoyo.{tomoyo_grammar};
-ghost use Rattle.tm_legal.specs.Steps.{opening, apply, after};
-ghost use Rattle.tm_legal.specs.Run.{reply_at};
-ghost use Rattle.tm_legal.specs.Legal.{Replies, is_attach, is_answer};
-ghost use Rattle.tm_legal.specs.Play.{all_ended};
+ghost use Rattle.tm_legal.specs.Prelude.{Replies, after, all_ended, apply, is_answer, is_attach, opening, reply_at};
 ghost use Rattle.tm_machine.specs.Current.{Fits, Makes};
 ghost use Rattle.tm_machine.specs.Fitting.{fits_now};
 ghost use Rattle.tm_machine.specs.Machine.{course_from, history_of, steps_made, made_at, has_come, answers_given, LeavesDomains, LeavesAllRefused};

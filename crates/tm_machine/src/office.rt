@@ -1,7 +1,7 @@
 //! The machine as the office of an engine, and as the hall of a desk.
 ghost use Rattle.std.specs.Prelude.{◌≡◌, ◌++◌, ◌∷◌, [], true, MatchResult, OnOk, OnErr};
 ghost use Rattle.tm_rep.specs.Tomoyo.{tomoyo_grammar};
-ghost use Rattle.tm_legal.specs.Steps.{apply};
+ghost use Rattle.tm_legal.specs.Prelude.{apply};
 ghost use Rattle.tm_machine.specs.Machine.{LeavesDomains, LeavesAllRefused};
 ghost use Rattle.tm_machine.specs.Office.{list_of, fits_at, by_desk};
 
@@ -108,7 +108,7 @@ fn by_desk(step: Step) -> Made
 }
 
 impl<R: Rep> DeskHall for Machine<R> {
-    ghost use Rattle.tm_types.specs.declared.step.Step.{Step};
+    ghost use Rattle.tm_rules.specs.Types.{Step};
     ghost use Rattle.tm_machine.specs.Office.{by_desk, attach_fits, answer_fits, detach_fits};
 
     ghost attach = { by_desk Step.Attach };

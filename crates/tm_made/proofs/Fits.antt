@@ -4,31 +4,13 @@ use Rattle.std.proofs.Common.{◌≡◌, ℕ, zero, suc, List, [], ◌∷◌, �
 use Rattle.std.specs.Prelude.{Option, Some, None, ◌&&◌, if◌then◌else◌, slice_get, slice_set, unwrap_or, not, IsSome, is_some, nat_lt, nat_le, option_map}
 use Rattle.std.proofs.lemmas.List.{map-append}
 use Rattle.std.specs.Option.{option_and_then, option_map_or}
-use Rattle.tm_word.specs.Words.{Text}
-use Rattle.tm_rules.specs.Words.{DomainName, Cursor}
-use Rattle.tm_types.specs.declared.entry.Entry.{Entry}
-use Rattle.tm_types.specs.declared.policy.Domain.{Domain}
-use Rattle.tm_types.specs.declared.policy.Profile.{Profile}
-use Rattle.tm_types.specs.declared.policy.Policy.{Policy}
-use Rattle.tm_types.specs.declared.step.FileKind.{FileKind}
-use Rattle.tm_types.specs.declared.step.Step.{Step}
-use Rattle.tm_types.specs.declared.step.Reply.{Reply}
-use Rattle.tm_types.specs.declared.step.EditReply.{EditReply}
-use Rattle.tm_types.specs.declared.step.Editor.{Editor}
-use Rattle.tm_types.specs.declared.step.LearnReply.{LearnReply}
-use Rattle.tm_types.specs.declared.step.MakeReply.{MakeReply}
-use Rattle.tm_types.specs.declared.step.Made.{Made}
-use Rattle.tm_types.specs.declared.step.Start.{Start}
-use Rattle.tm_rules.specs.Grammar.{Grammar}
-use Rattle.tm_rules.specs.Policy.{domain_at, profile_of, live_domain}
-use Rattle.tm_rules.specs.Edit.{Edited, apply_line, new_domain}
-use Rattle.tm_rules.specs.Changes.{in_domain, learned_domain, learn_reply, learn, made_new, make, fail, is_manager}
-use Rattle.tm_rules.specs.Queries.{ask}
-use Rattle.tm_legal.specs.Steps.{State, Applied, apply, after, opening, fits, unfit, on_policy, on_queries, fits_entry, fits_name, ask_step, edit_step, edit_by}
-use Rattle.tm_legal.specs.Stages.{DomainIn, Ready}
+use Rattle.tm_word.specs.Prelude.{Text}
+use Rattle.tm_rules.specs.Prelude.{Cursor, DomainName, Edited, Grammar, apply_line, ask, domain_at, fail, in_domain, is_manager, learn, learn_reply, learned_domain, live_domain, made_new, make, new_domain, profile_of}
+use Rattle.tm_rules.specs.Types.{Domain, EditReply, Editor, Entry, FileKind, LearnReply, Made, MakeReply, Policy, Profile, Reply, Start, Step}
+use Rattle.tm_legal.specs.Prelude.{Applied, DomainIn, Ready, State, after, apply, ask_step, edit_by, edit_step, fits, fits_entry, fits_name, on_policy, on_queries, opening, unfit}
 use Rattle.tm_legal.proofs.Plays.{after-append}
 use Rattle.tm_legal.proofs.Kept.{DomainIn-later, Keeps, Keeps-refl, Succeeds, succeeds, same_head, Ready-later}
-use Rattle.tm_made.specs.Made.{steps_made, IsThere}
+use Rattle.tm_made.specs.Made.{steps_made}
 use Rattle.tm_made.proofs.Keeping.{changed-keeps, made-keeps, line-keeps}
 
 -- what lasts of a state, whatever steps are made: its domains, the editors and the trees
@@ -170,10 +152,6 @@ wants-later g s s' (Step.Edit zero file line) lasts h = h
 wants-later g s s' (Step.Edit (suc e) file line) lasts h = rw lasts.editors h
 wants-later g s s' (Step.End t) lasts h = rw lasts.trees h
 
--- where a domain and its profile are there
-in-domain : {A : Type 0} (p : Policy) (d : ℕ) (change : Domain → Profile → A) → (h : DomainIn p d) → in_domain p d change ≡ Some (change h.domain h.profile)
-in-domain p d change h = rw (h.there, h.profiled) refl
-
 domain-in : {A : Type 0} (p : Policy) (d : ℕ) (change : Domain → Profile → A) → is_some (in_domain p d change) ≡ true → DomainIn p d
 domain-in {A} p d change has = by_domain (domain_at p d) refl has
   where
@@ -257,18 +235,3 @@ fits-stays g start xs ys step has =
 -- so it does in lists of steps with their makers
 pub made-fits-stays : (g : Grammar) (start : Start) (xs ys : List Made) (made : Made) → fits g start (steps_made xs) made.step ≡ true → fits g start (steps_made (xs ++ ys)) made.step ≡ true
 made-fits-stays g start xs ys made has = rw (map-append (λ (m : Made). m.step) xs ys) (fits-stays g start (steps_made xs) (steps_made ys) made.step has)
-
--- a domain that is there with its profile is there after any steps
-pub domains-stay : (g : Grammar) (s : State) (steps : List Step) (d : ℕ) → DomainIn s.policy d → DomainIn (after g s steps).policy d
-domains-stay g s steps d h = DomainIn-later s.policy (after g s steps).policy d (steps-last g s steps).keeps h
-
--- A domain that is there, in the words of contracts
-
-pub is-there : (p : Policy) (d : ℕ) → DomainIn p d → IsThere p d
-is-there p d h = rw (in-domain p d (λ domain profile. domain.name) h) refl
-
-pub there-in : (p : Policy) (d : ℕ) → IsThere p d → DomainIn p d
-there-in p d h = domain-in p d (λ domain profile. domain.name) h
-
-pub there-stays : (g : Grammar) (s : State) (steps : List Step) (d : ℕ) → IsThere s.policy d → IsThere (after g s steps).policy d
-there-stays g s steps d h = is-there (after g s steps).policy d (domains-stay g s steps d (there-in s.policy d h))

@@ -5,26 +5,9 @@ use Rattle.std.specs.Prelude.{Option, Some, None, Ok, Err, Result, ◌&&◌, ◌
 use Rattle.std.specs.List.{find, list_any}
 use Rattle.std.specs.Option.{option_and_then, option_map_or}
 use Rattle.std.proofs.lemmas.Bool.{eqb-true}
-use Rattle.tm_word.specs.Words.{Text}
-use Rattle.tm_rules.specs.Words.{DomainName, Cursor}
-use Rattle.tm_types.specs.declared.entry.LineKind.{LineKind}
-use Rattle.tm_types.specs.declared.entry.Entry.{Entry}
-use Rattle.tm_types.specs.declared.policy.Namespace.{Namespace}
-use Rattle.tm_types.specs.declared.policy.Domain.{Domain}
-use Rattle.tm_types.specs.declared.policy.Profile.{Profile}
-use Rattle.tm_types.specs.declared.policy.Policy.{Policy}
-use Rattle.tm_types.specs.declared.policy.ProfileEffect.{ProfileEffect}
-use Rattle.tm_types.specs.declared.policy.ExceptRule.{ExceptRule}
-use Rattle.tm_types.specs.declared.policy.DomainRule.{DomainRule}
-use Rattle.tm_types.specs.declared.policy.GroupLine.{GroupLine}
-use Rattle.tm_types.specs.declared.policy.ManagerRule.{ManagerRule}
-use Rattle.tm_types.specs.declared.policy.PolicyLine.{PolicyLine}
-use Rattle.tm_types.specs.declared.step.FileKind.{FileKind}
-use Rattle.tm_types.specs.declared.step.EditReply.{EditReply}
-use Rattle.tm_rules.specs.Grammar.{Grammar}
-use Rattle.tm_word.specs.Texts.{texts_equal}
-use Rattle.tm_rules.specs.Policy.{domain_at, profile_numbered, live_domain, namespace_named, namespace_word, empty_namespace, at_key, changed_at, adding, deleting, has_part}
-use Rattle.tm_rules.specs.Edit.{Edited, edited, refused, joining, leaving, put_key, remove_key, in_namespace, changing_namespace, new_profile, on_profile, set_slot, set_config, profile_line, acl_group, with_group, group_line, except_added, except_removed, except_there, except_line, new_domain, on_chosen, changed_domain, removing, making_domain, choosing, selecting, dead, deleting_domain, domain_line, manager_line, apply_read, apply_parsed, apply_line}
+use Rattle.tm_word.specs.Prelude.{Text, texts_equal}
+use Rattle.tm_rules.specs.Prelude.{Cursor, DomainName, Edited, Grammar, acl_group, adding, apply_line, apply_parsed, apply_read, at_key, changed_at, changed_domain, changing_namespace, choosing, dead, deleting, deleting_domain, domain_at, domain_line, edited, empty_namespace, except_added, except_line, except_removed, except_there, group_line, has_part, in_namespace, joining, leaving, live_domain, making_domain, manager_line, namespace_named, namespace_word, new_domain, new_profile, on_chosen, on_profile, profile_line, profile_numbered, put_key, refused, remove_key, removing, selecting, set_config, set_slot, with_group}
+use Rattle.tm_rules.specs.Types.{Domain, DomainRule, EditReply, Entry, ExceptRule, FileKind, GroupLine, LineKind, ManagerRule, Namespace, Policy, PolicyLine, Profile, ProfileEffect}
 use Rattle.tm_legal.proofs.Kept.{Keeps, Keeps-refl, Succeeds, succeeds, same_head, same_profile, live_is_there}
 
 -- Domains

@@ -1,6 +1,5 @@
 -- A domain that was live has its profile from then on.
-use Rattle.tm_legal.specs.Steps.{after}
-use Rattle.tm_legal.specs.Play.{IsOpened}
+use Rattle.tm_legal.specs.Prelude.{IsOpened, after}
 use Rattle.tm_legal.proofs.Plays.{after-append}
 use Rattle.tm_legal.proofs.Opened.{steps_keep_opened}
 use Rattle.tm_made.specs.Lasting.{OnceLiveIsProfiled}

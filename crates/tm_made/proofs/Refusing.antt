@@ -4,35 +4,10 @@ use Rattle.std.proofs.Common.{◌≡◌, ℕ, zero, suc, List, [], ◌∷◌, �
 use Rattle.std.specs.Prelude.{Option, Some, None, Ok, Err, Result, ◌&&◌, if◌then◌else◌, slice_get, slice_set, unwrap_or, not, is_some, nat_lt, nat_le, option_map}
 use Rattle.std.specs.List.{list_any}
 use Rattle.std.specs.Option.{option_and_then, option_map_or}
-use Rattle.tm_word.specs.Words.{Text}
-use Rattle.tm_rules.specs.Words.{DomainName, Cursor}
-use Rattle.tm_types.specs.declared.entry.LineKind.{LineKind}
-use Rattle.tm_types.specs.declared.entry.Entry.{Entry}
-use Rattle.tm_types.specs.declared.policy.Domain.{Domain}
-use Rattle.tm_types.specs.declared.policy.Profile.{Profile}
-use Rattle.tm_types.specs.declared.policy.Policy.{Policy}
-use Rattle.tm_types.specs.declared.policy.ExceptRule.{ExceptRule}
-use Rattle.tm_types.specs.declared.policy.DomainRule.{DomainRule}
-use Rattle.tm_types.specs.declared.policy.GroupLine.{GroupLine}
-use Rattle.tm_types.specs.declared.policy.ManagerRule.{ManagerRule}
-use Rattle.tm_types.specs.declared.policy.PolicyLine.{PolicyLine}
-use Rattle.tm_types.specs.declared.step.FileKind.{FileKind}
-use Rattle.tm_types.specs.declared.step.Step.{Step}
-use Rattle.tm_types.specs.declared.step.Reply.{Reply}
-use Rattle.tm_types.specs.declared.step.EditReply.{EditReply}
-use Rattle.tm_types.specs.declared.step.Editor.{Editor}
-use Rattle.tm_types.specs.declared.step.Held.{Held}
-use Rattle.tm_types.specs.declared.step.AnswerFault.{AnswerFault}
-use Rattle.tm_types.specs.declared.step.LearnReply.{LearnReply}
-use Rattle.tm_types.specs.declared.step.MakeReply.{MakeReply}
-use Rattle.tm_word.specs.Texts.{texts_equal}
-use Rattle.tm_rules.specs.Grammar.{Grammar}
-use Rattle.tm_rules.specs.Load.{is_done}
-use Rattle.tm_rules.specs.Policy.{domain_at, profile_of, profile_numbered, live_domain, namespace_named, namespace_word, at_key, changed_at, has_part}
-use Rattle.tm_rules.specs.Edit.{Edited, edited, refused, acl_group, group_line, except_there, except_line, new_domain, on_chosen, changed_domain, removing, making_domain, choosing, selecting, dead, deleting_domain, domain_line, manager_line, apply_read, apply_parsed, apply_line, put_member}
-use Rattle.tm_rules.specs.Changes.{in_domain, learned_domain, learn_reply, learn, made_new, make, fail, is_manager}
-use Rattle.tm_rules.specs.Queries.{Queries, numbered, ask, answer, answer_coded, answer_fault, with_answer, attach, detach, closed}
-use Rattle.tm_legal.specs.Steps.{State, Applied, apply, unfit, on_policy, on_queries, fits_entry, fits_name, ask_step, edit_step, edit_by}
+use Rattle.tm_word.specs.Prelude.{Text, texts_equal}
+use Rattle.tm_rules.specs.Prelude.{Cursor, DomainName, Edited, Grammar, Queries, acl_group, answer, answer_coded, answer_fault, apply_line, apply_parsed, apply_read, ask, at_key, attach, changed_at, changed_domain, choosing, closed, dead, deleting_domain, detach, domain_at, domain_line, edited, except_line, except_there, fail, group_line, has_part, in_domain, is_done, is_manager, learn, learn_reply, learned_domain, live_domain, made_new, make, making_domain, manager_line, namespace_named, namespace_word, new_domain, numbered, on_chosen, profile_numbered, profile_of, put_member, refused, removing, selecting, with_answer}
+use Rattle.tm_rules.specs.Types.{AnswerFault, Domain, DomainRule, EditReply, Editor, Entry, ExceptRule, FileKind, GroupLine, Held, LearnReply, LineKind, MakeReply, ManagerRule, Policy, PolicyLine, Profile, Reply, Step}
+use Rattle.tm_legal.specs.Prelude.{Applied, State, apply, ask_step, edit_by, edit_step, fits_entry, fits_name, on_policy, on_queries, unfit}
 use Rattle.tm_made.specs.Refusals.{SelectsNone, RefusedLinesChangeNothing, is_refused, IsEmptied, IsUnchanged, RefusedStepsChangeNothing}
 
 -- Lists

@@ -3,15 +3,9 @@
 use Rattle.std.proofs.Common.{◌≡◌, ℕ, zero, suc, List, [], ◌∷◌, ◌++◌, length, take, Bool, true, false, refl, sym, ap, ◌∙◌, subst}
 use Rattle.std.specs.Prelude.{Option, Some, None, slice_get, unwrap_or, option_map, is_some, if◌then◌else◌}
 use Rattle.std.proofs.lemmas.List.{length-map, map-append}
-use Rattle.tm_types.specs.declared.step.Step.{Step}
-use Rattle.tm_types.specs.declared.step.Reply.{Reply}
-use Rattle.tm_types.specs.declared.step.Made.{Made}
-use Rattle.tm_types.specs.declared.step.Start.{Start}
-use Rattle.tm_rules.specs.Grammar.{Grammar}
-use Rattle.tm_legal.specs.Steps.{State, opening, apply, after, fits}
-use Rattle.tm_legal.specs.Run.{History, steps_of, step_at, reply_at, places, places_from}
-use Rattle.tm_legal.specs.Legal.{Scene, Replies, opening_of, state_at}
-use Rattle.tm_legal.proofs.Histories.{state_at-newest}
+use Rattle.tm_rules.specs.Types.{Made, Reply, Start, Step}
+use Rattle.tm_rules.specs.Prelude.{Grammar}
+use Rattle.tm_legal.specs.Prelude.{History, Replies, Scene, State, after, apply, fits, opening, opening_of, places, places_from, reply_at, state_at, step_at, steps_of}
 use Rattle.tm_made.specs.Made.{numbers_from, steps_made, state_made, told_from, start_in, history_made, IsFitted, made_step, EachFits}
 
 -- States and replies along a list
@@ -46,11 +40,6 @@ unfolding after
 replies-rest g s [] more replies = replies
 replies-rest g s (pair ∷ h) more replies = replies-rest g (apply g s pair.0).state h more replies.1
 
-pub replies-append : (g : Grammar) (s : State) (h more : History) → Replies g s h → Replies g (after g s (steps_of h)) more → Replies g s (h ++ more)
-unfolding after
-replies-append g s [] more front rest = rest
-replies-append g s (pair ∷ h) more front rest = (front.0, replies-append g (apply g s pair.0).state h more front.1 rest)
-
 -- Lists from the opening of a scene
 
 module _ (scene : Scene) where
@@ -70,17 +59,6 @@ module _ (scene : Scene) where
   -- the beginning of a list that fits
   pub fitted-front : (xs ys : List Made) → IsFitted scene (xs ++ ys) → IsFitted scene xs
   fitted-front xs ys h = replies-front scene.grammar (opening_of scene) (history_made scene xs) (more_made xs ys) (subst (Replies scene.grammar (opening_of scene)) (made-append xs ys) h)
-
-  -- the rest of it, from the state that the beginning leads to
-  pub fitted-rest : (xs ys : List Made) → IsFitted scene (xs ++ ys) → Replies scene.grammar (after scene.grammar (opening_of scene) (steps_made xs)) (more_made xs ys)
-  fitted-rest xs ys h =
-      subst (λ steps. Replies scene.grammar (after scene.grammar (opening_of scene) steps) (more_made xs ys)) (made-steps xs)
-      (replies-rest scene.grammar (opening_of scene) (history_made scene xs) (more_made xs ys) (subst (Replies scene.grammar (opening_of scene)) (made-append xs ys) h))
-
-  -- the newest version's state is the one after all steps
-  pub state_at-made : (list : List Made) → state_at scene (history_made scene list) (length list) ≡ after scene.grammar (opening_of scene) (steps_made list)
-  state_at-made list =
-      ap (state_at scene (history_made scene list)) (sym (made-length list)) ∙ state_at-newest scene (history_made scene list) ∙ ap (after scene.grammar (opening_of scene)) (made-steps list)
 
 take-map : (n : ℕ) (list : List Made) → take n (steps_made list) ≡ steps_made (take n list)
 take-map zero list = refl
@@ -128,18 +106,9 @@ unfolding told_from after
 each-from g s [] each = tt
 each-from g s (made ∷ list) each = (has-reply (apply g s made.step).reply (each 0 made refl), each-from g (apply g s made.step).state list (λ k m at. each (suc k) m at))
 
-each-back : (g : Grammar) (s : State) (list : List Made) → Replies g s (told_from g s (steps_made list)) → (k : ℕ) (made : Made) → slice_get list k ≡ Some made → is_some (apply g (after g s (steps_made (take k list))) made.step).reply ≡ true
-unfolding told_from after
-each-back g s [] replies k made at = absurd cc
-each-back g s (first ∷ list) replies zero made at = let same : first ≡ made = cc in rw (← same) (rw replies.0 refl)
-each-back g s (first ∷ list) replies (suc k) made at = each-back g (apply g s first.step).state list replies.1 k made at
-
 -- a list is fitted where each step fits after those before it
 pub each-fitted : (scene : Scene) (list : List Made) → EachFits scene.grammar (start_in scene) list → IsFitted scene list
 each-fitted scene list each = each-from scene.grammar (opening_of scene) list each
-
-pub fitted-each : (scene : Scene) (list : List Made) → IsFitted scene list → EachFits scene.grammar (start_in scene) list
-fitted-each scene list h = each-back scene.grammar (opening_of scene) list h
 
 -- The reply of the last step
 

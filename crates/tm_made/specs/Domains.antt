@@ -1,11 +1,8 @@
 -- What a step leaves of each domain.
 use Rattle.std.specs.Prelude.{◌≡◌, ℕ, ◌==◌, Bool, false, Some}
-use Rattle.tm_types.specs.declared.policy.Domain.{Domain}
-use Rattle.tm_types.specs.declared.policy.Policy.{Policy}
-use Rattle.tm_types.specs.declared.step.Step.{Step}
-use Rattle.tm_rules.specs.Grammar.{Grammar}
-use Rattle.tm_rules.specs.Policy.{domain_at}
-use Rattle.tm_legal.specs.Steps.{State, apply}
+use Rattle.tm_rules.specs.Types.{Domain, Policy, Step}
+use Rattle.tm_rules.specs.Prelude.{Grammar, domain_at}
+use Rattle.tm_legal.specs.Prelude.{State, apply}
 
 -- a line is learned in that domain
 abbrev pub is_learn_in : ℕ → Step → Bool

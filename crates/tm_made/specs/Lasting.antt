@@ -1,12 +1,8 @@
 -- What lasts of a domain once it was live.
 use Rattle.std.specs.Prelude.{◌≡◌, ℕ, true, List, ◌++◌, Some, IsSome}
-use Rattle.tm_types.specs.declared.policy.Domain.{Domain}
-use Rattle.tm_types.specs.declared.policy.Policy.{Policy}
-use Rattle.tm_types.specs.declared.step.Step.{Step}
-use Rattle.tm_rules.specs.Grammar.{Grammar, IsGrammar}
-use Rattle.tm_rules.specs.Policy.{domain_at, profile_of}
-use Rattle.tm_legal.specs.Steps.{State, after}
-use Rattle.tm_legal.specs.Play.{IsOpened}
+use Rattle.tm_rules.specs.Types.{Domain, Policy, Step}
+use Rattle.tm_rules.specs.Prelude.{Grammar, IsGrammar, domain_at, profile_of}
+use Rattle.tm_legal.specs.Prelude.{IsOpened, State, after}
 
 -- the domain with that number is there, with that domain's name and a profile that is defined
 abbrev pub IsProfiled : Policy → ℕ → Domain → Type 0

@@ -1,16 +1,8 @@
 -- Lists of steps with their makers: the state, the replies and the history that they come to.
-use Rattle.std.specs.Prelude.{◌≡◌, ℕ, suc, Bool, true, List, [], ◌∷◌, length, map, take, Option, Some, IsSome, is_some, unwrap_or, if◌then◌else◌, option_map, slice_get}
-use Rattle.tm_types.specs.declared.step.Step.{Step}
-use Rattle.tm_types.specs.declared.step.Reply.{Reply}
-use Rattle.tm_types.specs.declared.step.Made.{Made}
-use Rattle.tm_types.specs.declared.step.Start.{Start}
-use Rattle.tm_types.specs.declared.policy.Policy.{Policy}
-use Rattle.tm_rules.specs.Grammar.{Grammar}
-use Rattle.tm_rules.specs.Changes.{in_domain}
-use Rattle.tm_rules.specs.Queries.{numbered}
-use Rattle.tm_legal.specs.Steps.{State, apply, after, opening, fits}
-use Rattle.tm_legal.specs.Run.{History}
-use Rattle.tm_legal.specs.Legal.{Scene, Replies, opening_of}
+use Rattle.std.specs.Prelude.{◌≡◌, ℕ, suc, Bool, true, List, [], ◌∷◌, length, map, take, Option, Some, is_some, unwrap_or, if◌then◌else◌, option_map, slice_get}
+use Rattle.tm_rules.specs.Types.{Made, Reply, Start, Step}
+use Rattle.tm_rules.specs.Prelude.{Grammar, numbered}
+use Rattle.tm_legal.specs.Prelude.{History, Replies, Scene, State, after, apply, fits, opening, opening_of}
 
 -- the steps alone
 abbrev pub steps_made : List Made → List Step
@@ -50,10 +42,6 @@ abbrev pub EachFits : Grammar → Start → List Made → Type 0
 EachFits g start list =
     (k : ℕ) (made : Made) → slice_get list k ≡ Some made
     → fits g start (steps_made (take k list)) made.step ≡ true
-
--- the domain is there, with its profile
-abbrev pub IsThere : Policy → ℕ → Type 0
-IsThere policy d = IsSome (in_domain policy d (λ domain profile. domain.name))
 
 -- the numbers of the elements that pass a test, where the first has number n
 abbrev pub numbers_from : {A : Type 0} → ℕ → (A → Bool) → List A → List ℕ

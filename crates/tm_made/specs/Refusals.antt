@@ -1,21 +1,9 @@
 -- What a refused line and a refused step leave.
 use Rattle.std.specs.Prelude.{◌≡◌, ◌⊎◌, ℕ, suc, Bool, true, false, not, List, Some, None, Ok, slice_set}
-use Rattle.tm_word.specs.Words.{Text}
-use Rattle.tm_rules.specs.Words.{DomainName, Cursor}
-use Rattle.tm_types.specs.declared.policy.Policy.{Policy}
-use Rattle.tm_types.specs.declared.policy.DomainRule.{DomainRule}
-use Rattle.tm_types.specs.declared.policy.PolicyLine.{PolicyLine}
-use Rattle.tm_types.specs.declared.step.FileKind.{FileKind}
-use Rattle.tm_types.specs.declared.step.Step.{Step}
-use Rattle.tm_types.specs.declared.step.Reply.{Reply}
-use Rattle.tm_types.specs.declared.step.LearnReply.{LearnReply}
-use Rattle.tm_types.specs.declared.step.MakeReply.{MakeReply}
-use Rattle.tm_types.specs.declared.step.Held.{Held}
-use Rattle.tm_rules.specs.Grammar.{Grammar}
-use Rattle.tm_rules.specs.Edit.{Edited, apply_line}
-use Rattle.tm_rules.specs.Load.{is_done}
-use Rattle.tm_rules.specs.Policy.{live_domain}
-use Rattle.tm_legal.specs.Steps.{State, apply}
+use Rattle.tm_word.specs.Prelude.{Text}
+use Rattle.tm_rules.specs.Prelude.{Cursor, DomainName, Edited, Grammar, apply_line, is_done, live_domain}
+use Rattle.tm_rules.specs.Types.{DomainRule, FileKind, Held, LearnReply, MakeReply, Policy, PolicyLine, Reply, Step}
+use Rattle.tm_legal.specs.Prelude.{State, apply}
 
 -- Lines
 

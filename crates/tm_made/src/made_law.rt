@@ -1,9 +1,8 @@
 //! Laws of the definitions, each on a function whose only clause it is.
 ghost use Rattle.std.specs.Prelude.{◌≡◌, ◌++◌, true, List};
-ghost use Rattle.tm_types.specs.declared.step.Start.{Start};
-ghost use Rattle.tm_types.specs.declared.step.Step.{Step};
-ghost use Rattle.tm_rules.specs.Grammar.{Grammar};
-ghost use Rattle.tm_legal.specs.Steps.{fits};
+ghost use Rattle.tm_rules.specs.Types.{Start, Step};
+ghost use Rattle.tm_rules.specs.Prelude.{Grammar};
+ghost use Rattle.tm_legal.specs.Prelude.{fits};
 ghost use Rattle.tm_made.specs.Domains.{DomainsAreKept};
 ghost use Rattle.tm_made.specs.Lasting.{OnceLiveIsProfiled};
 ghost use Rattle.tm_made.specs.Refusals.{RefusedLinesChangeNothing, RefusedStepsChangeNothing};

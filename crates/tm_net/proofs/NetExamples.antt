@@ -5,8 +5,8 @@ use Rattle.std.specs.Prelude.{codes}
 use Rattle.tm_types.specs.Numbers.{range_of, value_of, number_of, plain_of}
 use Rattle.tm_union.specs.Tokens.{token_at}
 use Rattle.tm_union.specs.Reading.{step, ended, parsed, pattern_of}
-use Rattle.tm_word.specs.Spelling.{spelled_word, word_of, head_of}
-use Rattle.tm_types.specs.declared.entry.LineKind.{LineKind}
+use Rattle.tm_word.specs.Prelude.{head_of, spelled_word, word_of}
+use Rattle.tm_rules.specs.Types.{AddrUnion, Args, InetKind, LineKind, NameUnion, NumberUnion, UnixKind}
 use Rattle.tm_line.specs.Names.{domain_of, is_path}
 use Rattle.tm_line.specs.Permissions.{perms_of}
 use Rattle.tm_line.specs.Arguments.{group_word, pattern_word, path_word, range_word, name_word, number_word, name_at, number_at, addr_range_word, address_word, address_at}
@@ -14,12 +14,6 @@ use Rattle.tm_line.specs.Domains.{domain_words, domain_at}
 use Rattle.tm_line.specs.AddrReading.{addr_of, v4_of, v6_of, quad_of, side_of, groups_after, last_of}
 use Rattle.tm_line.specs.AddrReading.{range_of as addr_range_of}
 use Rattle.tm_line.specs.AddrReading.{group_of as hex_group_of}
-use Rattle.tm_types.specs.declared.entry.Args.{Args}
-use Rattle.tm_types.specs.declared.entry.InetKind.{InetKind}
-use Rattle.tm_types.specs.declared.entry.UnixKind.{UnixKind}
-use Rattle.tm_types.specs.declared.unions.NameUnion.{NameUnion}
-use Rattle.tm_types.specs.declared.unions.NumberUnion.{NumberUnion}
-use Rattle.tm_types.specs.declared.unions.AddrUnion.{AddrUnion}
 use Rattle.tm_net.specs.NetLines.{perms_at, perms, inet_line, unix_line, network_line, env_word, misc_line, task_line, net_line}
 
 -- `netw`: an unfinished keyword as the last word

@@ -3,24 +3,13 @@
 use Rattle.std.proofs.Common.{◌≡◌, ℕ, ◌==◌, Bool, true, false, cond, ◌&&◌, ◌||◌, List, [], ◌∷◌, ◌++◌, Ok, Err, refl, sym, subst}
 use Rattle.std.specs.Prelude.{codes}
 use Rattle.std.proofs.lemmas.Bool.{eqb-true}
-use Rattle.tm_word.specs.Words.{Text, Pattern}
-use Rattle.tm_word.specs.Printing.{spelled_pattern}
+use Rattle.tm_word.specs.Prelude.{Pattern, Text, begins, spelled_pattern, texts_equal, ◌>>=◌}
 use Rattle.tm_union.specs.Grammar.{is_right}
-use Rattle.tm_types.specs.declared.entry.Args.{Args}
-use Rattle.tm_types.specs.declared.entry.InetKind.{InetKind}
-use Rattle.tm_types.specs.declared.entry.UnixKind.{UnixKind}
-use Rattle.tm_types.specs.declared.entry.LineKind.{LineKind}
-use Rattle.tm_types.specs.declared.entry.Perms.{Perms}
-use Rattle.tm_types.specs.declared.unions.NameUnion.{NameUnion}
-use Rattle.tm_types.specs.declared.unions.NumberUnion.{NumberUnion}
-use Rattle.tm_types.specs.declared.unions.AddrUnion.{AddrUnion}
-use Rattle.tm_word.specs.Texts.{texts_equal, begins}
-use Rattle.tm_rules.specs.Words.{DomainName}
-use Rattle.tm_rules.specs.Transition.{is_domain_name}
+use Rattle.tm_rules.specs.Types.{AddrUnion, Args, InetKind, LineKind, NameUnion, NumberUnion, Perms, UnixKind}
+use Rattle.tm_rules.specs.Prelude.{DomainName, is_domain_name}
 use Rattle.tm_line.specs.Names.{is_path}
 use Rattle.tm_line.specs.declared.permissions.Row.{Row}
 use Rattle.tm_line.specs.Lines.{is_last, keyword_kind, keyword_at, word_at}
-use Rattle.tm_word.specs.Gives.{◌>>=◌}
 use Rattle.tm_line.specs.Permissions.{perms_of, perms_spelling}
 use Rattle.tm_line.specs.Arguments.{pattern_word, name_at, number_at, address_at}
 use Rattle.tm_line.specs.Domains.{domain_at}

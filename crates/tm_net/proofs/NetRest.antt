@@ -1,13 +1,10 @@
 -- What a network, environment or task line leaves is the end of the words.
 use Rattle.std.proofs.Common.{◌≡◌, ℕ, ◌-◌, Bool, true, false, cond, ◌&&◌, ◌||◌, List, [], ◌∷◌, length, drop, Option, Some, None, Ok, Err, refl, subst}
 use Rattle.std.specs.Prelude.{codes}
-use Rattle.tm_word.specs.Words.{Text}
-use Rattle.tm_types.specs.declared.entry.Args.{Args}
-use Rattle.tm_types.specs.declared.entry.Perms.{Perms}
-use Rattle.tm_word.specs.Texts.{texts_equal, begins}
+use Rattle.tm_word.specs.Prelude.{Text, begins, texts_equal, ◌>>=◌}
+use Rattle.tm_rules.specs.Types.{Args, Perms}
 use Rattle.tm_line.specs.declared.permissions.Row.{Row}
 use Rattle.tm_line.specs.Lines.{is_last, keyword_kind, keyword_at, word_at}
-use Rattle.tm_word.specs.Gives.{◌>>=◌}
 use Rattle.tm_line.specs.Permissions.{perms_of}
 use Rattle.tm_line.specs.Arguments.{name_at, number_at, address_at}
 use Rattle.tm_line.specs.Domains.{domain_at}

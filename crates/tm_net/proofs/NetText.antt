@@ -3,20 +3,15 @@
 use Rattle.std.proofs.Common.{◌≡◌, ℕ, ◌==◌, true, ◌&&◌, List, [], ◌∷◌, refl}
 use Rattle.std.specs.Prelude.{codes}
 use Rattle.std.specs.List.{list_all}
-use Rattle.tm_word.specs.Words.{Text}
-use Rattle.tm_word.specs.Spelling.{words_of, joined}
-use Rattle.tm_word.specs.Printing.{spelled_pattern}
+use Rattle.tm_word.specs.Prelude.{Text, is_solid, is_word, joined, spelled_pattern, words_of}
 use Rattle.tm_union.specs.Grammar.{is_right}
-use Rattle.tm_types.specs.declared.entry.Args.{Args}
-use Rattle.tm_types.specs.declared.entry.InetKind.{InetKind}
-use Rattle.tm_types.specs.declared.entry.UnixKind.{UnixKind}
-use Rattle.tm_rules.specs.Transition.{is_domain_name}
+use Rattle.tm_rules.specs.Types.{Args, InetKind, UnixKind}
+use Rattle.tm_rules.specs.Prelude.{is_domain_name}
 use Rattle.tm_line.specs.Names.{is_path}
 use Rattle.tm_line.specs.Permissions.{perms_spelling}
 use Rattle.tm_line.specs.Printing.{name_spelling, number_spelling, address_spelling}
 use Rattle.tm_line.specs.Written.{is_name, is_number, is_address, is_set}
 use Rattle.tm_line.specs.DomainWords.{domain_parts}
-use Rattle.tm_word.specs.Texts.{is_solid, is_word}
 use Rattle.tm_line.proofs.Steps.{both, all}
 use Rattle.tm_line.proofs.WholeLaws.{words_again, word_from, pattern_solid, name_is, number_is, address_is, perms_is, parts_are}
 use Rattle.tm_net.specs.NetLines.{inet_permissions, unix_permissions, inet_word, unix_word, is_env, net_words, is_net}

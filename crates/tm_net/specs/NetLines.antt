@@ -1,21 +1,13 @@
 -- The lines of network, environment and task: what reading gives, and the words that are printed.
 use Rattle.std.specs.Prelude.{◌≡◌, ◌++◌, true, map, ℕ, ◌-◌, ◌==◌, ◌&&◌, ◌||◌, not, if◌then◌else◌, Bool, false, List, [], ◌∷◌, length, codes, Option, Some, None, Result, Ok, Err}
 use Rattle.std.specs.List.{list_any}
-use Rattle.tm_word.specs.Words.{Text, Pattern}
-use Rattle.tm_word.specs.Printing.{spelled_pattern}
+use Rattle.tm_word.specs.Prelude.{Pattern, Text, begins, begins_row, of_word, row_of, spelled_pattern, texts_equal, ◌>>=◌}
 use Rattle.tm_union.specs.Grammar.{is_right}
-use Rattle.tm_types.specs.declared.entry.Args.{Args}
-use Rattle.tm_types.specs.declared.entry.InetKind.{InetKind}
-use Rattle.tm_types.specs.declared.entry.UnixKind.{UnixKind}
-use Rattle.tm_types.specs.declared.entry.LineKind.{LineKind}
-use Rattle.tm_types.specs.declared.entry.Perms.{Perms}
-use Rattle.tm_word.specs.Closed.{row_of, of_word, begins_row}
-use Rattle.tm_word.specs.Texts.{texts_equal, begins}
-use Rattle.tm_rules.specs.Transition.{is_domain_name}
+use Rattle.tm_rules.specs.Types.{Args, InetKind, LineKind, Perms, UnixKind}
+use Rattle.tm_rules.specs.Prelude.{is_domain_name}
 use Rattle.tm_line.specs.Names.{is_path}
 use Rattle.tm_line.specs.declared.permissions.Row.{Row}
 use Rattle.tm_line.specs.Lines.{is_last, keyword_kind, keyword_at, word_at}
-use Rattle.tm_word.specs.Gives.{◌>>=◌}
 use Rattle.tm_line.specs.Permissions.{perms_of, perms_spelling}
 use Rattle.tm_line.specs.Arguments.{pattern_word, name_at, number_at, address_at}
 use Rattle.tm_line.specs.Domains.{domain_at}

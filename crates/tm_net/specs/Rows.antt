@@ -1,11 +1,8 @@
 -- Which requests the arguments of a network, environment or task line are for.
 use Rattle.std.specs.Prelude.{Option, None, Some, if◌then◌else◌}
-use Rattle.tm_word.specs.Words.{Word, Pattern}
-use Rattle.tm_word.specs.Matching.{matches}
-use Rattle.tm_types.specs.declared.unions.Groups.{Groups}
-use Rattle.tm_types.specs.declared.unions.NamePlace.{NamePlace}
-use Rattle.tm_types.specs.declared.entry.Args.{Args}
-use Rattle.tm_rules.specs.Search.{args_grant}
+use Rattle.tm_word.specs.Prelude.{Pattern, Word, matches}
+use Rattle.tm_rules.specs.Types.{Args, Groups, NamePlace}
+use Rattle.tm_rules.specs.Prelude.{args_grant}
 
 -- the arguments of a `network`, `misc` or `task` line by the rule of all lines; every other line is
 -- for no such request

@@ -1,22 +1,14 @@
 //! The lines of network, environment and task: read, printed, matched with requests.
-//! It stands on `tm_line` for arguments, on `tm_union`, `tm_pattern` and the rules of `tm_rules`.
-//! It promises the grammar with its first fault, one text that is read again, and each match.
+//! Stands on `tm_line` for arguments, on `tm_union`, `tm_pattern` and the rules of `tm_rules`.
+//! Of its own, beside tm_file and tm_cond, so that a change of these doesn't prove it anew.
+//! Promises the grammar with its first fault, one text that is read again, and each match.
 #![tactic(auto)]
 
 ghost use Rattle.std.specs.Prelude.{◌≡◌, Option, slice_get};
 ghost use Rattle.std.specs.Option.{option_and_then};
-ghost use Rattle.tm_types.specs.declared.unions.Groups.{Groups};
-ghost use Rattle.tm_types.specs.declared.unions.NameUnion.{NameUnion};
-ghost use Rattle.tm_types.specs.Request.{argument_words};
-ghost use Rattle.tm_rules.specs.Few.{IsShort};
-ghost use Rattle.tm_rules.specs.Group.{name_in, number_in};
-ghost use Rattle.tm_types.specs.declared.entry.Args.{Args};
-ghost use Rattle.tm_types.specs.Addr.{Addr};
-ghost use Rattle.tm_word.specs.Matching.{matches};
-ghost use Rattle.tm_rules.specs.Equality.{inet_place, unix_place};
-ghost use Rattle.tm_word.specs.Texts.{texts_equal};
-ghost use Rattle.tm_rules.specs.Group.{addr_in};
-ghost use Rattle.tm_rules.specs.Search.{number_value, addr_value, args_grant};
+ghost use Rattle.tm_rules.specs.Types.{Addr, Args, Groups, NameUnion, argument_words};
+ghost use Rattle.tm_rules.specs.Prelude.{IsShort, addr_in, addr_value, args_grant, inet_place, name_in, number_in, number_value, unix_place};
+ghost use Rattle.tm_word.specs.Prelude.{matches, texts_equal};
 ghost use Rattle.tm_net.specs.Rows.{net_args_grant, env_grant};
 
 mod lines;

@@ -1,15 +1,10 @@
 //! Reading the lines of network, environment and task.
 ghost use Rattle.std.specs.Prelude.{◌≡◌, ◌≤◌, ◌-◌, ℕ, true, List, map, Ok, length, drop, IfOk};
 ghost use Rattle.std.specs.List.{list_all};
-ghost use Rattle.tm_word.specs.Spelling.{words_of, joined};
-ghost use Rattle.tm_word.specs.Texts.{is_word};
-ghost use Rattle.tm_word.specs.Words.{Text};
-ghost use Rattle.tm_types.specs.declared.entry.Args.{Args};
-ghost use Rattle.tm_types.specs.declared.entry.Perms.{Perms};
-ghost use Rattle.tm_word.specs.Gives.{Gives, GivesNow};
+ghost use Rattle.tm_word.specs.Prelude.{Gives, GivesNow, Text, begins_row, is_word, joined, named, words_of};
+ghost use Rattle.tm_rules.specs.Types.{Args, Perms};
 ghost use Rattle.tm_line.specs.Lines.{line_cause, word_at};
 ghost use Rattle.tm_net.specs.NetLines.{inet_kind, unix_kind, inet_permissions, unix_permissions, kind_at, perms_at, inet_line, unix_line, network_line, env_word, misc_line, task_line, starts_net, net_line, counted, net_words, is_net, perms, IsReadAgain};
-ghost use Rattle.tm_word.specs.Closed.{named, begins_row};
 
 use std::alloc::Global;
 use tm_line::{

@@ -1,7 +1,7 @@
 //! Printing the lines of network, environment and task.
 ghost use Rattle.std.specs.Prelude.{◌≡◌, ◌++◌, ◌∷◌, codes, IfOk, OnOk, OnErr};
-ghost use Rattle.tm_word.specs.Spelling.{joined};
-ghost use Rattle.tm_types.specs.declared.entry.Args.{Args};
+ghost use Rattle.tm_word.specs.Prelude.{joined};
+ghost use Rattle.tm_rules.specs.Types.{Args};
 ghost use Rattle.tm_line.specs.Permissions.{perms_spelling};
 ghost use Rattle.tm_line.specs.Printing.{number_spelling};
 ghost use Rattle.tm_net.specs.NetLines.{inet_permissions, unix_permissions, inet_word, unix_word, net_words};

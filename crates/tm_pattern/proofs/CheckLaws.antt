@@ -8,7 +8,7 @@ use Rattle.std.proofs.lemmas.Grind.{common_steps}
 use Rattle.std.proofs.lemmas.List.{drop_min}
 use Rattle.std.proofs.Math.Seq.{take-length}
 use Rattle.std.proofs.lemmas.Bool.{ne_eqb}
-use Rattle.tm_word.specs.Gives.{◌>>=◌}
+use Rattle.tm_word.specs.Prelude.{◌>>=◌}
 use Rattle.tm_word.specs.declared.Element.{Element}
 use Rattle.tm_word.specs.declared.Component.{Component}
 use Rattle.tm_word.specs.declared.Repeat.{Repeat}

@@ -2,12 +2,11 @@
 use mathlib.Core.List.{reverse_aux}
 use Rattle.std.proofs.Common.{◌≡◌, ℕ, zero, suc, ◌+◌, ◌-◌, ◌≤◌, ◌==◌, nat_lt, Bool, true, false, cond, ◌&&◌, not, List, [], ◌∷◌, ◌++◌, length, Option, Some, None, Result, Ok, Err, ◌⊎◌, inl, inr, refl, sym, ap, subst, ◌∙◌, arith}
 use Rattle.std.proofs.lemmas.Bool.{ne_eqb}
-use Rattle.tm_word.specs.Gives.{◌>>=◌}
+use Rattle.tm_word.specs.Prelude.{octal_value, ◌>>=◌}
 use Rattle.tm_word.specs.declared.Element.{Element}
 use Rattle.tm_word.specs.declared.Component.{Component}
 use Rattle.tm_word.specs.declared.Repeat.{Repeat}
 use Rattle.tm_word.specs.declared.Repeat.TheVariants.{Once, OneOrMore, ZeroOrMore}
-use Rattle.tm_word.specs.Spelling.{octal_value}
 use Rattle.tm_pattern.specs.declared.token.Token.{Token}
 use Rattle.tm_pattern.specs.declared.token.Token.TheVariants as token
 use Rattle.tm_pattern.specs.declared.token.Placed.{Placed}

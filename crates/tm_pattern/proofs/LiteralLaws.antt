@@ -5,12 +5,7 @@ use Rattle.std.proofs.lemmas.Bool.{eqb-true}
 use Rattle.std.proofs.lemmas.List.Splits.{slice_split-cons_no, slice_split-cons_yes}
 use Rattle.std.specs.List.{list_all, onto_first}
 use Rattle.tm_word.specs.declared.Element.{Element}
-use Rattle.tm_word.specs.Words.{Text, Word, Pattern}
-use Rattle.tm_word.specs.Spelling.{spell, are_bytes, word_of, spelled_word}
-use Rattle.tm_word.specs.Texts.{texts_equal}
-use Rattle.tm_word.specs.Matching.{components, matches}
-use Rattle.tm_word.specs.Patterns.{IsNoLiteral}
-use Rattle.tm_word.specs.Printing.{spelled_pattern, is_literal, literal, literal_component}
+use Rattle.tm_word.specs.Prelude.{IsNoLiteral, Pattern, Text, Word, are_bytes, components, is_literal, literal, literal_component, matches, spell, spelled_pattern, spelled_word, texts_equal, word_of}
 use Rattle.tm_word.proofs.Cuts.{pieces_of}
 use Rattle.tm_word.proofs.Literals.{literal-own, literal-alone, literal-spelled, literal-is_literal}
 use Rattle.tm_word.proofs.Spelled.{read_again, read_found, word_read}

@@ -3,8 +3,8 @@ use Rattle.std.proofs.Common.{◌≡◌, ℕ, ◌+◌, ◌*◌, ◌^◌, ◌<◌
 use Rattle.std.proofs.lemmas.List.{drop_more}
 use Rattle.std.specs.Prelude.{if◌then◌else◌}
 use Rattle.std.specs.List.{AllByRecursion}
-use Rattle.tm_types.specs.declared.policy.Domain.{Domain}
-use Rattle.tm_rules.specs.Few.{IsShort}
+use Rattle.tm_rules.specs.Types.{Domain}
+use Rattle.tm_rules.specs.Prelude.{IsShort}
 use Rattle.tm_policy.specs.Counts.{live_domains, entries_of}
 
 -- no more domains are live than there are

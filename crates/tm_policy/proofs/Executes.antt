@@ -2,24 +2,10 @@
 use Rattle.std.proofs.Common.{◌≡◌, ℕ, ◌==◌, Bool, true, ◌&&◌, List, [], ◌∷◌, refl, sym, ap, ◌∙◌}
 use Rattle.std.specs.Prelude.{Option, Some, None, slice_get}
 use Rattle.std.specs.List.{list_all}
-use Rattle.tm_word.specs.Words.{Word}
-use Rattle.tm_word.specs.Printing.{literal}
+use Rattle.tm_word.specs.Prelude.{Word, literal}
 use Rattle.tm_word.proofs.Literals.{literal-name}
-use Rattle.tm_types.specs.Request.{argument_words}
-use Rattle.tm_types.specs.declared.unions.NameUnion.{NameUnion}
-use Rattle.tm_types.specs.declared.unions.Groups.{Groups}
-use Rattle.tm_types.specs.declared.entry.Args.{Args}
-use Rattle.tm_types.specs.declared.entry.Attr.{Attr}
-use Rattle.tm_types.specs.declared.entry.Right.{Right}
-use Rattle.tm_types.specs.declared.entry.Clause.{Clause}
-use Rattle.tm_types.specs.declared.entry.Cond.{Cond}
-use Rattle.tm_types.specs.declared.entry.Entry.{Entry}
-use Rattle.tm_types.specs.declared.request.Proc.{Proc}
-use Rattle.tm_types.specs.declared.request.Attributes.{Attributes}
-use Rattle.tm_types.specs.declared.request.Request.{Request}
-use Rattle.tm_rules.specs.Condition.{is_execute, number_of, word_of, clause_holds, holds}
-use Rattle.tm_rules.specs.Policy.{has_permission}
-use Rattle.tm_rules.specs.Search.{when, args_grant, grants}
+use Rattle.tm_rules.specs.Types.{Args, Attr, Attributes, Clause, Cond, Entry, Groups, NameUnion, Proc, Request, Right, argument_words}
+use Rattle.tm_rules.specs.Prelude.{args_grant, clause_holds, grants, has_permission, holds, is_execute, number_of, when, word_of}
 use Rattle.tm_policy.specs.Searching.{asked_as}
 
 -- requests with the same attributes, both executes or neither

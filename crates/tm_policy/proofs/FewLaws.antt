@@ -2,11 +2,8 @@
 use Rattle.std.proofs.Common.{◌≡◌, ℕ, Bool, true, false, ◌&&◌, List, [], ◌∷◌, length, refl}
 use Rattle.std.specs.List.{list_all, AllByRecursion}
 use Rattle.std.proofs.lemmas.Bool.{ltb-true, lt-ltb}
-use Rattle.tm_types.specs.declared.entry.Entry.{Entry}
-use Rattle.tm_types.specs.declared.policy.Namespace.{Namespace}
-use Rattle.tm_types.specs.declared.policy.Domain.{Domain}
-use Rattle.tm_types.specs.declared.policy.Policy.{Policy}
-use Rattle.tm_rules.specs.Few.{IsShort, IsFewHere, IsFew}
+use Rattle.tm_rules.specs.Types.{Domain, Entry, Namespace, Policy}
+use Rattle.tm_rules.specs.Prelude.{IsFew, IsFewHere, IsShort}
 use Rattle.tm_policy.specs.FewTests.{is_short, has_short_lists}
 
 both : (a b : Bool) → (a && b) ≡ true → (a ≡ true) × (b ≡ true)

@@ -1,14 +1,9 @@
 -- The last line of a file.
 use Rattle.std.proofs.Common.{◌≡◌, ℕ, suc, sym, ap, subst, ◌∙◌, List, [], ◌∷◌}
 use Rattle.std.specs.Prelude.{Result, Ok}
-use Rattle.tm_word.specs.Words.{Text}
-use Rattle.tm_word.specs.Texts.{lines_of}
-use Rattle.tm_word.specs.Gives.{Fails}
-use Rattle.tm_rules.specs.Words.{Cursor}
-use Rattle.tm_types.specs.declared.policy.Policy.{Policy}
-use Rattle.tm_types.specs.declared.step.FileKind.{FileKind}
-use Rattle.tm_types.specs.declared.step.LoadFault.{LoadFault}
-use Rattle.tm_rules.specs.Load.{load_lines}
+use Rattle.tm_word.specs.Prelude.{Fails, Text, lines_of}
+use Rattle.tm_rules.specs.Prelude.{Cursor, load_lines}
+use Rattle.tm_rules.specs.Types.{FileKind, LoadFault, Policy}
 use Rattle.tm_rep.specs.Tomoyo.{tomoyo_grammar}
 use Rattle.tm_policy.specs.Loading.{load_cause}
 

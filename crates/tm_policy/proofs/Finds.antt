@@ -2,18 +2,9 @@
 use Rattle.std.proofs.Common.{◌≡◌, ℕ, true, false, [], ◌++◌, refl, ap, append-nil}
 use Rattle.std.specs.Prelude.{Option, Some, None, option_map, unwrap_or}
 use Rattle.std.specs.List.{find}
-use Rattle.tm_word.specs.Words.{Word, Text}
-use Rattle.tm_types.specs.declared.unions.Groups.{Groups}
-use Rattle.tm_types.specs.declared.policy.Namespace.{Namespace}
-use Rattle.tm_types.specs.declared.policy.Domain.{Domain}
-use Rattle.tm_types.specs.declared.policy.Policy.{Policy}
-use Rattle.tm_types.specs.declared.verdict.EntryPlace.{EntryPlace}
-use Rattle.tm_types.specs.declared.request.Proc.{Proc}
-use Rattle.tm_types.specs.declared.request.Request.{Request}
-use Rattle.tm_word.specs.Texts.{texts_equal}
-use Rattle.tm_rules.specs.Condition.{is_execute}
-use Rattle.tm_rules.specs.Policy.{empty_namespace, namespace_word, namespace_named, namespace_of, domain_at}
-use Rattle.tm_rules.specs.Search.{aggregated, path_of, entries_of, placed, first, found, found_of}
+use Rattle.tm_word.specs.Prelude.{Text, Word, texts_equal}
+use Rattle.tm_rules.specs.Types.{Domain, EntryPlace, Groups, Namespace, Policy, Proc, Request}
+use Rattle.tm_rules.specs.Prelude.{aggregated, domain_at, empty_namespace, entries_of, first, found, found_of, is_execute, namespace_named, namespace_of, namespace_word, path_of, placed}
 use Rattle.tm_policy.specs.Searching.{Asked, found_in, acl_entries}
 use Rattle.tm_policy.proofs.Lists.{no_groups}
 

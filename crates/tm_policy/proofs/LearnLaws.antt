@@ -2,13 +2,8 @@
 use Rattle.std.proofs.Common.{◌≡◌, ℕ, refl}
 use Rattle.std.specs.Prelude.{Option, Some, None, IsSome, option_map}
 use Rattle.std.specs.Option.{option_and_then}
-use Rattle.tm_types.specs.declared.entry.Entry.{Entry}
-use Rattle.tm_types.specs.declared.policy.Profile.{Profile}
-use Rattle.tm_types.specs.declared.policy.Domain.{Domain}
-use Rattle.tm_types.specs.declared.policy.Policy.{Policy}
-use Rattle.tm_types.specs.declared.step.LearnReply.{LearnReply}
-use Rattle.tm_rules.specs.Policy.{domain_at, profile_of, with_domain}
-use Rattle.tm_rules.specs.Changes.{learn, learn_reply, learned_domain}
+use Rattle.tm_rules.specs.Types.{Domain, Entry, LearnReply, Policy, Profile}
+use Rattle.tm_rules.specs.Prelude.{domain_at, learn, learn_reply, learned_domain, profile_of, with_domain}
 
 module _ (policy : Policy) (d : ℕ) (line : Entry) where
   abbrev change : Domain → Profile → Policy × LearnReply

@@ -3,13 +3,8 @@ use Rattle.std.proofs.Common.{◌≡◌, ℕ, zero, suc, ◌+◌, ◌<◌, ◌==
 use Rattle.std.specs.Prelude.{Option, Some, None, option_map, unwrap_or, slice_get, if◌then◌else◌}
 use Rattle.std.specs.Option.{option_or}
 use Rattle.std.specs.List.{AllByRecursion, find}
-use Rattle.tm_types.specs.declared.entry.Entry.{Entry}
-use Rattle.tm_types.specs.declared.verdict.EntryPlace.{EntryPlace}
-use Rattle.tm_types.specs.declared.verdict.Found.{Found}
-use Rattle.tm_rules.specs.Condition.{first_of_all}
-use Rattle.tm_rules.specs.Few.{IsShort}
-use Rattle.tm_rules.specs.Policy.{at_key}
-use Rattle.tm_rules.specs.Search.{granting, placed, found_of}
+use Rattle.tm_rules.specs.Types.{Entry, EntryPlace, Found}
+use Rattle.tm_rules.specs.Prelude.{IsShort, at_key, first_of_all, found_of, granting, placed}
 use Rattle.tm_policy.specs.Searching.{Asked, asked_request, found_in, acl_entries}
 
 or-or : {B : Type 0} (x y z : Option B) → option_or x (option_or y z) ≡ option_or (option_or x y) z

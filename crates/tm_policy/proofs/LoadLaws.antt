@@ -1,12 +1,8 @@
 -- Loading is doing all lines, and then opening.
 use Rattle.std.proofs.Common.{◌≡◌, refl}
 use Rattle.std.specs.Prelude.{Result, Ok, Err}
-use Rattle.tm_types.specs.declared.policy.Policy.{Policy}
-use Rattle.tm_types.specs.declared.step.FileKind.{FileKind}
-use Rattle.tm_types.specs.declared.step.PolicyFiles.{PolicyFiles}
-use Rattle.tm_types.specs.declared.step.LoadFault.{LoadFault}
-use Rattle.tm_rules.specs.Grammar.{Grammar}
-use Rattle.tm_rules.specs.Load.{new_policy, load_file, and_then, open_policy, load}
+use Rattle.tm_rules.specs.Types.{FileKind, LoadFault, Policy, PolicyFiles}
+use Rattle.tm_rules.specs.Prelude.{Grammar, and_then, load, load_file, new_policy, open_policy}
 use Rattle.tm_policy.specs.Loading.{all_lines}
 
 -- what follows in two steps follows in one

@@ -1,7 +1,6 @@
 -- How much of a policy is live.
 use Rattle.std.specs.Prelude.{ℕ, ◌+◌, List, [], ◌∷◌, length, filter}
-use Rattle.tm_types.specs.declared.policy.Domain.{Domain}
-use Rattle.tm_types.specs.declared.policy.Policy.{Policy}
+use Rattle.tm_rules.specs.Types.{Domain, Policy}
 
 -- the domains that are live
 abbrev pub live_domains : List Domain → List Domain

@@ -1,8 +1,7 @@
 -- Tests of the lists whose places are written as numbers below 2^32.
 use Rattle.std.specs.Prelude.{ℕ, Bool, ◌&&◌, List, length, nat_lt}
 use Rattle.std.specs.List.{list_all}
-use Rattle.tm_types.specs.declared.entry.Entry.{Entry}
-use Rattle.tm_types.specs.declared.policy.Namespace.{Namespace}
+use Rattle.tm_rules.specs.Types.{Entry, Namespace}
 
 -- each place is below 2^32
 abbrev pub is_short : ℕ → Bool

@@ -1,11 +1,7 @@
 -- Loading: the lines of four files before the policy is opened, and why a policy is not loaded.
 use Rattle.std.specs.Prelude.{Option, Some, None, Result}
-use Rattle.tm_types.specs.declared.policy.Policy.{Policy}
-use Rattle.tm_types.specs.declared.step.FileKind.{FileKind}
-use Rattle.tm_types.specs.declared.step.PolicyFiles.{PolicyFiles}
-use Rattle.tm_types.specs.declared.step.LoadFault.{LoadFault}
-use Rattle.tm_rules.specs.Grammar.{Grammar}
-use Rattle.tm_rules.specs.Load.{load_file, and_then}
+use Rattle.tm_rules.specs.Types.{FileKind, LoadFault, Policy, PolicyFiles}
+use Rattle.tm_rules.specs.Prelude.{Grammar, and_then, load_file}
 
 -- the profile, exception, domain and manager lines, in this order, on a policy
 abbrev pub all_lines : Grammar → PolicyFiles → Policy → Result Policy LoadFault

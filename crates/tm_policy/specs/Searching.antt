@@ -1,18 +1,8 @@
 -- A search, list by list.
 use Rattle.std.specs.Prelude.{◌≡◌, ℕ, List, [], Option, Some, None, flat_map, option_map, unwrap_or}
-use Rattle.tm_word.specs.Words.{Word}
-use Rattle.tm_word.specs.Printing.{literal}
-use Rattle.tm_types.specs.declared.unions.NameUnion.{NameUnion}
-use Rattle.tm_types.specs.declared.unions.NamePlace.{NamePlace}
-use Rattle.tm_types.specs.declared.unions.Groups.{Groups}
-use Rattle.tm_types.specs.declared.entry.Args.{Args}
-use Rattle.tm_types.specs.declared.entry.Entry.{Entry}
-use Rattle.tm_types.specs.declared.verdict.EntryPlace.{EntryPlace}
-use Rattle.tm_types.specs.declared.verdict.Found.{Found}
-use Rattle.tm_types.specs.declared.request.Proc.{Proc}
-use Rattle.tm_types.specs.declared.request.Request.{Request}
-use Rattle.tm_rules.specs.Policy.{at_key}
-use Rattle.tm_rules.specs.Search.{grants, placed, first_of, found_of}
+use Rattle.tm_word.specs.Prelude.{Word, literal}
+use Rattle.tm_rules.specs.Types.{Args, Entry, EntryPlace, Found, Groups, NamePlace, NameUnion, Proc, Request}
+use Rattle.tm_rules.specs.Prelude.{at_key, first_of, found_of, grants, placed}
 
 -- what is asked of entries: the request of a process under these groups, with another name in place
 -- of an execute's path, where one is given

@@ -1,6 +1,6 @@
 //! How much of a policy is live.
 ghost use Rattle.std.specs.Prelude.{◌≡◌};
-ghost use Rattle.tm_rules.specs.Few.{IsFew};
+ghost use Rattle.tm_rules.specs.Prelude.{IsFew};
 ghost use Rattle.tm_policy.specs.Counts.{counted};
 
 use tm_types::policy::Policy;

@@ -1,7 +1,6 @@
 //! What a line of the exception file does to a policy.
 ghost use Rattle.std.specs.Prelude.{◌≡◌, true, false, IfOk, OnErr};
-ghost use Rattle.tm_rules.specs.Few.{IsFew};
-ghost use Rattle.tm_rules.specs.Edit.{except_line};
+ghost use Rattle.tm_rules.specs.Prelude.{IsFew, except_line};
 
 use std::alloc::Global;
 use tm_change_namespaces::{add_rule, has_rule, remove_rule};

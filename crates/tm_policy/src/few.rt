@@ -1,10 +1,8 @@
 //! Whether each place of a policy's lists can be written as a number below 2^32.
 ghost use Rattle.std.specs.Prelude.{◌≡◌, ◌↔◌, ℕ, List, length, IsTrue};
 ghost use Rattle.std.specs.List.{list_all};
-ghost use Rattle.tm_types.specs.declared.entry.Entry.{Entry};
-ghost use Rattle.tm_types.specs.declared.policy.Domain.{Domain};
-ghost use Rattle.tm_types.specs.declared.policy.Namespace.{Namespace};
-ghost use Rattle.tm_rules.specs.Few.{IsFew};
+ghost use Rattle.tm_rules.specs.Types.{Domain, Entry, Namespace};
+ghost use Rattle.tm_rules.specs.Prelude.{IsFew};
 ghost use Rattle.tm_policy.specs.FewTests.{is_short, has_short_lists};
 
 use tm_list::Seq;

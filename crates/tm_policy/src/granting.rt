@@ -1,11 +1,8 @@
 //! What is asked of the entries of a domain, and whether an entry grants it.
 ghost use Rattle.std.specs.Prelude.{◌≡◌, ◌&&◌, true, Some, IsSome, slice_get};
 ghost use Rattle.std.specs.Option.{option_copied};
-ghost use Rattle.tm_types.specs.Request.{argument_words};
-ghost use Rattle.tm_rules.specs.Few.{IsShort};
-ghost use Rattle.tm_rules.specs.Condition.{is_execute, holds};
-ghost use Rattle.tm_rules.specs.Policy.{has_permission};
-ghost use Rattle.tm_rules.specs.Search.{args_grant, grants};
+ghost use Rattle.tm_rules.specs.Types.{argument_words};
+ghost use Rattle.tm_rules.specs.Prelude.{IsShort, args_grant, grants, has_permission, holds, is_execute};
 ghost use Rattle.tm_policy.specs.Searching.{asked_as, asked_request, granted_by, place_in};
 
 use std::marker::Model;
@@ -33,8 +30,7 @@ pub struct Asked<'a> {
 impl<'a> Model for Asked<'a> {
     ghost use Rattle.std.specs.Prelude.{◌≡◌, true, IsSome};
     ghost use Rattle.std.specs.Option.{option_copied};
-    ghost use Rattle.tm_rules.specs.Few.{IsShort};
-    ghost use Rattle.tm_rules.specs.Condition.{is_execute};
+    ghost use Rattle.tm_rules.specs.Prelude.{IsShort, is_execute};
     ghost use Rattle.tm_policy.specs.Searching.{Asked};
 
     ghost Value = { Asked };

@@ -1,7 +1,6 @@
 //! What the line of an ACL group does to a policy.
 ghost use Rattle.std.specs.Prelude.{◌≡◌, true, false, IfOk, OnErr};
-ghost use Rattle.tm_rules.specs.Few.{IsFew};
-ghost use Rattle.tm_rules.specs.Edit.{group_line};
+ghost use Rattle.tm_rules.specs.Prelude.{IsFew, group_line};
 
 use std::alloc::Global;
 use tm_change_namespaces::{add_group_line, has_group_line, remove_group_line};

@@ -1,7 +1,6 @@
 //! Learns and Makes: what they look up in the policy, and what they do.
 ghost use Rattle.std.specs.Prelude.{◌≡◌, Some, IsSome, IfOk, OnErr};
-ghost use Rattle.tm_rules.specs.Few.{IsFew};
-ghost use Rattle.tm_rules.specs.Changes.{learn, make};
+ghost use Rattle.tm_rules.specs.Prelude.{IsFew, learn, make};
 
 use std::alloc::Global;
 use tm_change_domains::{domain_at, learn_known, live_domain, make_known};

@@ -1,5 +1,6 @@
 //! Policies as they are: what lines and Learns do to them, how they are searched and loaded.
 //! Stands on tm_rep, whose trait it keeps, on the crates tm_change_*, and on tm_policy_line.
+//! Of its own, so that tm_indexed shares its search and loading, and no verdict stands on either.
 //! Promises that a change is the defined one or none, and that the first granting entry is found.
 #![tactic(auto)]
 

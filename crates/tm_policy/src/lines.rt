@@ -1,8 +1,7 @@
 //! What a line of any policy file does to a policy.
 ghost use Rattle.std.specs.Prelude.{◌≡◌, IfOk, OnErr};
-ghost use Rattle.tm_types.specs.declared.policy.PolicyLine.{PolicyLine};
-ghost use Rattle.tm_rules.specs.Few.{IsFew};
-ghost use Rattle.tm_rules.specs.Edit.{apply_read, apply_line};
+ghost use Rattle.tm_rules.specs.Types.{PolicyLine};
+ghost use Rattle.tm_rules.specs.Prelude.{IsFew, apply_line, apply_read};
 ghost use Rattle.tm_rep.specs.Tomoyo.{tomoyo_grammar};
 
 use crate::exceptions::apply_exception;

@@ -1,10 +1,8 @@
 //! The lines of four files, one after another, and the opening of the policy that they give.
 ghost use Rattle.std.specs.Prelude.{◌≡◌, ◌∷◌, suc, List, IfOk, MatchResult};
 ghost use Rattle.std.specs.List.{position_from};
-ghost use Rattle.tm_word.specs.Words.{Text};
-ghost use Rattle.tm_word.specs.Gives.{Gives, GivesNow, Fails};
-ghost use Rattle.tm_rules.specs.Few.{IsShort, IsFew};
-ghost use Rattle.tm_rules.specs.Load.{is_done, load_lines, load_file, wants_profile, open_policy, load};
+ghost use Rattle.tm_word.specs.Prelude.{Fails, Gives, GivesNow, Text};
+ghost use Rattle.tm_rules.specs.Prelude.{IsFew, IsShort, is_done, load, load_file, load_lines, open_policy, wants_profile};
 ghost use Rattle.tm_rep.specs.Tomoyo.{tomoyo_grammar};
 ghost use Rattle.tm_policy.specs.Loading.{load_cause, all_lines};
 

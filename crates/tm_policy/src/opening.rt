@@ -1,8 +1,7 @@
 //! A policy at first, and its opening.
 ghost use Rattle.std.specs.Prelude.{◌≡◌, true, None, IfOk};
 ghost use Rattle.std.specs.List.{position_from};
-ghost use Rattle.tm_rules.specs.Few.{IsFew};
-ghost use Rattle.tm_rules.specs.Load.{new_policy, wants_profile};
+ghost use Rattle.tm_rules.specs.Prelude.{IsFew, new_policy, wants_profile};
 
 use std::alloc::Global;
 use tm_change_domains::new_domain;

@@ -24,7 +24,7 @@ pub struct Plain {
 }
 
 impl Model for Plain {
-    ghost use Rattle.tm_types.specs.declared.policy.Policy.{Policy};
+    ghost use Rattle.tm_rules.specs.Types.{Policy};
 
     ghost Value = { Policy };
 

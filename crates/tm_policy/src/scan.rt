@@ -1,7 +1,6 @@
 //! How one list of entries is searched.
 ghost use Rattle.std.specs.Prelude.{◌≡◌};
-ghost use Rattle.tm_rules.specs.Few.{IsShort};
-ghost use Rattle.tm_rules.specs.Search.{placed};
+ghost use Rattle.tm_rules.specs.Prelude.{IsShort, placed};
 ghost use Rattle.tm_policy.specs.Searching.{place_in, found_in};
 
 use crate::granting::{Asked, place_in};
@@ -12,7 +11,7 @@ use tm_types::verdict::Found;
 /// ACL groups.
 pub trait ListSearch {
     ghost use Rattle.std.specs.Prelude.{ℕ, List, Option};
-    ghost use Rattle.tm_types.specs.declared.entry.Entry.{Entry};
+    ghost use Rattle.tm_rules.specs.Types.{Entry};
 
     // Which lists it can search: the domain's own for None, else that of an ACL group.
     ghost knows: { Self → Option ℕ → List Entry → Type 0 };

@@ -1,11 +1,8 @@
 //! The search for the first entry that grants a request, list by list.
 ghost use Rattle.std.specs.Prelude.{◌≡◌, ◌++◌, ℕ, List, [], true, Some, None, option_map, unwrap_or};
 ghost use Rattle.std.specs.List.{AllByRecursion};
-ghost use Rattle.tm_types.specs.declared.entry.Entry.{Entry};
-ghost use Rattle.tm_rules.specs.Few.{IsShort, IsFewHere, IsFew};
-ghost use Rattle.tm_rules.specs.Condition.{is_execute};
-ghost use Rattle.tm_rules.specs.Policy.{at_key, namespace_of, empty_namespace};
-ghost use Rattle.tm_rules.specs.Search.{aggregated, path_of, placed, first, found, found_of};
+ghost use Rattle.tm_rules.specs.Types.{Entry};
+ghost use Rattle.tm_rules.specs.Prelude.{IsFew, IsFewHere, IsShort, aggregated, at_key, empty_namespace, first, found, found_of, is_execute, namespace_of, path_of, placed};
 ghost use Rattle.tm_policy.specs.Searching.{found_in, acl_entries, KnowsGroups};
 
 use crate::granting::Asked;

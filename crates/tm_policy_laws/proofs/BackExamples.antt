@@ -2,20 +2,9 @@
 use Rattle.std.proofs.Common.{◌≡◌, Bool, true, false, List, [], ◌∷◌, None, Ok, Err, refl}
 use Rattle.std.specs.Prelude.{codes}
 use Rattle.std.specs.Fmt.{digits}
-use Rattle.tm_word.specs.Words.{Text}
-use Rattle.tm_types.specs.declared.entry.Args.{Args}
-use Rattle.tm_types.specs.declared.entry.Entry.{Entry}
-use Rattle.tm_types.specs.declared.policy.Domain.{Domain}
-use Rattle.tm_types.specs.declared.policy.Namespace.{Namespace}
-use Rattle.tm_types.specs.declared.policy.Policy.{Policy}
-use Rattle.tm_types.specs.declared.step.EditReply.{EditReply}
-use Rattle.tm_types.specs.declared.step.FileKind.{FileKind}
-use Rattle.tm_types.specs.declared.step.LoadFault.{LoadFault}
-use Rattle.tm_types.specs.declared.step.PolicyFiles.{PolicyFiles}
-use Rattle.tm_rules.specs.Policy.{kernel, empty_namespace, namespace_named, live_domain, adding}
-use Rattle.tm_rules.specs.Edit.{new_profile, profile_line, group_line, new_domain, domain_line, manager_line, apply_read, apply_line}
-use Rattle.tm_rules.specs.Load.{load_lines, load, live_part}
-use Rattle.tm_word.specs.Spelling.{words_of, spelled_word, word_of}
+use Rattle.tm_word.specs.Prelude.{Text, spelled_word, word_of, words_of}
+use Rattle.tm_rules.specs.Types.{Args, Domain, EditReply, Entry, FileKind, LoadFault, Namespace, Policy, PolicyFiles}
+use Rattle.tm_rules.specs.Prelude.{adding, apply_line, apply_read, domain_line, empty_namespace, group_line, kernel, live_domain, live_part, load, load_lines, manager_line, namespace_named, new_domain, new_profile, profile_line}
 use Rattle.tm_word.specs.Spelling.{head_of as byte_head}
 use Rattle.tm_number.specs.Numbers.{number_of, value_of, plain_of}
 use Rattle.tm_pattern.specs.Tokens.{token_at}
@@ -41,7 +30,7 @@ use Rattle.tm_text.specs.DomainText.{block_text, domain_text}
 use Rattle.tm_text.specs.ExceptionText.{exception_lines, exception_text}
 use Rattle.tm_text.specs.ManagerText.{manager_text}
 use Rattle.tm_text.specs.ProfileText.{by_name, profile_text}
-use Rattle.tm_legal.specs.Play.{IsOpened}
+use Rattle.tm_legal.specs.Prelude.{IsOpened}
 use Rattle.tm_grammar.specs.Tomoyo.{tomoyo_grammar}
 use Rattle.tm_policy_laws.specs.Policies.{IsWritten}
 use Rattle.tm_policy_laws.specs.PolicyText.{policy_text}

@@ -4,16 +4,9 @@ use Rattle.std.specs.Prelude.{Some, None, is_some, if◌then◌else◌, cond, sl
 use Rattle.std.specs.List.{AllByRecursion, flat_map, position_from}
 use Rattle.std.proofs.lemmas.Bool.{lt-ltb}
 use Rattle.std.proofs.lemmas.List.{append-nil}
-use Rattle.tm_word.specs.Words.{Text}
-use Rattle.tm_types.specs.declared.entry.Entry.{Entry}
-use Rattle.tm_types.specs.declared.policy.Domain.{Domain}
-use Rattle.tm_types.specs.declared.policy.DomainRule.{DomainRule}
-use Rattle.tm_types.specs.declared.policy.Policy.{Policy}
-use Rattle.tm_types.specs.declared.policy.PolicyLine.{PolicyLine}
-use Rattle.tm_types.specs.declared.step.FileKind.{FileKind}
-use Rattle.tm_rules.specs.Words.{DomainName, Cursor}
-use Rattle.tm_rules.specs.Policy.{kernel, namespace_word, namespace_named, profile_numbered, live_domain, changed_at, adding}
-use Rattle.tm_rules.specs.Edit.{Edited, edited, put_key, Numbers, new_domain, on_chosen, changed_domain, domain_line, apply_read}
+use Rattle.tm_word.specs.Prelude.{Text, texts_equal}
+use Rattle.tm_rules.specs.Types.{Domain, DomainRule, Entry, FileKind, Policy, PolicyLine}
+use Rattle.tm_rules.specs.Prelude.{Cursor, DomainName, Edited, Numbers, adding, apply_read, changed_at, changed_domain, domain_line, edited, kernel, live_domain, namespace_named, namespace_word, new_domain, on_chosen, profile_numbered, put_key}
 use Rattle.tm_domain.proofs.NameLaws.{same_texts}
 use Rattle.tm_line.specs.DomainWords.{domain_parts}
 use Rattle.tm_entry.specs.Entries.{is_entry}
@@ -26,7 +19,6 @@ use Rattle.tm_policy_laws.proofs.EntryLists.{added_after}
 use Rattle.tm_policy_line.proofs.PrintedWords.{domain_are}
 use Rattle.tm_policy_line.proofs.DomainAgain.{domain_again}
 use Rattle.tm_policy_laws.proofs.Folding.{Loads, loads_none, loads_both, loads_all, loads_line, loads_empty}
-use Rattle.tm_word.specs.Texts.{texts_equal}
 
 -- The last domain
 

@@ -5,15 +5,12 @@ use Rattle.std.specs.List.{AllByRecursion, IsDistinct}
 use Rattle.std.proofs.lemmas.Bool.{eqb-true, eqb-false, ltb-true, lt-ltb, eq-eqb}
 use Rattle.std.proofs.lemmas.Nat.{or_lt, le_or_l}
 use Rattle.std.proofs.lemmas.List.{append_assoc, append-nil}
-use Rattle.tm_types.specs.declared.entry.Args.{Args}
-use Rattle.tm_types.specs.declared.entry.Entry.{Entry}
-use Rattle.tm_rules.specs.Equality.{args_equal, conds_equal}
-use Rattle.tm_rules.specs.Policy.{same_line, adding, deleting, unless_empty, without_permissions}
+use Rattle.tm_rules.specs.Types.{Args, Entry}
+use Rattle.tm_rules.specs.Prelude.{adding, args_equal, conds_equal, deleting, is_domain_name, same_line, unless_empty, without_permissions}
 use Rattle.tm_rules.proofs.EqualityLaws.{both, all, same_args}
-use Rattle.tm_word.specs.Printing.{spelled_pattern}
+use Rattle.tm_word.specs.Prelude.{spelled_pattern}
 use Rattle.tm_pattern.specs.Grammar.{is_right}
 use Rattle.tm_domain.specs.Names.{is_path}
-use Rattle.tm_rules.specs.Transition.{is_domain_name}
 use Rattle.tm_line.specs.declared.permissions.Row.{Row}
 use Rattle.tm_line.specs.Permissions.{names}
 use Rattle.tm_line.specs.Written.{is_set, is_name, is_number, is_address}

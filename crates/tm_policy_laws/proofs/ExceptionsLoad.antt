@@ -3,22 +3,10 @@ use Rattle.std.proofs.Common.{◌≡◌, ℕ, ◌<◌, Bool, true, false, List, 
 use Rattle.std.specs.Prelude.{unwrap_or}
 use Rattle.std.specs.List.{AllByRecursion, IsDistinct, flat_map}
 use Rattle.std.proofs.lemmas.List.{append-nil}
-use Rattle.tm_word.specs.Words.{Text, Word, Pattern}
+use Rattle.tm_word.specs.Prelude.{Pattern, Text, Word}
 use Rattle.tm_list.specs.Map.{Rises}
-use Rattle.tm_number.specs.declared.Range.{Range}
-use Rattle.tm_number.specs.declared.AddrRange.{AddrRange}
-use Rattle.tm_types.specs.declared.entry.Entry.{Entry}
-use Rattle.tm_types.specs.declared.policy.Control.{Control}
-use Rattle.tm_types.specs.declared.policy.ExceptRule.{ExceptRule}
-use Rattle.tm_types.specs.declared.policy.GroupLine.{GroupLine}
-use Rattle.tm_types.specs.declared.policy.Namespace.{Namespace}
-use Rattle.tm_types.specs.declared.policy.Policy.{Policy}
-use Rattle.tm_types.specs.declared.policy.PolicyLine.{PolicyLine}
-use Rattle.tm_types.specs.declared.step.FileKind.{FileKind}
-use Rattle.tm_rules.specs.Words.{Cursor}
-use Rattle.tm_rules.specs.Equality.{patterns_equal, ranges_equal}
-use Rattle.tm_rules.specs.Policy.{same_line, adding, empty_namespace}
-use Rattle.tm_rules.specs.Edit.{joining, same_member, same_addr_range, same_aggregator, same_control, acl_group, with_group, except_added, except_line, group_line, apply_read}
+use Rattle.tm_rules.specs.Types.{AddrRange, Control, Entry, ExceptRule, FileKind, GroupLine, Namespace, Policy, PolicyLine, Range}
+use Rattle.tm_rules.specs.Prelude.{Cursor, acl_group, adding, apply_read, empty_namespace, except_added, except_line, group_line, joining, patterns_equal, ranges_equal, same_addr_range, same_aggregator, same_control, same_line, same_member, with_group}
 use Rattle.tm_line.specs.Namespaces.{line_text}
 use Rattle.tm_entry.specs.Entries.{is_entry}
 use Rattle.tm_except.specs.Reading.{line}

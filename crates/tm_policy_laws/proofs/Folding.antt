@@ -4,15 +4,9 @@ use Rattle.std.specs.Prelude.{None}
 use Rattle.std.specs.List.{AllByRecursion, list_all, flat_map, fold}
 use Rattle.std.proofs.lemmas.List.{append-nil}
 use Rattle.std.proofs.lemmas.List.Splits.{slice_split-cons_yes}
-use Rattle.tm_word.specs.Words.{Text}
-use Rattle.tm_word.specs.Spelling.{words_of, joined}
-use Rattle.tm_word.specs.Texts.{is_word, lines_of}
-use Rattle.tm_types.specs.declared.policy.Policy.{Policy}
-use Rattle.tm_types.specs.declared.policy.PolicyLine.{PolicyLine}
-use Rattle.tm_types.specs.declared.step.FileKind.{FileKind}
-use Rattle.tm_rules.specs.Words.{Cursor}
-use Rattle.tm_rules.specs.Edit.{edited, apply_read, apply_parsed, apply_line}
-use Rattle.tm_rules.specs.Load.{load_lines, load_file}
+use Rattle.tm_word.specs.Prelude.{Text, is_word, joined, lines_of, words_of}
+use Rattle.tm_rules.specs.Types.{FileKind, Policy, PolicyLine}
+use Rattle.tm_rules.specs.Prelude.{Cursor, apply_line, apply_parsed, apply_read, edited, load_file, load_lines}
 use Rattle.tm_line.proofs.Steps.{both}
 use Rattle.tm_line.proofs.JoinLaws.{joined_is}
 use Rattle.tm_line.proofs.LineLaws.{line_first}

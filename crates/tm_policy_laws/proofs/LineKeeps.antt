@@ -4,29 +4,11 @@ use Rattle.std.specs.Prelude.{Option, Some, None, if◌then◌else◌, not, is_s
 use Rattle.std.specs.List.{AllByRecursion, IsDistinct, list_any}
 use Rattle.std.specs.Option.{IfSome, option_and_then, option_map_or}
 use Rattle.std.proofs.lemmas.Bool.{ltb-true}
-use Rattle.tm_word.specs.Words.{Text, Word, Pattern}
-use Rattle.tm_rules.specs.Words.{DomainName, Cursor}
+use Rattle.tm_word.specs.Prelude.{Pattern, Text, Word, texts_equal}
+use Rattle.tm_rules.specs.Prelude.{Cursor, DomainName, Edited, acl_group, adding, apply_read, at_key, changed_at, changing_namespace, choosing, chosen, dead, deleting, deleting_domain, domain_at, domain_line, edited, except_added, except_line, except_removed, except_there, fail, group_line, has_part, in_domain, is_domain_name, is_path_word, joining, learn, learn_reply, learned_domain, leaving, live_domain, live_part, made_new, make, making_domain, manager_line, namespace_named, namespace_word, new_domain, on_chosen, profile_line, profile_numbered, profile_of, put_key, refused, remove_key, selecting, with_domain, with_group}
 use Rattle.tm_list.specs.Map.{Rises}
 use Rattle.tm_list.proofs.MapLaws.{Rises-put, Rises-without}
-use Rattle.tm_types.specs.declared.entry.Entry.{Entry}
-use Rattle.tm_types.specs.declared.policy.Domain.{Domain}
-use Rattle.tm_types.specs.declared.policy.DomainRule.{DomainRule}
-use Rattle.tm_types.specs.declared.policy.ExceptRule.{ExceptRule}
-use Rattle.tm_types.specs.declared.policy.GroupLine.{GroupLine}
-use Rattle.tm_types.specs.declared.policy.ManagerRule.{ManagerRule}
-use Rattle.tm_types.specs.declared.policy.Namespace.{Namespace}
-use Rattle.tm_types.specs.declared.policy.Policy.{Policy}
-use Rattle.tm_types.specs.declared.policy.PolicyLine.{PolicyLine}
-use Rattle.tm_types.specs.declared.policy.Profile.{Profile}
-use Rattle.tm_types.specs.declared.step.EditReply.{EditReply}
-use Rattle.tm_types.specs.declared.step.LearnReply.{LearnReply}
-use Rattle.tm_types.specs.declared.step.MakeReply.{MakeReply}
-use Rattle.tm_rules.specs.Transition.{is_domain_name}
-use Rattle.tm_rules.specs.Policy.{domain_at, profile_of, profile_numbered, live_domain, namespace_named, namespace_word, changed_at, with_domain, at_key, adding, deleting, has_part}
-use Rattle.tm_rules.specs.Edit.{Edited, edited, refused, joining, leaving, put_key, remove_key, acl_group, with_group, changing_namespace, profile_line, except_added, except_removed, except_there, except_line, group_line, new_domain, chosen, on_chosen, making_domain, choosing, selecting, dead, deleting_domain, domain_line, manager_line, apply_read}
-use Rattle.tm_rules.specs.Load.{live_part}
-use Rattle.tm_rules.specs.Requests.{is_path_word}
-use Rattle.tm_rules.specs.Changes.{in_domain, learned_domain, learn_reply, learn, made_new, make, fail}
+use Rattle.tm_rules.specs.Types.{Domain, DomainRule, EditReply, Entry, ExceptRule, GroupLine, LearnReply, MakeReply, ManagerRule, Namespace, Policy, PolicyLine, Profile}
 use Rattle.tm_rules.proofs.EqualityLaws.{both}
 use Rattle.tm_domain.specs.Names.{is_path}
 use Rattle.tm_entry.specs.Entries.{is_entry}
@@ -37,7 +19,6 @@ use Rattle.tm_policy_laws.specs.Policies.{aggregator_rule, IsWrittenHere, IsMemb
 use Rattle.tm_policy_laws.proofs.ListLaws.{all_map, all_push, all_joining, all_filter, all_at, all_set, all_put, all_without, once_joining, once_leaving}
 use Rattle.tm_policy_laws.proofs.EntryLists.{none_entries, are_adding, are_deleting}
 use Rattle.tm_policy_laws.proofs.NamespaceLaws.{KeepsWritten, even_texts, profile_line-keeps, added-keeps, removed-keeps, group_added-keeps, group_deleted-keeps, changed_each, changed_once}
-use Rattle.tm_word.specs.Texts.{texts_equal}
 
 -- One part of a policy is another one
 

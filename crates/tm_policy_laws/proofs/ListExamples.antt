@@ -1,12 +1,9 @@
 -- Lists that are made one by one, of small cases.
 use Rattle.std.proofs.Common.{◌≡◌, ℕ, ◌==◌, Bool, [], ◌∷◌, refl}
 use Rattle.std.specs.Prelude.{None, ◌&&◌, codes}
-use Rattle.tm_word.specs.Words.{Text}
-use Rattle.tm_word.specs.Printing.{literal}
-use Rattle.tm_types.specs.declared.unions.NameUnion.{NameUnion}
-use Rattle.tm_types.specs.declared.entry.Args.{Args}
-use Rattle.tm_types.specs.declared.entry.Entry.{Entry}
-use Rattle.tm_rules.specs.Policy.{adding, deleting}
+use Rattle.tm_word.specs.Prelude.{Text, literal}
+use Rattle.tm_rules.specs.Types.{Args, Entry, NameUnion}
+use Rattle.tm_rules.specs.Prelude.{adding, deleting}
 use Rattle.std.specs.List.{IsDistinct}
 use Rattle.tm_policy_laws.proofs.ListLaws.{joining_all, adding_all, putting_all}
 

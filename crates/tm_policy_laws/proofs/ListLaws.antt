@@ -5,10 +5,9 @@ use Rattle.std.specs.Prelude.{Some, if◌then◌else◌, not, filter, slice_get}
 use Rattle.std.specs.List.{AllByRecursion, IsDistinct, fold, list_any}
 use Rattle.std.proofs.lemmas.List.{append_assoc, append-nil}
 use Rattle.tm_list.specs.Map.{Rises}
-use Rattle.tm_types.specs.declared.entry.Entry.{Entry}
+use Rattle.tm_rules.specs.Types.{Entry}
 use Rattle.tm_profile.proofs.MapEnds.{below_at, put_last}
-use Rattle.tm_rules.specs.Policy.{changed_at, adding}
-use Rattle.tm_rules.specs.Edit.{joining, leaving, put_key, remove_key}
+use Rattle.tm_rules.specs.Prelude.{adding, changed_at, joining, leaving, put_key, remove_key}
 use Rattle.tm_rules.proofs.EqualityLaws.{Decides}
 
 -- Lists that are made one by one

@@ -1,14 +1,9 @@
 -- The printed managers are made again.
 use Rattle.std.proofs.Common.{◌≡◌, Bool, true, false, List, [], ◌++◌, refl, sym, ap, subst, ◌∙◌}
 use Rattle.std.specs.List.{AllByRecursion, IsDistinct, flat_map}
-use Rattle.tm_word.specs.Words.{Text}
-use Rattle.tm_word.specs.Texts.{texts_equal}
-use Rattle.tm_types.specs.declared.policy.ManagerRule.{ManagerRule}
-use Rattle.tm_types.specs.declared.policy.Policy.{Policy}
-use Rattle.tm_types.specs.declared.policy.PolicyLine.{PolicyLine}
-use Rattle.tm_types.specs.declared.step.FileKind.{FileKind}
-use Rattle.tm_rules.specs.Words.{Cursor}
-use Rattle.tm_rules.specs.Edit.{joining, apply_read}
+use Rattle.tm_word.specs.Prelude.{Text, texts_equal}
+use Rattle.tm_rules.specs.Types.{FileKind, ManagerRule, Policy, PolicyLine}
+use Rattle.tm_rules.specs.Prelude.{Cursor, apply_read, joining}
 use Rattle.tm_rules.specs.Edit.{manager_line as line_done}
 use Rattle.tm_text.specs.DomainText.{flag_line}
 use Rattle.tm_text.specs.ManagerText.{manager_line, manager_text}

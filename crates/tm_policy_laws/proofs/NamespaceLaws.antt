@@ -4,21 +4,11 @@ use Rattle.std.specs.Prelude.{if◌then◌else◌, unwrap_or}
 use Rattle.std.specs.List.{AllByRecursion, IsDistinct}
 use Rattle.std.specs.Bool.{beq}
 use Rattle.std.proofs.lemmas.Bool.{eqb-true}
-use Rattle.tm_word.specs.Words.{Text, Word, Pattern}
+use Rattle.tm_word.specs.Prelude.{Pattern, Text, Word, texts_equal}
 use Rattle.tm_list.specs.Map.{Rises}
 use Rattle.tm_list.proofs.MapLaws.{Rises-put, Rises-without}
-use Rattle.tm_number.specs.declared.Range.{Range}
-use Rattle.tm_number.specs.declared.AddrRange.{AddrRange}
-use Rattle.tm_types.specs.declared.entry.Entry.{Entry}
-use Rattle.tm_types.specs.declared.policy.Control.{Control}
-use Rattle.tm_types.specs.declared.policy.ExceptRule.{ExceptRule}
-use Rattle.tm_types.specs.declared.policy.Namespace.{Namespace}
-use Rattle.tm_types.specs.declared.policy.Profile.{Profile}
-use Rattle.tm_types.specs.declared.policy.ProfileEffect.{ProfileEffect}
-use Rattle.tm_rules.specs.Equality.{options_equal, patterns_equal, ranges_equal, addrs_equal}
-use Rattle.tm_rules.specs.Transition.{kind_number}
-use Rattle.tm_rules.specs.Policy.{at_key, empty_namespace, adding, deleting}
-use Rattle.tm_rules.specs.Edit.{joining, leaving, profile_line, same_member, same_addr_range, same_aggregator, same_control, put_group, acl_group, with_group, except_added, except_removed, in_namespace}
+use Rattle.tm_rules.specs.Types.{AddrRange, Control, Entry, ExceptRule, Namespace, Profile, ProfileEffect, Range}
+use Rattle.tm_rules.specs.Prelude.{acl_group, adding, addrs_equal, at_key, deleting, empty_namespace, except_added, except_removed, in_namespace, joining, kind_number, leaving, options_equal, patterns_equal, profile_line, put_group, ranges_equal, same_addr_range, same_aggregator, same_control, same_member, with_group}
 use Rattle.tm_rules.proofs.EqualityLaws.{same_texts, same_patterns, same_ranges, same_addrs, same_options}
 use Rattle.tm_entry.specs.Entries.{is_entry}
 use Rattle.tm_profile.specs.Texts.{IsNamespaceWord, IsEffect}
@@ -29,7 +19,6 @@ use Rattle.tm_policy_line.specs.Written.{is_written_rule}
 use Rattle.tm_policy_laws.specs.Policies.{AreEntries, AreRules, path_rule, number_rule, address_rule, aggregator_rule, control_rule, IsAclGroup, IsWrittenHere, same_name}
 use Rattle.tm_policy_laws.proofs.ListLaws.{IsEven, all_joining, all_filter, all_put, all_without, even_from, once_joining, once_leaving}
 use Rattle.tm_policy_laws.proofs.EntryLists.{none_entries, are_adding, are_deleting}
-use Rattle.tm_word.specs.Texts.{texts_equal}
 
 -- The tests of sameness are even
 

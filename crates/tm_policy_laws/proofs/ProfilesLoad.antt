@@ -1,15 +1,9 @@
 -- The printed profiles of each namespace are loaded into it.
 use Rattle.std.proofs.Common.{◌≡◌, true, List, [], ◌∷◌, Ok, refl, sym, subst}
 use Rattle.std.specs.List.{list_all, flat_map}
-use Rattle.tm_word.specs.Words.{Text}
-use Rattle.tm_word.specs.Texts.{is_word}
-use Rattle.tm_types.specs.declared.policy.Namespace.{Namespace}
-use Rattle.tm_types.specs.declared.policy.Policy.{Policy}
-use Rattle.tm_types.specs.declared.policy.PolicyLine.{PolicyLine}
-use Rattle.tm_types.specs.declared.policy.ProfileEffect.{ProfileEffect}
-use Rattle.tm_types.specs.declared.step.FileKind.{FileKind}
-use Rattle.tm_rules.specs.Words.{Cursor}
-use Rattle.tm_rules.specs.Edit.{profile_line, apply_read}
+use Rattle.tm_word.specs.Prelude.{Text, is_word}
+use Rattle.tm_rules.specs.Types.{FileKind, Namespace, Policy, PolicyLine, ProfileEffect}
+use Rattle.tm_rules.specs.Prelude.{Cursor, apply_read, profile_line}
 use Rattle.tm_line.specs.Namespaces.{line_text}
 use Rattle.tm_line.proofs.Steps.{all}
 use Rattle.tm_profile.specs.Reading.{effect_at, line}

@@ -7,15 +7,9 @@ use Rattle.std.specs.Option.{option_map_or}
 use Rattle.std.proofs.lemmas.List.Elements.{All-from_recursion, recursion_from_All, All-contains}
 use Rattle.std.proofs.lemmas.List.Sorted.{All-permutation, Contains-permutation, IsPermutation-sym}
 use Rattle.std.proofs.lemmas.Map.Keys.{IsDistinct-IsPermutation}
-use Rattle.tm_word.specs.Words.{Text}
-use Rattle.tm_word.specs.Texts.{texts_equal, is_word}
-use Rattle.tm_types.specs.declared.policy.Namespace.{Namespace}
-use Rattle.tm_types.specs.declared.policy.Policy.{Policy}
-use Rattle.tm_types.specs.declared.policy.PolicyLine.{PolicyLine}
-use Rattle.tm_types.specs.declared.step.FileKind.{FileKind}
-use Rattle.tm_rules.specs.Words.{Cursor}
-use Rattle.tm_rules.specs.Policy.{empty_namespace, namespace_named}
-use Rattle.tm_rules.specs.Edit.{edited, in_namespace, changing_namespace, apply_read}
+use Rattle.tm_word.specs.Prelude.{Text, is_word, texts_equal}
+use Rattle.tm_rules.specs.Types.{FileKind, Namespace, Policy, PolicyLine}
+use Rattle.tm_rules.specs.Prelude.{Cursor, apply_read, changing_namespace, edited, empty_namespace, in_namespace, namespace_named}
 use Rattle.tm_domain.proofs.NameLaws.{texts_same, same_texts}
 use Rattle.tm_policy_line.specs.Reading.{read_words}
 use Rattle.tm_policy_line.specs.Printing.{printed_line}

@@ -3,26 +3,11 @@ use Rattle.std.proofs.Common.{◌≡◌, ℕ, zero, suc, Bool, true, false, ◌&
 use Rattle.std.specs.Prelude.{Option, Some, None, Ok, Err, Result, if◌then◌else◌, ◌==◌, nat_lt, nat_le, not, unwrap_or, slice_get, count_ones}
 use Rattle.std.specs.List.{IsDistinct, position_from}
 use Rattle.std.specs.Option.{IfSome, option_map_or}
-use Rattle.tm_word.specs.Words.{Text}
-use Rattle.tm_rules.specs.Words.{DomainName, Cursor}
-use Rattle.tm_types.specs.declared.entry.Entry.{Entry}
-use Rattle.tm_types.specs.declared.entry.LineKind.{LineKind}
-use Rattle.tm_types.specs.declared.policy.Domain.{Domain}
-use Rattle.tm_types.specs.declared.policy.Policy.{Policy}
-use Rattle.tm_types.specs.declared.policy.PolicyLine.{PolicyLine}
-use Rattle.tm_types.specs.declared.step.Editor.{Editor}
-use Rattle.tm_types.specs.declared.step.FileKind.{FileKind}
-use Rattle.tm_types.specs.declared.step.LoadFault.{LoadFault}
-use Rattle.tm_types.specs.declared.step.PolicyFiles.{PolicyFiles}
-use Rattle.tm_types.specs.declared.step.Reply.{Reply}
-use Rattle.tm_types.specs.declared.step.Step.{Step}
-use Rattle.tm_rules.specs.Transition.{is_domain_name}
-use Rattle.tm_rules.specs.Policy.{domain_at, namespace_word, kernel}
-use Rattle.tm_rules.specs.Edit.{apply_line, apply_parsed}
-use Rattle.tm_rules.specs.Changes.{in_domain, learn, make, fail, is_task, is_manager}
-use Rattle.tm_rules.specs.Load.{new_policy, is_done, load_lines, load_file, and_then, wants_profile, open_policy, load}
+use Rattle.tm_word.specs.Prelude.{Text, lines_of, texts_equal}
+use Rattle.tm_rules.specs.Prelude.{Cursor, DomainName, and_then, apply_line, apply_parsed, domain_at, fail, in_domain, is_domain_name, is_done, is_manager, is_task, kernel, learn, load, load_file, load_lines, make, namespace_word, new_policy, open_policy, wants_profile}
+use Rattle.tm_rules.specs.Types.{Domain, Editor, Entry, FileKind, LineKind, LoadFault, Policy, PolicyFiles, PolicyLine, Reply, Step}
 use Rattle.tm_rules.proofs.EqualityLaws.{both}
-use Rattle.tm_legal.specs.Steps.{State, on_policy, fits_entry, fits_name, edit_step, apply, after}
+use Rattle.tm_legal.specs.Prelude.{State, after, apply, edit_step, fits_entry, fits_name, on_policy}
 use Rattle.tm_domain.specs.Names.{is_path}
 use Rattle.tm_entry.specs.Entries.{is_entry}
 use Rattle.tm_policy_line.specs.Reading.{read_line}
@@ -30,7 +15,6 @@ use Rattle.tm_policy_line.proofs.ReadLaws.{read_written}
 use Rattle.tm_grammar.specs.Tomoyo.{tomoyo_grammar}
 use Rattle.tm_policy_laws.specs.Policies.{IsWritten}
 use Rattle.tm_policy_laws.proofs.LineKeeps.{new_domain-written, written_opened, line_written, learn_written, make_written, fail_written}
-use Rattle.tm_word.specs.Texts.{texts_equal, lines_of}
 
 pub new_written : IsWritten new_policy
 unfolding IsDistinct is_domain_name is_path

@@ -3,18 +3,14 @@ use Rattle.std.proofs.Common.{◌≡◌, ℕ, ◌+◌, Bool, true, false, List, 
 use Rattle.std.specs.Prelude.{Option, Some, None, is_some, unwrap_or, cond, filter}
 use Rattle.std.specs.List.{AllByRecursion, flat_map, position_from}
 use Rattle.std.specs.Option.{option_map_or}
-use Rattle.tm_word.specs.Words.{Text}
-use Rattle.tm_types.specs.declared.policy.Domain.{Domain}
-use Rattle.tm_types.specs.declared.policy.Namespace.{Namespace}
-use Rattle.tm_types.specs.declared.policy.Policy.{Policy}
-use Rattle.tm_types.specs.declared.step.FileKind.{FileKind}
-use Rattle.tm_rules.specs.Policy.{empty_namespace, namespace_named, namespace_word, profile_of, at_key}
-use Rattle.tm_rules.specs.Load.{new_policy, load_file, wants_profile, open_policy, load, live_part, SamePolicy, LoadsBack}
+use Rattle.tm_word.specs.Prelude.{Text}
+use Rattle.tm_rules.specs.Types.{Domain, FileKind, Namespace, Policy}
+use Rattle.tm_rules.specs.Prelude.{LoadsBack, SamePolicy, at_key, empty_namespace, live_part, load, load_file, namespace_named, namespace_word, new_policy, open_policy, profile_of, wants_profile}
 use Rattle.tm_text.specs.DomainText.{live_text, domain_text}
 use Rattle.tm_text.specs.ExceptionText.{exception_lines, exception_text}
 use Rattle.tm_text.specs.ManagerText.{manager_text}
 use Rattle.tm_text.specs.ProfileText.{by_name, namespace_text, profile_text}
-use Rattle.tm_legal.specs.Play.{IsOpened}
+use Rattle.tm_legal.specs.Prelude.{IsOpened}
 use Rattle.tm_grammar.specs.Tomoyo.{tomoyo_grammar}
 use Rattle.tm_policy_laws.specs.Policies.{IsWrittenHere, IsWrittenDomain, IsWritten}
 use Rattle.tm_policy_laws.specs.PolicyText.{policy_text}

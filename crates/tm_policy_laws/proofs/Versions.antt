@@ -1,12 +1,9 @@
 -- Every version of a policy that was loaded is opened, one that lines can leave, and loaded again
 -- from its printed texts.
 use Rattle.std.proofs.Common.{◌≡◌, List, Ok}
-use Rattle.tm_types.specs.declared.policy.Policy.{Policy}
-use Rattle.tm_types.specs.declared.step.PolicyFiles.{PolicyFiles}
-use Rattle.tm_types.specs.declared.step.Step.{Step}
-use Rattle.tm_rules.specs.Load.{load, LoadsBack}
-use Rattle.tm_legal.specs.Steps.{State, apply, after}
-use Rattle.tm_legal.specs.Play.{IsOpened}
+use Rattle.tm_rules.specs.Types.{Policy, PolicyFiles, Step}
+use Rattle.tm_rules.specs.Prelude.{LoadsBack, load}
+use Rattle.tm_legal.specs.Prelude.{IsOpened, State, after, apply}
 use Rattle.tm_legal.proofs.Loads.{loads_opened}
 use Rattle.tm_legal.proofs.Opened.{step_keeps_opened, steps_keep_opened}
 use Rattle.tm_grammar.specs.Tomoyo.{tomoyo_grammar}

@@ -1,21 +1,10 @@
 -- The policies that lines can leave.
 use Rattle.std.specs.Prelude.{◌≡◌, ℕ, ◌<◌, Bool, true, List, length}
 use Rattle.std.specs.List.{AllByRecursion, IsDistinct}
-use Rattle.tm_word.specs.Words.{Text, Word, Pattern}
+use Rattle.tm_word.specs.Prelude.{Pattern, Text, Word, texts_equal}
 use Rattle.tm_list.specs.Map.{Rises}
-use Rattle.tm_number.specs.declared.Range.{Range}
-use Rattle.tm_number.specs.declared.AddrRange.{AddrRange}
-use Rattle.tm_types.specs.declared.entry.Entry.{Entry}
-use Rattle.tm_types.specs.declared.policy.Control.{Control}
-use Rattle.tm_types.specs.declared.policy.Domain.{Domain}
-use Rattle.tm_types.specs.declared.policy.ExceptRule.{ExceptRule}
-use Rattle.tm_types.specs.declared.policy.Namespace.{Namespace}
-use Rattle.tm_types.specs.declared.policy.Policy.{Policy}
-use Rattle.tm_rules.specs.Equality.{patterns_equal, ranges_equal}
-use Rattle.tm_word.specs.Texts.{texts_equal}
-use Rattle.tm_rules.specs.Edit.{same_member, same_addr_range, same_aggregator, same_control}
-use Rattle.tm_rules.specs.Policy.{same_line}
-use Rattle.tm_rules.specs.Transition.{is_domain_name}
+use Rattle.tm_rules.specs.Types.{AddrRange, Control, Domain, Entry, ExceptRule, Namespace, Policy, Range}
+use Rattle.tm_rules.specs.Prelude.{is_domain_name, patterns_equal, ranges_equal, same_addr_range, same_aggregator, same_control, same_line, same_member}
 use Rattle.tm_domain.specs.Names.{is_path}
 use Rattle.tm_entry.specs.Entries.{is_entry}
 use Rattle.tm_profile.specs.Texts.{IsNamespaceWord}

@@ -1,6 +1,5 @@
 -- The four printed texts of a policy.
-use Rattle.tm_types.specs.declared.policy.Policy.{Policy}
-use Rattle.tm_types.specs.declared.step.PolicyFiles.{PolicyFiles}
+use Rattle.tm_rules.specs.Types.{Policy, PolicyFiles}
 use Rattle.tm_text.specs.DomainText.{domain_text}
 use Rattle.tm_text.specs.ExceptionText.{exception_text}
 use Rattle.tm_text.specs.ManagerText.{manager_text}

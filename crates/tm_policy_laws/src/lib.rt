@@ -1,6 +1,7 @@
 //! What policy lines can leave of a policy, and that what is printed of it is loaded again.
 //! Stands on tm_policy_line, tm_text, tm_legal and tm_grammar; no code but for functions without a
 //! body, on which the laws stand.
+//! Of its own, so that tm_text and tm_legal, which it joins, stay apart; nothing stands on it.
 //! Promises that every policy that was loaded stays one that lines can leave, and that its printed
 //! files load as its live part.
 #![tactic(auto)]
@@ -8,26 +9,13 @@
 ghost use Rattle.std.specs.Prelude.{◌≡◌, ℕ, true, List, Ok};
 ghost use Rattle.std.specs.List.{AllByRecursion};
 ghost use Rattle.std.specs.Option.{IfSome};
-ghost use Rattle.tm_word.specs.Words.{Text, Word, Pattern};
-ghost use Rattle.tm_types.specs.declared.entry.Entry.{Entry};
-ghost use Rattle.tm_types.specs.declared.policy.Domain.{Domain};
-ghost use Rattle.tm_types.specs.declared.policy.Namespace.{Namespace};
-ghost use Rattle.tm_types.specs.declared.policy.Policy.{Policy};
-ghost use Rattle.tm_types.specs.declared.policy.PolicyLine.{PolicyLine};
-ghost use Rattle.tm_types.specs.declared.step.FileKind.{FileKind};
-ghost use Rattle.tm_types.specs.declared.step.PolicyFiles.{PolicyFiles};
-ghost use Rattle.tm_types.specs.declared.step.Step.{Step};
-ghost use Rattle.tm_rules.specs.Words.{DomainName, Cursor};
-ghost use Rattle.tm_rules.specs.Requests.{is_path_word};
-ghost use Rattle.tm_rules.specs.Transition.{is_domain_name};
-ghost use Rattle.tm_rules.specs.Edit.{apply_read, apply_line};
-ghost use Rattle.tm_rules.specs.Changes.{learn, make, fail};
-ghost use Rattle.tm_rules.specs.Load.{new_policy, live_part, load, LoadsBack};
+ghost use Rattle.tm_word.specs.Prelude.{Pattern, Text, Word};
+ghost use Rattle.tm_rules.specs.Types.{Domain, Entry, FileKind, Namespace, Policy, PolicyFiles, PolicyLine, Step};
+ghost use Rattle.tm_rules.specs.Prelude.{Cursor, DomainName, LoadsBack, apply_line, apply_read, fail, is_domain_name, is_path_word, learn, live_part, load, make, new_policy};
 ghost use Rattle.tm_domain.specs.Names.{is_path};
 ghost use Rattle.tm_entry.specs.Entries.{is_entry};
 ghost use Rattle.tm_policy_line.specs.Written.{IsWrittenLine};
-ghost use Rattle.tm_legal.specs.Steps.{State, apply, after};
-ghost use Rattle.tm_legal.specs.Play.{IsOpened};
+ghost use Rattle.tm_legal.specs.Prelude.{IsOpened, State, after, apply};
 ghost use Rattle.tm_grammar.specs.Tomoyo.{tomoyo_grammar};
 ghost use Rattle.tm_policy_laws.specs.Policies.{IsWritten};
 ghost use Rattle.tm_policy_laws.specs.PolicyText.{policy_text};

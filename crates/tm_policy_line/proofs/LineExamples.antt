@@ -1,7 +1,7 @@
 -- Worked lines of all four files: what each form gives, and the kind of each wrong one.
 use Rattle.std.proofs.Common.{◌≡◌, true, false, [], None, Ok, Err, refl}
 use Rattle.std.specs.Prelude.{codes}
-use Rattle.tm_word.specs.Spelling.{words_of, spelled_word, word_of}
+use Rattle.tm_word.specs.Prelude.{spelled_word, word_of, words_of}
 use Rattle.tm_word.specs.Spelling.{head_of as byte_head}
 use Rattle.tm_types.specs.Numbers.{number_of, value_of, range_of, plain_of}
 use Rattle.tm_line.specs.AddrReading.{quad_of, v4_of, group_of, last_of, groups_after, side_of, v6_of, addr_of}
@@ -9,17 +9,8 @@ use Rattle.tm_line.specs.AddrReading.{range_of as addr_range_of}
 use Rattle.tm_except.specs.Tokens.{token_at}
 use Rattle.tm_except.specs.PatternReading.{step, ended, parsed, pattern_of}
 use Rattle.tm_line.specs.Names.{is_path, domain_of}
-use Rattle.tm_types.specs.declared.entry.Args.{Args}
-use Rattle.tm_types.specs.declared.entry.Entry.{Entry}
-use Rattle.tm_types.specs.declared.entry.LineKind.{LineKind}
-use Rattle.tm_types.specs.declared.policy.ControlKind.{ControlKind}
-use Rattle.tm_types.specs.declared.policy.DomainRule.{DomainRule}
-use Rattle.tm_types.specs.declared.policy.ExceptRule.{ExceptRule}
-use Rattle.tm_types.specs.declared.policy.ManagerRule.{ManagerRule}
-use Rattle.tm_types.specs.declared.policy.PolicyLine.{PolicyLine}
-use Rattle.tm_types.specs.declared.policy.ProfileEffect.{ProfileEffect}
-use Rattle.tm_types.specs.declared.step.FileKind.{FileKind}
-use Rattle.tm_rules.specs.Policy.{kernel}
+use Rattle.tm_rules.specs.Types.{Args, ControlKind, DomainRule, Entry, ExceptRule, FileKind, LineKind, ManagerRule, PolicyLine, ProfileEffect}
+use Rattle.tm_rules.specs.Prelude.{kernel}
 use Rattle.tm_line.specs.Permissions.{perms_of}
 use Rattle.tm_line.specs.Arguments.{group_word, pattern_word, path_word, range_word, addr_range_word, name_word, number_word, address_word, plain_word, name_at, number_at, address_at}
 use Rattle.tm_line.specs.Domains.{domain_words, domain_at, domain_to_end}

@@ -4,17 +4,13 @@ use Rattle.std.specs.Prelude.{is_some}
 use Rattle.std.specs.List.{list_all, onto_first}
 use Rattle.std.proofs.lemmas.Bool.{ne_eqb, eqb-true}
 use Rattle.std.proofs.lemmas.List.Splits.{slice_split-cons_no}
-use Rattle.tm_word.specs.Words.{Text, Word}
-use Rattle.tm_word.specs.Spelling.{is_separator, spelled_word}
+use Rattle.tm_word.specs.Prelude.{Text, Word, begins_with_byte, is_separator, is_solid, is_word, spelled_word}
 use Rattle.tm_word.proofs.Spelled.{word_found, word_small}
-use Rattle.tm_types.specs.declared.policy.ManagerRule.{ManagerRule}
-use Rattle.tm_types.specs.declared.policy.PolicyLine.{PolicyLine}
-use Rattle.tm_types.specs.declared.step.FileKind.{FileKind}
-use Rattle.tm_rules.specs.Transition.{is_domain_name}
+use Rattle.tm_rules.specs.Types.{FileKind, ManagerRule, PolicyLine}
+use Rattle.tm_rules.specs.Prelude.{is_domain_name}
 use Rattle.tm_line.specs.Names.{is_path}
 use Rattle.tm_line.specs.Domains.{domain_to_end}
 use Rattle.tm_line.specs.DomainWords.{domain_parts}
-use Rattle.tm_word.specs.Texts.{begins_with_byte, is_solid, is_word}
 use Rattle.tm_line.proofs.Steps.{both, not_true}
 use Rattle.tm_line.proofs.DomainLaws.{parts_begin, to_end_again}
 use Rattle.tm_line.proofs.WholeLaws.{word_from, spell_solid, parts_are}

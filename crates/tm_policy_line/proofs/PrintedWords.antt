@@ -3,14 +3,9 @@ use Rattle.std.proofs.Common.{◌≡◌, ℕ, ◌<◌, Bool, true, false, not, L
 use Rattle.std.specs.Prelude.{decimal}
 use Rattle.std.specs.List.{list_all}
 use Rattle.std.proofs.lemmas.Bool.{ltb-true}
-use Rattle.tm_word.specs.Words.{Text}
-use Rattle.tm_types.specs.declared.entry.Entry.{Entry}
-use Rattle.tm_types.specs.declared.policy.DomainRule.{DomainRule}
-use Rattle.tm_types.specs.declared.policy.ExceptRule.{ExceptRule}
-use Rattle.tm_types.specs.declared.policy.GroupLine.{GroupLine}
-use Rattle.tm_word.specs.Texts.{texts_equal, is_word}
-use Rattle.tm_rules.specs.Policy.{kernel}
-use Rattle.tm_rules.specs.Transition.{is_domain_name}
+use Rattle.tm_word.specs.Prelude.{Text, is_word, texts_equal}
+use Rattle.tm_rules.specs.Types.{DomainRule, Entry, ExceptRule, GroupLine}
+use Rattle.tm_rules.specs.Prelude.{is_domain_name, kernel}
 use Rattle.tm_line.specs.Names.{is_path}
 use Rattle.tm_line.proofs.Steps.{both}
 use Rattle.tm_line.proofs.WholeLaws.{parts_are}

@@ -3,21 +3,9 @@ use Rattle.std.proofs.Common.{◌≡◌, ℕ, ◌<◌, nat_lt, Bool, true, false
 use Rattle.std.specs.Prelude.{codes, if◌then◌else◌, is_some}
 use Rattle.std.specs.List.{list_all}
 use Rattle.std.proofs.lemmas.Bool.{lt-ltb, ltb-true}
-use Rattle.tm_word.specs.Words.{Text, Word}
-use Rattle.tm_word.specs.Spelling.{words_of, spelled_word}
-use Rattle.tm_types.specs.declared.entry.Entry.{Entry}
-use Rattle.tm_types.specs.declared.entry.LineKind.{LineKind}
-use Rattle.tm_types.specs.declared.policy.DomainRule.{DomainRule}
-use Rattle.tm_types.specs.declared.policy.ExceptLine.{ExceptLine}
-use Rattle.tm_types.specs.declared.policy.ExceptRule.{ExceptRule}
-use Rattle.tm_types.specs.declared.policy.ManagerRule.{ManagerRule}
-use Rattle.tm_types.specs.declared.policy.PolicyLine.{PolicyLine}
-use Rattle.tm_types.specs.declared.policy.ProfileLine.{ProfileLine}
-use Rattle.tm_types.specs.declared.step.FileKind.{FileKind}
-use Rattle.tm_rules.specs.Words.{DomainName}
-use Rattle.tm_word.specs.Texts.{texts_equal, begins_with_byte, is_word}
-use Rattle.tm_rules.specs.Policy.{kernel}
-use Rattle.tm_rules.specs.Transition.{is_domain_name}
+use Rattle.tm_word.specs.Prelude.{Text, Word, begins_with_byte, is_word, spelled_word, texts_equal, words_of}
+use Rattle.tm_rules.specs.Types.{DomainRule, Entry, ExceptLine, ExceptRule, FileKind, LineKind, ManagerRule, PolicyLine, ProfileLine}
+use Rattle.tm_rules.specs.Prelude.{DomainName, is_domain_name, kernel}
 use Rattle.tm_line.specs.Names.{is_path}
 use Rattle.tm_line.specs.Lines.{is_last, ended, or_kind, option_at, word_at}
 use Rattle.tm_line.specs.Arguments.{plain_word}

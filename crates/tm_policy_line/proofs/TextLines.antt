@@ -3,12 +3,9 @@ use Rattle.std.proofs.Common.{◌≡◌, ℕ, true, List, [], ◌∷◌, ◌++�
 use Rattle.std.specs.Prelude.{codes, decimal}
 use Rattle.std.specs.List.{list_all}
 use Rattle.std.proofs.lemmas.List.Splits.{join_with_byte-slice_split}
-use Rattle.tm_word.specs.Words.{Text}
-use Rattle.tm_word.specs.Spelling.{joined}
-use Rattle.tm_word.specs.Texts.{is_word}
-use Rattle.tm_types.specs.declared.entry.Entry.{Entry}
-use Rattle.tm_types.specs.declared.step.FileKind.{FileKind}
-use Rattle.tm_rules.specs.Words.{DomainName}
+use Rattle.tm_word.specs.Prelude.{Text, is_word, joined}
+use Rattle.tm_rules.specs.Types.{Entry, FileKind}
+use Rattle.tm_rules.specs.Prelude.{DomainName}
 use Rattle.tm_line.specs.Lines.{spaced}
 use Rattle.tm_line.specs.DomainWords.{domain_parts}
 use Rattle.tm_line.proofs.JoinLaws.{joined_is}

@@ -1,12 +1,7 @@
 -- Each line that can be written, but those of profiles, is what its printed text gives.
 use Rattle.std.proofs.Common.{◌≡◌, Bool, ◌∙◌, Ok}
-use Rattle.tm_word.specs.Spelling.{joined}
-use Rattle.tm_types.specs.declared.policy.DomainRule.{DomainRule}
-use Rattle.tm_types.specs.declared.policy.ExceptLine.{ExceptLine}
-use Rattle.tm_types.specs.declared.policy.GroupLine.{GroupLine}
-use Rattle.tm_types.specs.declared.policy.ManagerRule.{ManagerRule}
-use Rattle.tm_types.specs.declared.policy.PolicyLine.{PolicyLine}
-use Rattle.tm_types.specs.declared.step.FileKind.{FileKind}
+use Rattle.tm_word.specs.Prelude.{joined}
+use Rattle.tm_rules.specs.Types.{DomainRule, ExceptLine, FileKind, GroupLine, ManagerRule, PolicyLine}
 use Rattle.tm_except.specs.Printing.{line_words}
 use Rattle.tm_policy_line.specs.Reading.{read_line}
 use Rattle.tm_policy_line.specs.Printing.{deleted, domain_rule_words, manager_rule_words, group_line_words}

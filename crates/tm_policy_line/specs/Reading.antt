@@ -1,20 +1,9 @@
 -- One line of a policy file: what it says, and the kind of the first word at which it can't go on.
 use Rattle.std.specs.Prelude.{ℕ, ◌&&◌, ◌||◌, not, if◌then◌else◌, Bool, true, false, List, [], ◌∷◌, codes, Result, Ok, Err}
-use Rattle.tm_word.specs.Words.{Text}
-use Rattle.tm_word.specs.Spelling.{words_of}
-use Rattle.tm_types.specs.declared.entry.Entry.{Entry}
-use Rattle.tm_types.specs.declared.entry.LineKind.{LineKind}
-use Rattle.tm_types.specs.declared.policy.DomainRule.{DomainRule}
-use Rattle.tm_types.specs.declared.policy.ExceptLine.{ExceptLine}
-use Rattle.tm_types.specs.declared.policy.ExceptRule.{ExceptRule}
-use Rattle.tm_types.specs.declared.policy.ManagerRule.{ManagerRule}
-use Rattle.tm_types.specs.declared.policy.PolicyLine.{PolicyLine}
-use Rattle.tm_types.specs.declared.step.FileKind.{FileKind}
-use Rattle.tm_rules.specs.Words.{DomainName}
-use Rattle.tm_word.specs.Texts.{texts_equal, begins, begins_with_byte}
-use Rattle.tm_rules.specs.Policy.{kernel}
+use Rattle.tm_word.specs.Prelude.{Text, begins, begins_with_byte, texts_equal, words_of, ◌>>=◌}
+use Rattle.tm_rules.specs.Types.{DomainRule, Entry, ExceptLine, ExceptRule, FileKind, LineKind, ManagerRule, PolicyLine}
+use Rattle.tm_rules.specs.Prelude.{DomainName, kernel}
 use Rattle.tm_line.specs.Lines.{is_last, ended, keyword_kind, option_at, word_at}
-use Rattle.tm_word.specs.Gives.{◌>>=◌}
 use Rattle.tm_line.specs.Arguments.{plain_word}
 use Rattle.tm_line.specs.Domains.{domain_to_end}
 use Rattle.tm_line.specs.Namespaces.{opens}

@@ -1,14 +1,8 @@
 -- The lines that can be read from some text.
 use Rattle.std.specs.Prelude.{◌≡◌, ◌<◌, nat_lt, Bool, true, ◌&&◌, ◌||◌, not, is_some}
-use Rattle.tm_word.specs.Words.{Text}
-use Rattle.tm_word.specs.Spelling.{spelled_word}
-use Rattle.tm_types.specs.declared.policy.DomainRule.{DomainRule}
-use Rattle.tm_types.specs.declared.policy.ExceptRule.{ExceptRule}
-use Rattle.tm_types.specs.declared.policy.ManagerRule.{ManagerRule}
-use Rattle.tm_types.specs.declared.policy.PolicyLine.{PolicyLine}
-use Rattle.tm_word.specs.Texts.{texts_equal, begins_with_byte}
-use Rattle.tm_rules.specs.Policy.{kernel}
-use Rattle.tm_rules.specs.Transition.{is_domain_name}
+use Rattle.tm_word.specs.Prelude.{Text, begins_with_byte, spelled_word, texts_equal}
+use Rattle.tm_rules.specs.Types.{DomainRule, ExceptRule, ManagerRule, PolicyLine}
+use Rattle.tm_rules.specs.Prelude.{is_domain_name, kernel}
 use Rattle.tm_line.specs.Names.{is_path}
 use Rattle.tm_entry.specs.Entries.{is_entry}
 use Rattle.tm_except.specs.Written.{is_rule, is_listed}

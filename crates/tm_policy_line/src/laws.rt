@@ -1,20 +1,9 @@
 //! Laws about the lines of policy files, nothing to run.
 ghost use Rattle.std.specs.Prelude.{◌≡◌, ◌<◌, ℕ, Bool, true, List, Ok};
 ghost use Rattle.std.specs.List.{list_all};
-ghost use Rattle.tm_word.specs.Words.{Text};
-ghost use Rattle.tm_word.specs.Spelling.{joined};
-ghost use Rattle.tm_types.specs.declared.entry.Entry.{Entry};
-ghost use Rattle.tm_types.specs.declared.policy.DomainRule.{DomainRule};
-ghost use Rattle.tm_types.specs.declared.policy.ExceptLine.{ExceptLine};
-ghost use Rattle.tm_types.specs.declared.policy.ExceptRule.{ExceptRule};
-ghost use Rattle.tm_types.specs.declared.policy.GroupLine.{GroupLine};
-ghost use Rattle.tm_types.specs.declared.policy.ManagerRule.{ManagerRule};
-ghost use Rattle.tm_types.specs.declared.policy.PolicyLine.{PolicyLine};
-ghost use Rattle.tm_types.specs.declared.policy.ProfileLine.{ProfileLine};
-ghost use Rattle.tm_types.specs.declared.step.FileKind.{FileKind};
-ghost use Rattle.tm_rules.specs.Words.{DomainName};
-ghost use Rattle.tm_word.specs.Texts.{is_word};
-ghost use Rattle.tm_rules.specs.Transition.{is_domain_name};
+ghost use Rattle.tm_word.specs.Prelude.{Text, is_word, joined};
+ghost use Rattle.tm_rules.specs.Types.{DomainRule, Entry, ExceptLine, ExceptRule, FileKind, GroupLine, ManagerRule, PolicyLine, ProfileLine};
+ghost use Rattle.tm_rules.specs.Prelude.{DomainName, is_domain_name};
 ghost use Rattle.tm_line.specs.Names.{is_path};
 ghost use Rattle.tm_line.specs.DomainWords.{domain_parts};
 ghost use Rattle.tm_line.specs.Namespaces.{IsNamespace};

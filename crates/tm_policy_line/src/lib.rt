@@ -1,6 +1,7 @@
 //! One line of any policy file, read, and the printed lines of domains, managers and ACL groups.
-//! It stands on `tm_entry`, `tm_except` and `tm_profile`, whose lines it joins, and on `tm_line`.
-//! It promises the grammar with its first fault, and one line for each rule that is read again.
+//! Stands on `tm_entry`, `tm_except` and `tm_profile`, whose lines it joins, and on `tm_line`.
+//! Of its own, so that tm_text prints and tm_vectors compares lines without what changes a policy.
+//! Promises the grammar with its first fault, and one line for each rule that is read again.
 #![tactic(auto)]
 
 mod laws;

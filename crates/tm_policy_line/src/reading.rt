@@ -1,14 +1,13 @@
 //! Reading the line of any policy file.
 ghost use Rattle.std.specs.Prelude.{◌≡◌, ◌∷◌};
-ghost use Rattle.tm_word.specs.Gives.{Gives, GivesNow};
-ghost use Rattle.tm_line.specs.Lines.{line_cause, word_at};
-ghost use Rattle.tm_line.specs.Arguments.{plain_word};
+ghost use Rattle.tm_word.specs.Prelude.{Gives, GivesNow};
+ghost use Rattle.tm_line.specs.Lines.{line_cause};
 ghost use Rattle.tm_policy_line.specs.Reading.{number_rule, acl_rule, begins_setting, begins_domain, setting_rule, delete_domain, delete_rule, domain_rule, begins_manager, manager_rule, manager_of, with_group, with_entry, read_words, read_line};
 
 use std::alloc::Global;
 use tm_entry::read_entry;
 use tm_except::{literal_word, read_exception};
-use tm_line::{domain_to_end, ended, keyword_kind, opens, option_at, small_number};
+use tm_line::{domain_to_end, ended, keyword_kind, opens, option_at, small_number_at};
 use tm_list::Copied;
 use tm_profile::read_profile_line;
 use tm_types::entry::{Entry, LineKind};
@@ -17,22 +16,11 @@ use tm_types::step::{FileKind, LineFault};
 use tm_types::unions::DomainName;
 use tm_word::{Text, begins, begins_with, bytes_equal, normal_words};
 
-/// A number from 0 to 255 as the first word, and the words after it.
-fn number_at(words: &[Text]) -> Result<(u8, &[Text]), LineFault>
-    ensures { GivesNow line_cause (λ x. (x.0, x.1.now)) result
-        (word_at (plain_word 256) words.now) }
-{
-    match words {
-        [] => Err(LineFault::Kind(LineKind::Arity)),
-        [word, rest @ ..] => Ok((small_number(word.bytes())?, rest)),
-    }
-}
-
 /// The profile that a domain uses.
 fn profile_rule(words: &[Text]) -> Result<DomainRule, LineFault>
     ensures { GivesNow line_cause (λ x. x) result (number_rule DomainRule.UseProfile words.now) }
 {
-    let (number, rest) = number_at(words)?;
+    let (number, rest) = small_number_at(words)?;
     ended(DomainRule::UseProfile(number), rest)
 }
 
@@ -41,7 +29,7 @@ fn group_rule(delete: bool, words: &[Text]) -> Result<DomainRule, LineFault>
     ensures { GivesNow line_cause (λ x. x) result
         (number_rule (DomainRule.UseGroup delete) words.now) }
 {
-    let (number, rest) = number_at(words)?;
+    let (number, rest) = small_number_at(words)?;
     ended(DomainRule::UseGroup(delete, number), rest)
 }
 

@@ -4,14 +4,8 @@ use Rattle.std.specs.Prelude.{Some, map}
 use Rattle.std.specs.List.{flat_map}
 use Rattle.std.proofs.lemmas.List.{append_assoc, append-nil}
 use Rattle.tm_list.specs.Map.{Rises}
-use Rattle.tm_types.specs.declared.policy.Config.{Config}
-use Rattle.tm_types.specs.declared.policy.SlotName.{SlotName}
-use Rattle.tm_types.specs.declared.policy.Setting.{Setting}
-use Rattle.tm_types.specs.declared.policy.Profile.{Profile}
-use Rattle.tm_types.specs.declared.policy.Namespace.{Namespace}
-use Rattle.tm_types.specs.declared.policy.ProfileEffect.{ProfileEffect}
-use Rattle.tm_types.specs.Slot.{slot_rank}
-use Rattle.tm_rules.specs.Edit.{new_profile, on_profile, set_slot, profile_line}
+use Rattle.tm_rules.specs.Types.{Config, Namespace, Profile, ProfileEffect, Setting, SlotName, slot_rank}
+use Rattle.tm_rules.specs.Prelude.{new_profile, on_profile, profile_line, set_slot}
 use Rattle.tm_profile.proofs.MapEnds.{Below, below_at, put_last, at_none, at_last, put_again}
 
 -- the namespace after these

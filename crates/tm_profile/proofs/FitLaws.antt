@@ -3,15 +3,10 @@ use Rattle.std.proofs.Common.{◌≡◌, ℕ, zero, suc, ◌+◌, ◌<◌, ◌^�
 use Rattle.std.specs.Prelude.{Option, codes, if◌then◌else◌}
 use Rattle.std.specs.List.{list_all, position}
 use Rattle.std.proofs.lemmas.Bool.{ne_eqb}
-use Rattle.tm_word.specs.Words.{Text}
-use Rattle.tm_word.specs.Spelling.{is_separator}
+use Rattle.tm_word.specs.Prelude.{Text, after, is_separator, is_solid, is_word, texts_equal}
 use Rattle.tm_number.specs.Numbers.{plain_of}
 use Rattle.tm_number.proofs.NumberLaws.{plain_small}
-use Rattle.tm_types.specs.declared.entry.LineKind.{LineKind}
-use Rattle.tm_types.specs.declared.policy.SlotName.{SlotName}
-use Rattle.tm_types.specs.declared.policy.ProfileEffect.{ProfileEffect}
-use Rattle.tm_types.specs.declared.policy.ProfileLine.{ProfileLine}
-use Rattle.tm_word.specs.Texts.{texts_equal, after, is_solid, is_word}
+use Rattle.tm_rules.specs.Types.{LineKind, ProfileEffect, ProfileLine, SlotName}
 use Rattle.tm_rules.proofs.EqualityLaws.{both}
 use Rattle.tm_line.specs.Lines.{or_kind, is_last}
 use Rattle.tm_line.specs.Namespaces.{opens, namespace_of, namespace_at}

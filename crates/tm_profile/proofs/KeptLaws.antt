@@ -3,21 +3,13 @@ use Rattle.std.proofs.Common.{◌≡◌, ℕ, ◌<◌, ◌^◌, ◌==◌, nat_lt
 use Rattle.std.specs.Prelude.{Option, if◌then◌else◌, unwrap_or}
 use Rattle.std.specs.List.{list_all}
 use Rattle.std.proofs.lemmas.Bool.{eqb-true}
-use Rattle.tm_word.specs.Words.{Text}
+use Rattle.tm_word.specs.Prelude.{Text, is_word}
 use Rattle.tm_list.specs.Map.{put}
 use Rattle.tm_list.proofs.MapLaws.{Rises-put, Rises-without}
-use Rattle.tm_types.specs.declared.policy.SlotName.{SlotName}
-use Rattle.tm_types.specs.declared.policy.Setting.{Setting}
-use Rattle.tm_types.specs.declared.policy.Profile.{Profile}
-use Rattle.tm_types.specs.declared.policy.Namespace.{Namespace}
-use Rattle.tm_types.specs.declared.policy.ProfileEffect.{ProfileEffect}
-use Rattle.tm_types.specs.declared.policy.ProfileLine.{ProfileLine}
-use Rattle.tm_types.specs.Slot.{slot_rank}
-use Rattle.tm_rules.specs.Policy.{at_key}
-use Rattle.tm_rules.specs.Edit.{new_profile, on_profile, set_config, set_slot, profile_line}
+use Rattle.tm_rules.specs.Types.{Namespace, Profile, ProfileEffect, ProfileLine, Setting, SlotName, slot_rank}
+use Rattle.tm_rules.specs.Prelude.{at_key, new_profile, on_profile, profile_line, set_config, set_slot}
 use Rattle.tm_profile.specs.Reading.{line_of}
 use Rattle.tm_profile.specs.Texts.{IsLimit, IsEffect, IsProfile, AreProfiles, IsWritten}
-use Rattle.tm_word.specs.Texts.{is_word}
 use Rattle.tm_profile.proofs.FitLaws.{line_fits}
 
 put_all : (n : ℕ) (p : Profile) (xs : List (ℕ × Profile)) → IsProfile (n, p) → AreProfiles xs → AreProfiles (put (λ k. k) n p xs)

@@ -1,17 +1,13 @@
 -- Worked examples: what each form of a profile line gives, and the kind of each wrong one.
 use Rattle.std.proofs.Common.{◌≡◌, false, [], Some, None, Ok, Err, refl}
 use Rattle.std.specs.Prelude.{codes}
-use Rattle.tm_word.specs.Spelling.{words_of}
+use Rattle.tm_word.specs.Prelude.{words_of}
 use Rattle.tm_number.specs.Numbers.{number_of, value_of, plain_of}
 use Rattle.tm_line.specs.Tokens.{token_at}
 use Rattle.tm_line.specs.Reading.{step, ended, parsed, pattern_of}
 use Rattle.tm_line.specs.Names.{is_path, domain_of}
-use Rattle.tm_types.specs.declared.entry.LineKind.{LineKind}
-use Rattle.tm_types.specs.declared.policy.Mode.{Mode}
-use Rattle.tm_types.specs.declared.policy.Function.{Function}
-use Rattle.tm_types.specs.declared.policy.SlotName.{SlotName}
-use Rattle.tm_types.specs.declared.policy.ProfileEffect.{ProfileEffect}
-use Rattle.tm_rules.specs.Policy.{kernel}
+use Rattle.tm_rules.specs.Types.{Function, LineKind, Mode, ProfileEffect, SlotName}
+use Rattle.tm_rules.specs.Prelude.{kernel}
 use Rattle.tm_line.specs.Namespaces.{namespace_of, namespace_at}
 use Rattle.tm_profile.specs.Slots.{function_text, slot_text}
 use Rattle.tm_profile.specs.Reading.{line, key_of, seen_after, closed, setting_after, limits_with, limits_after, slot_of, begins_some_slot, begins_effect, numbered, effect_at, line_of}

@@ -6,15 +6,9 @@ use Rattle.std.specs.Option.{option_and_then}
 use Rattle.std.specs.Fmt.{decimal}
 use Rattle.std.proofs.lemmas.List.{append_assoc, append-nil}
 use Rattle.std.proofs.lemmas.Grind.{flat_map-append}
-use Rattle.tm_word.specs.Words.{Text}
-use Rattle.tm_word.specs.Spelling.{words_of, joined}
-use Rattle.tm_types.specs.declared.policy.Config.{Config}
-use Rattle.tm_types.specs.declared.policy.SlotName.{SlotName}
-use Rattle.tm_types.specs.declared.policy.Profile.{Profile}
-use Rattle.tm_types.specs.declared.policy.Namespace.{Namespace}
-use Rattle.tm_types.specs.declared.policy.ProfileEffect.{ProfileEffect}
-use Rattle.tm_rules.specs.Edit.{profile_line}
-use Rattle.tm_word.specs.Texts.{lines_of, is_solid, is_word}
+use Rattle.tm_word.specs.Prelude.{Text, is_solid, is_word, joined, lines_of, words_of}
+use Rattle.tm_rules.specs.Types.{Config, Namespace, Profile, ProfileEffect, SlotName}
+use Rattle.tm_rules.specs.Prelude.{profile_line}
 use Rattle.tm_rules.proofs.EqualityLaws.{both}
 use Rattle.tm_line.proofs.NameLaws.{texts_same}
 use Rattle.tm_line.specs.Lines.{spaced}

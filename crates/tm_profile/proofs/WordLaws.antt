@@ -12,22 +12,13 @@ use Rattle.std.proofs.lemmas.Bool.Decides.{nat_tests}
 use Rattle.std.proofs.lemmas.List.{take_at}
 use Rattle.std.proofs.lemmas.List.Folds.{list_all-append}
 use Rattle.std.proofs.Math.Seq.{drop-append-add}
-use Rattle.tm_word.specs.Words.{Text}
-use Rattle.tm_word.specs.Spelling.{is_separator}
+use Rattle.tm_word.specs.Prelude.{Text, after, is_separator, is_solid, is_word, ◌>>=◌}
 use Rattle.tm_number.specs.Numbers.{plain_of}
 use Rattle.tm_number.proofs.NumberLaws.{plain_again}
 use Rattle.tm_line.proofs.Free.{Free, free_digits, place_at}
-use Rattle.tm_types.specs.declared.entry.LineKind.{LineKind}
-use Rattle.tm_types.specs.declared.policy.Mode.{Mode}
-use Rattle.tm_types.specs.declared.policy.Function.{Function}
-use Rattle.tm_types.specs.declared.policy.SlotName.{SlotName}
-use Rattle.tm_types.specs.declared.policy.Config.{Config}
-use Rattle.tm_types.specs.declared.policy.Setting.{Setting}
-use Rattle.tm_types.specs.declared.policy.ProfileEffect.{ProfileEffect}
+use Rattle.tm_rules.specs.Types.{Config, Function, LineKind, Mode, ProfileEffect, Setting, SlotName}
 use Rattle.tm_line.specs.Lines.{or_kind, is_last}
-use Rattle.tm_word.specs.Gives.{◌>>=◌}
 use Rattle.tm_profile.specs.declared.reading.Limits.{Limits}
-use Rattle.tm_word.specs.Texts.{after, is_solid, is_word}
 use Rattle.tm_profile.specs.Slots.{function_text, slot_text, mode_word}
 use Rattle.tm_profile.specs.Reading.{comment_of, key_of, unseen, seen_after, closed, setting_after, unlimited, limit_of, limits_with, limits_after, slot_of, numbered, numbered_by, effect_by, effect_at}
 use Rattle.tm_profile.specs.Printing.{headed, grant_text, reject_text, setting_words, audit_text, learning_text, limit_words}

@@ -2,25 +2,15 @@
 use Rattle.std.specs.Prelude.{ℕ, ◌+◌, ◌^◌, ◌==◌, ◌&&◌, ◌||◌, if◌then◌else◌, Bool, true, false, List, [], ◌∷◌, ◌++◌, take, drop, Option, Some, None, is_none, is_some, option_map, Result, Ok, Err, codes}
 use Rattle.std.specs.List.{find, position, list_any}
 use Rattle.std.specs.Option.{option_or}
-use Rattle.tm_word.specs.Words.{Text}
-use Rattle.tm_word.specs.Spelling.{joined}
+use Rattle.tm_word.specs.Prelude.{Text, after, begins, begins_row, joined, named, texts_equal, ◌>>=◌}
 use Rattle.tm_number.specs.Numbers.{plain_of}
-use Rattle.tm_types.specs.declared.entry.LineKind.{LineKind}
-use Rattle.tm_types.specs.declared.policy.Mode.{Mode}
-use Rattle.tm_types.specs.declared.policy.SlotName.{SlotName}
-use Rattle.tm_types.specs.declared.policy.Setting.{Setting}
-use Rattle.tm_types.specs.declared.policy.ProfileEffect.{ProfileEffect}
-use Rattle.tm_types.specs.declared.policy.ProfileLine.{ProfileLine}
-use Rattle.tm_types.specs.Slot.{all_slots}
-use Rattle.tm_word.specs.Closed.{named, begins_row}
-use Rattle.tm_word.specs.Texts.{texts_equal, begins, after}
+use Rattle.tm_rules.specs.Types.{LineKind, Mode, ProfileEffect, ProfileLine, Setting, SlotName, all_slots, modes}
 use Rattle.tm_line.specs.Namespaces.{namespace_at}
 use Rattle.tm_profile.specs.declared.reading.Key.{Key}
 use Rattle.tm_profile.specs.declared.reading.Seen.{Seen}
 use Rattle.tm_profile.specs.declared.reading.Limits.{Limits}
 use Rattle.tm_line.specs.Lines.{or_kind, is_last}
-use Rattle.tm_word.specs.Gives.{◌>>=◌}
-use Rattle.tm_profile.specs.Slots.{slot_text, all_modes, mode_word}
+use Rattle.tm_profile.specs.Slots.{slot_text, mode_word}
 
 -- an unfinished word at the end is a missing one, any other wrong word is the profile's
 abbrev pub wrong : Bool → LineKind
@@ -42,7 +32,7 @@ comment_of (b ∷ first) words = joined ((b ∷ first) ∷ words)
 
 -- the mode whose word this is
 abbrev pub word_mode : Text → Option Mode
-word_mode word = find (λ mode. texts_equal word (mode_word mode)) all_modes
+word_mode word = find (λ mode. texts_equal word (mode_word mode)) modes
 
 -- what is said of the log of grants, and of that of rejections
 abbrev pub grant_logs : List (Text × Key)
@@ -75,7 +65,7 @@ with_key seen (Key.Reject log) =
 
 -- a word of a mode begins so
 abbrev pub begins_mode : Text → Bool
-begins_mode word = list_any (λ mode. begins word (mode_word mode)) all_modes
+begins_mode word = list_any (λ mode. begins word (mode_word mode)) modes
 
 -- a word of the grant log begins so
 abbrev pub begins_grant : Text → Bool

@@ -1,10 +1,7 @@
 -- the words of `CONFIG` lines
 use Rattle.std.specs.Prelude.{List, [], ◌∷◌, ◌++◌, codes}
-use Rattle.tm_word.specs.Words.{Text}
-use Rattle.tm_types.specs.Texts.{mode_text}
-use Rattle.tm_types.specs.declared.policy.Mode.{Mode}
-use Rattle.tm_types.specs.declared.policy.Function.{Function}
-use Rattle.tm_types.specs.declared.policy.SlotName.{SlotName}
+use Rattle.tm_word.specs.Prelude.{Text}
+use Rattle.tm_rules.specs.Types.{Function, Mode, SlotName, mode_text}
 
 -- the word of a function: its category's, and then its own
 unfoldable pub function_text : Function → Text
@@ -54,10 +51,6 @@ slot_text SlotName.File = codes "CONFIG::file"
 slot_text SlotName.Network = codes "CONFIG::network"
 slot_text SlotName.Misc = codes "CONFIG::misc"
 slot_text (SlotName.One function) = function_text function
-
--- all modes
-abbrev pub all_modes : List Mode
-all_modes = Mode.Disabled ∷ Mode.Learning ∷ Mode.Permissive ∷ Mode.Enforcing ∷ []
 
 -- the word of a mode
 abbrev pub mode_word : Mode → Text

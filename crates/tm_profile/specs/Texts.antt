@@ -3,16 +3,9 @@ use Rattle.std.specs.Prelude.{◌≡◌, ℕ, ◌<◌, ◌^◌, true, if◌then�
 use Rattle.std.specs.List.{list_all}
 use Rattle.std.specs.Option.{option_and_then}
 use Rattle.tm_list.specs.Map.{Rises}
-use Rattle.tm_word.specs.Words.{Text}
-use Rattle.tm_word.specs.Spelling.{words_of, joined}
-use Rattle.tm_types.specs.declared.entry.LineKind.{LineKind}
-use Rattle.tm_types.specs.declared.policy.Profile.{Profile}
-use Rattle.tm_types.specs.declared.policy.Namespace.{Namespace}
-use Rattle.tm_types.specs.declared.policy.ProfileEffect.{ProfileEffect}
-use Rattle.tm_types.specs.declared.policy.ProfileLine.{ProfileLine}
-use Rattle.tm_types.specs.Slot.{slot_rank}
-use Rattle.tm_word.specs.Texts.{texts_equal, is_word}
-use Rattle.tm_rules.specs.Edit.{profile_line}
+use Rattle.tm_word.specs.Prelude.{Text, is_word, joined, texts_equal, words_of}
+use Rattle.tm_rules.specs.Types.{LineKind, Namespace, Profile, ProfileEffect, ProfileLine, slot_rank}
+use Rattle.tm_rules.specs.Prelude.{profile_line}
 use Rattle.tm_line.specs.Namespaces.{IsNamespace}
 use Rattle.tm_profile.specs.Reading.{line_of}
 

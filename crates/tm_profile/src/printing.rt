@@ -2,12 +2,9 @@
 ghost use Rattle.std.specs.Prelude.{◌≡◌, ◌∷◌, [], ◌++◌, ℕ, List, Some, Ok, true, codes, IfOk, OnOk, OnErr};
 ghost use Rattle.std.specs.List.{flat_map, list_all};
 ghost use Rattle.std.specs.Fmt.{decimal};
-ghost use Rattle.tm_types.specs.declared.policy.Profile.{Profile};
-ghost use Rattle.tm_types.specs.declared.policy.Namespace.{Namespace};
-ghost use Rattle.tm_types.specs.declared.policy.ProfileLine.{ProfileLine};
-ghost use Rattle.tm_word.specs.Words.{Text};
-ghost use Rattle.tm_rules.specs.Edit.{profile_line};
-ghost use Rattle.tm_word.specs.Texts.{lines_of, is_word};
+ghost use Rattle.tm_rules.specs.Types.{Namespace, Profile, ProfileLine};
+ghost use Rattle.tm_word.specs.Prelude.{Text, is_word, lines_of};
+ghost use Rattle.tm_rules.specs.Prelude.{profile_line};
 ghost use Rattle.tm_line.specs.Lines.{spaced};
 ghost use Rattle.tm_line.specs.Namespaces.{line_text};
 ghost use Rattle.tm_profile.specs.Slots.{mode_word};

@@ -1,10 +1,9 @@
 //! Reading profile lines.
 ghost use Rattle.std.specs.Prelude.{◌≡◌, ◌==◌, ◌∷◌, ◌++◌, ◌^◌, ℕ, Some, None, IfOk, is_some, codes};
 ghost use Rattle.std.specs.List.{position};
-ghost use Rattle.tm_word.specs.Gives.{Gives, GivesNow};
+ghost use Rattle.tm_word.specs.Prelude.{Gives, GivesNow, after, begins};
 ghost use Rattle.tm_number.specs.Numbers.{plain_of};
 ghost use Rattle.tm_line.specs.Lines.{line_cause, or_kind};
-ghost use Rattle.tm_word.specs.Texts.{begins, after};
 ghost use Rattle.tm_line.specs.Namespaces.{namespace_at};
 ghost use Rattle.tm_profile.specs.Reading.{wrong, at_end, comment_of, log_key, key_of, unseen, with_key, begins_grant, begins_reject, begins_key, seen_by, seen_after, setting_by, closed, setting_after, unlimited, limit_of, once, begins_limit, learning_by, limits_by, limits_with, limits_after, preference, begins_line, begins_some_slot, begins_effect, slot_of, slot_by, comment_by, numbered, numbered_by, version_by, effect_by, effect_at, line_of};
 

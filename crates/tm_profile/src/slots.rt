@@ -1,18 +1,17 @@
 //! The words of `CONFIG` lines: the slot that a word sets, and the mode that it gives.
 ghost use Rattle.std.specs.Prelude.{◌≡◌, ◌++◌};
 ghost use Rattle.std.specs.List.{find, list_any};
-ghost use Rattle.tm_types.specs.Slot.{all_slots};
-ghost use Rattle.tm_types.specs.declared.policy.Mode.{Mode};
-ghost use Rattle.tm_word.specs.Texts.{texts_equal, begins};
-ghost use Rattle.tm_profile.specs.Slots.{function_text, slot_text, mode_word, all_modes};
+ghost use Rattle.tm_rules.specs.Types.{Mode, all_slots, modes};
+ghost use Rattle.tm_word.specs.Prelude.{begins, texts_equal};
+ghost use Rattle.tm_profile.specs.Slots.{function_text, slot_text, mode_word};
 ghost use Rattle.tm_profile.specs.Reading.{word_mode, begins_mode, begins_slot, begins_some_slot, slot_word, slot_in, slot_of};
 
 use crate::words::{begins_joined, is_joined};
 use tm_types::policy::{Function, Mode, SlotName};
 
 /// All modes.
-fn all_modes() -> &'static [Mode]
-    ensures { result.now ≡ all_modes }
+fn modes() -> &'static [Mode]
+    ensures { result.now ≡ modes }
 {
     &[
         Mode::Disabled,
@@ -38,7 +37,7 @@ fn mode_in(modes: &[Mode], word: &[u8]) -> Option<Mode>
 pub(crate) fn word_mode(word: &[u8]) -> Option<Mode>
     ensures { result ≡ word_mode word.now }
 {
-    mode_in(all_modes(), word)
+    mode_in(modes(), word)
 }
 
 /// Whether the word of one of these modes begins so.
@@ -57,7 +56,7 @@ fn begins_mode_in(modes: &[Mode], word: &[u8]) -> bool
 pub(crate) fn begins_mode(word: &[u8]) -> bool
     ensures { result ≡ begins_mode word.now }
 {
-    begins_mode_in(all_modes(), word)
+    begins_mode_in(modes(), word)
 }
 
 /// The word of a function: its category's, and then its own.

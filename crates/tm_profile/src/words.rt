@@ -1,6 +1,6 @@
 //! Tests of words that are made of two parts.
 ghost use Rattle.std.specs.Prelude.{◌≡◌, ◌++◌};
-ghost use Rattle.tm_word.specs.Texts.{texts_equal, begins};
+ghost use Rattle.tm_word.specs.Prelude.{begins, texts_equal};
 
 use tm_word::{begins, bytes_equal};
 

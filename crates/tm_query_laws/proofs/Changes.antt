@@ -4,22 +4,9 @@ use Rattle.std.proofs.lemmas.Option.{slice_get_past}
 use Rattle.std.specs.Prelude.{if◌then◌else◌, ◌==◌, is_some, slice_get, slice_set, unwrap_or}
 use Rattle.std.specs.Option.{option_and_then, option_map_or}
 use Rattle.tm_types.specs.Words.{Text}
-use Rattle.tm_rules.specs.Words.{DomainName}
-use Rattle.tm_types.specs.declared.policy.Policy.{Policy}
-use Rattle.tm_types.specs.declared.step.Answered.{Answered}
-use Rattle.tm_types.specs.declared.step.AnswerFault.{AnswerFault}
-use Rattle.tm_types.specs.declared.step.FileKind.{FileKind}
-use Rattle.tm_types.specs.declared.step.EditReply.{EditReply}
-use Rattle.tm_types.specs.declared.step.Held.{Held}
-use Rattle.tm_types.specs.declared.step.Step.{Step}
-use Rattle.tm_types.specs.declared.step.Reply.{Reply}
-use Rattle.tm_types.specs.declared.step.Editor.{Editor}
-use Rattle.tm_rules.specs.Grammar.{Grammar}
-use Rattle.tm_rules.specs.Policy.{changed_at}
-use Rattle.tm_rules.specs.Edit.{Edited, apply_line, put_member}
-use Rattle.tm_rules.specs.Changes.{in_domain, learn, make, fail, is_manager}
-use Rattle.tm_rules.specs.Queries.{Standing, Queries, ask, answer, answer_coded, answer_fault, with_answer, attach, detach, closed}
-use Rattle.tm_legal.specs.Steps.{State, Applied, apply, unfit, on_policy, on_queries, fits_entry, fits_name, edit_step, edit_by}
+use Rattle.tm_rules.specs.Prelude.{DomainName, Edited, Grammar, Queries, Standing, answer, answer_coded, answer_fault, apply_line, ask, attach, changed_at, closed, detach, fail, in_domain, is_manager, learn, make, put_member, with_answer}
+use Rattle.tm_rules.specs.Types.{AnswerFault, Answered, EditReply, Editor, FileKind, Held, Policy, Reply, Step}
+use Rattle.tm_legal.specs.Prelude.{Applied, State, apply, edit_by, edit_step, fits_entry, fits_name, on_policy, on_queries, unfit}
 use Rattle.tm_query_laws.specs.Given.{Gives}
 
 -- One place, before and after

@@ -4,15 +4,9 @@ use Rattle.std.proofs.Math.Seq.{take-length}
 use Rattle.std.proofs.lemmas.Bool.{cases_lt}
 use Rattle.std.specs.Prelude.{is_some, slice_get, IsSome}
 use Rattle.tm_types.specs.Words.{Text}
-use Rattle.tm_types.specs.declared.step.Answered.{Answered}
-use Rattle.tm_types.specs.declared.step.Held.{Held}
-use Rattle.tm_types.specs.declared.step.Made.{Made}
-use Rattle.tm_types.specs.declared.step.Reply.{Reply}
-use Rattle.tm_types.specs.declared.step.Start.{Start}
-use Rattle.tm_types.specs.declared.step.Step.{Step}
-use Rattle.tm_rules.specs.Grammar.{Grammar}
-use Rattle.tm_rules.specs.Queries.{Standing, Queries, numbered, answer_of}
-use Rattle.tm_legal.specs.Steps.{State, apply, after, opening}
+use Rattle.tm_rules.specs.Types.{Answered, Held, Made, Reply, Start, Step}
+use Rattle.tm_rules.specs.Prelude.{Grammar, Queries, Standing, answer_of, numbered}
+use Rattle.tm_legal.specs.Prelude.{State, after, apply, opening}
 use Rattle.tm_made.specs.Made.{steps_made, state_made, made_step}
 use Rattle.tm_query_laws.specs.Given.{ExactlyOne, queries_made, queries_at, IsHeld, IsAskedAt, IsGivenAt, IsAsk, IsAnswer, IsDetach, Gives, HasCause, StandsAfterAsk}
 use Rattle.tm_query_laws.proofs.Changes.{Draws, answer_in, HeldIn, no-answer, same-answer, answer-stays, query-stays, answer-came, query-came, step-moves, ask-draws, no-serial}

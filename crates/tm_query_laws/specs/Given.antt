@@ -2,15 +2,9 @@
 -- step is the number of the steps before it, which is the version at which it was made.
 use Rattle.std.specs.Prelude.{◌≡◌, ◌<◌, ℕ, suc, List, take, Some, None}
 use Rattle.tm_types.specs.Words.{Text}
-use Rattle.tm_types.specs.declared.step.Answered.{Answered}
-use Rattle.tm_types.specs.declared.step.Held.{Held}
-use Rattle.tm_types.specs.declared.step.Made.{Made}
-use Rattle.tm_types.specs.declared.step.Reply.{Reply}
-use Rattle.tm_types.specs.declared.step.Start.{Start}
-use Rattle.tm_types.specs.declared.step.Step.{Step}
-use Rattle.tm_rules.specs.Grammar.{Grammar}
-use Rattle.tm_rules.specs.Queries.{Queries, Standing, numbered, answer_of, answer_coded}
-use Rattle.tm_legal.specs.Steps.{apply}
+use Rattle.tm_rules.specs.Types.{Answered, Held, Made, Reply, Start, Step}
+use Rattle.tm_rules.specs.Prelude.{Grammar, Queries, Standing, answer_coded, answer_of, numbered}
+use Rattle.tm_legal.specs.Prelude.{apply}
 use Rattle.tm_made.specs.Made.{state_made, made_step}
 
 -- exactly one number is such

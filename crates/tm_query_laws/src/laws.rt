@@ -1,10 +1,7 @@
 //! Laws of the lists of steps of machines, each on a function whose clauses are all that it has.
 ghost use Rattle.std.specs.Prelude.{◌≡◌, ◌<◌, ◌↔◌, ℕ, List, Some, IsSome};
-ghost use Rattle.tm_types.specs.declared.step.Answered.{Answered};
-ghost use Rattle.tm_types.specs.declared.step.Made.{Made};
-ghost use Rattle.tm_types.specs.declared.step.Start.{Start};
-ghost use Rattle.tm_rules.specs.Grammar.{Grammar};
-ghost use Rattle.tm_rules.specs.Queries.{numbered, answer_of};
+ghost use Rattle.tm_rules.specs.Types.{Answered, Made, Start};
+ghost use Rattle.tm_rules.specs.Prelude.{Grammar, answer_of, numbered};
 ghost use Rattle.tm_query_laws.specs.Given.{ExactlyOne, queries_made, queries_at, IsAskedAt};
 ghost use Rattle.tm_query_laws.specs.Given.{IsGivenAt, IsAsk, HasCause, StandsAfterAsk, IsAnswer, IsDetach};
 

@@ -1,12 +1,8 @@
 -- The first name of an execute.
 use Rattle.std.proofs.Common.{◌≡◌, ℕ, true, refl}
 use Rattle.std.specs.Prelude.{Some, slice_get}
-use Rattle.tm_types.specs.declared.entry.Args.{Args}
-use Rattle.tm_types.specs.declared.request.Attributes.{Attributes}
-use Rattle.tm_types.specs.declared.request.Request.{Request}
-use Rattle.tm_types.specs.Request.{argument_words}
-use Rattle.tm_rules.specs.Condition.{is_execute}
-use Rattle.tm_rules.specs.Search.{path_of}
+use Rattle.tm_rules.specs.Types.{Args, Attributes, Request, argument_words}
+use Rattle.tm_rules.specs.Prelude.{is_execute, path_of}
 
 abbrev request_of : Args → ℕ → Attributes → Request
 request_of args perm attributes = record { args = args; perm = perm; attributes = attributes }

@@ -1,7 +1,6 @@
 //! The name by which an execute is searched for.
 ghost use Rattle.std.specs.Prelude.{◌≡◌, true};
-ghost use Rattle.tm_rules.specs.Condition.{is_execute};
-ghost use Rattle.tm_rules.specs.Search.{aggregated, path_of};
+ghost use Rattle.tm_rules.specs.Prelude.{aggregated, is_execute, path_of};
 
 use tm_grammar::except::aggregated;
 use tm_types::policy::Namespace;

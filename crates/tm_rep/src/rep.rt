@@ -14,12 +14,8 @@ use tm_types::verdict::Found;
 /// A representation of a policy, such as the plain one or one with an index. Each call answers of
 /// its policy what its definition says.
 pub trait Rep: Sized + Drop {
-    ghost use Rattle.tm_types.specs.declared.policy.Policy.{Policy};
-    ghost use Rattle.tm_rules.specs.Few.{IsFew};
-    ghost use Rattle.tm_rules.specs.Policy.{live_domain};
-    ghost use Rattle.tm_rules.specs.Search.{first, found, found_of};
-    ghost use Rattle.tm_rules.specs.Changes.{learn, make, fail};
-    ghost use Rattle.tm_rules.specs.Edit.{apply_line};
+    ghost use Rattle.tm_rules.specs.Types.{Policy};
+    ghost use Rattle.tm_rules.specs.Prelude.{IsFew, apply_line, fail, first, found, found_of, learn, live_domain, make};
     ghost use Rattle.tm_grammar.specs.Tomoyo.{tomoyo_grammar};
     ghost use Rattle.tm_change_domains.specs.Standing.{StandsIn};
 

@@ -3,40 +3,19 @@ use Rattle.std.proofs.Common.{◌≡◌, ◌≤◌, ◌<◌, ℕ, List, [], ◌�
 use Rattle.std.specs.Prelude.{Option, Some}
 use Rattle.std.specs.List.{AllByRecursion}
 use Rattle.std.proofs.lemmas.List.{map-append}
-use Rattle.tm_types.specs.declared.step.Made.{Made}
-use Rattle.tm_types.specs.declared.step.Start.{Start}
+use Rattle.tm_rules.specs.Types.{Made, Start}
 use Rattle.tm_legal.proofs.Asked.{All-append}
 use Rattle.tm_joint.proofs.Rows.{All-left, All-right}
 use Rattle.tm_publish.specs.declared.front.Front.{Front}
 use Rattle.tm_publish.specs.declared.pass.Pass.{Pass}
-use Rattle.tm_publish.specs.Words.{home, known, made_of, front_list, IsFresh}
+use Rattle.tm_publish.specs.Words.{home, known, front_list, IsFresh}
 use Rattle.tm_serve.specs.Serving as serving
 use Rattle.tm_seat.specs.declared.part.Part.{Part}
-use Rattle.tm_seat.specs.Parts.{coming, IsWorking, PassIsReady}
+use Rattle.tm_seat.specs.Parts.{coming, IsWorking}
 use Rattle.tm_replay.specs.Jobs.{StartsFrom, JobStarts, told_of, IsFrontOf}
 use Rattle.tm_replay.specs.Beginnings.{AreGiven}
 
--- a fresh pass is ready for a part that isn't the supervisor's
-part-ready : {H : Type 0} (part : Part H) (list : List Made) (own : List ℕ) → IsWorking part → own ≡ [] → PassIsReady part list own
-part-ready (Part.Worker hand) list own working none = none
-part-ready (Part.Editor number lines) list own working none = none
-part-ready Part.Desk list own working none = absurd working
-
 module _ {L O H : Type 0} {n : _} {l : _} {o : _} where
-  -- a fresh pass
-  pub starts-alone : (start : Start) (part : Part H) (pass : Pass L O Start Made n l o) → IsFresh start pass → IsWorking part → StartsFrom start [] part pass
-  starts-alone start part pass fresh waits = record { opened = fresh.opened; knows = fresh.knows; ready = part-ready part [] (made_of pass) waits fresh.made }
-
-  -- a fresh pass that was told of a list
-  pub starts-told : (start : Start) (part : Part H) (old new : Pass L O Start Made n l o) (told : List Made) → IsFresh start old → home new ≡ home old → (length (known old) ≤ length told → known new ≡ told) → made_of new ≡ made_of old → IsWorking part → StartsFrom start told part new
-  starts-told start part old new told fresh opened newer made waits =
-      let none : length (known old) ≤ length told = let is = ap (λ (list : List Made). length list) fresh.knows in omega (arith, is) in
-      record {
-        opened = opened ∙ fresh.opened;
-        knows = newer none;
-        ready = part-ready part told (made_of new) waits (made ∙ fresh.made);
-      }
-
   -- the supervisor's pass
   pub starts-come : (start : Start) (old new : Pass L O Start Made n l o) (front : Front L O Start Made n l o) → IsFresh start old → home new ≡ home old → serving.HasCome coming old new front → StartsFrom {H = H} start (front_list front) Part.Desk new
   starts-come start old new front fresh opened come =

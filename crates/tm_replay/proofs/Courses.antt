@@ -2,12 +2,9 @@
 use Rattle.std.proofs.Common.{◌≡◌, List, [], ◌∷◌, ◌++◌, map, sym, ap, ◌∙◌, subst, append-nil}
 use Rattle.std.specs.Prelude.{Some}
 use Rattle.std.proofs.lemmas.List.{map-append}
-use Rattle.tm_types.specs.declared.step.Made.{Made}
-use Rattle.tm_types.specs.declared.step.Reply.{Reply}
+use Rattle.tm_rules.specs.Types.{Made, Reply}
 use Rattle.tm_machine.specs.Tomoyo.{tomoyo_grammar}
-use Rattle.tm_legal.specs.Steps.{Applied, opening, apply, after}
-use Rattle.tm_legal.specs.Run.{History}
-use Rattle.tm_legal.specs.Legal.{Replies}
+use Rattle.tm_legal.specs.Prelude.{Applied, History, Replies, after, apply, opening}
 use Rattle.tm_made.specs.Made.{told_from}
 use Rattle.tm_made.proofs.Telling.{told-again}
 use Rattle.tm_machine.specs.Machine as machine

@@ -3,14 +3,13 @@ use Rattle.std.proofs.Common.{◌≡◌, ◌<◌, ℕ, zero, suc, List, [], ◌�
 use Rattle.std.specs.Prelude.{⊤, Option, Some, None, slice_get, slice_index_or}
 use Rattle.std.specs.List.{AllByRecursion}
 use Rattle.std.specs.Option.{IfSome}
-use Rattle.tm_types.specs.declared.step.Book.{Book}
-use Rattle.tm_types.specs.declared.step.Made.{Made}
-use Rattle.tm_types.specs.declared.step.Start.{Start}
+use Rattle.tm_rules.specs.Types.{Book, Made, Start}
 use Rattle.tm_publish.specs.declared.pass.Pass.{Pass}
 use Rattle.tm_publish.specs.Words.{home, known, HasSeen, made_of}
 use Rattle.tm_seat.specs.Seats.{Begins}
 use Rattle.tm_seat.specs.declared.part.Part.{Part}
-use Rattle.tm_seat.specs.Parts.{deed, desk_parts, Deed, CanBegin, IsWorking, PartWaits, PassIsReady, PartIsReady, PartIsDone, EachPart}
+use Rattle.tm_take.specs.Each.{EachWith}
+use Rattle.tm_seat.specs.Parts.{deed, desk_parts, Deed, CanBegin, IsWorking, PartWaits, PassIsReady, PartIsReady, PartIsDone}
 use Rattle.tm_seat.proofs.Lists.{All-of, get-map, get-mapped, length-mapped}
 use Rattle.tm_replay.specs.Seats.{home_of}
 use Rattle.tm_replay.specs.Jobs.{IsJob, JobIsDone, JobStarts, deeds_of, EachIsDone}
@@ -41,7 +40,7 @@ index-get (y ∷ xs) zero x d at = some-is y x at
 index-get (y ∷ xs) (suc k) x d at = index-get xs k x d at
 
 -- two lists of one length, by their places
-each-of : {P A : Type 0} (Does : P → A → Type 0) (parts : List P) (deeds : List A) → length deeds ≡ length parts → ((k : ℕ) (part : P) (done : A) → slice_get parts k ≡ Some part → slice_get deeds k ≡ Some done → Does part done) → EachPart Does parts deeds
+each-of : {P A : Type 0} (Does : P → A → Type 0) (parts : List P) (deeds : List A) → length deeds ≡ length parts → ((k : ℕ) (part : P) (done : A) → slice_get parts k ≡ Some part → slice_get deeds k ≡ Some done → Does part done) → EachWith Does parts deeds
 each-of Does [] [] long h = tt
 each-of Does [] (done ∷ deeds) long h = absurd (omega (arith, long))
 each-of Does (part ∷ parts) [] long h = absurd (omega (arith, long))
@@ -145,9 +144,6 @@ module _ {L O H D : Type 0} {n : _} {l : _} {o : _} where
 
   -- all jobs, by what each has
   module _ {J : Type 0} (Did : Start → ℕ → H → Deed D → Type 0) (part_of : J → Option (Part H)) (pass_of : J → Option (Pass L O Start Made n l o)) (rows_of : J → Option (List D)) (start : Start) (book : Book) (attached : List Made) where
-    Ends : J → J → Type 0
-    Ends old new = JobEnds Did start book attached (part_of old) (pass_of new) (rows_of new)
-
     pub record Ended (parts : List (Part H)) (passes : List (Pass L O Start Made n l o)) : Type 0 where
       pub count : length passes ≡ length parts
       pub homes : AllByRecursion (λ (pass : Pass L O Start Made n l o). home pass ≡ Some start) passes

@@ -3,40 +3,25 @@ use Rattle.std.proofs.Common.{◌≡◌, ℕ, ◌+◌, List, [], ◌∷◌, ◌+
 use Rattle.std.specs.Prelude.{Option, Some, None, IsSome, is_some, option_map, unwrap_or, slice_get, take}
 use Rattle.std.specs.Option.{option_and_then, IfSome}
 use mathlib.Core.List.{IsPrefix}
-use Rattle.tm_rules.specs.Requests.{is_request}
-use Rattle.tm_rules.specs.Policy.{domain_at, profile_of}
-use Rattle.tm_rules.specs.Audit.{audit_text}
+use Rattle.tm_rules.specs.Prelude.{audit_text, domain_at, is_request, profile_of}
 use Rattle.tm_change_domains.specs.Standing.{Standing, StandsIn}
-use Rattle.tm_types.specs.declared.policy.Policy.{Policy}
-use Rattle.tm_types.specs.declared.policy.Profile.{Profile}
-use Rattle.tm_types.specs.declared.policy.Domain.{Domain}
-use Rattle.tm_types.specs.declared.verdict.Verdict.{Verdict}
-use Rattle.tm_types.specs.declared.request.Proc.{Proc}
-use Rattle.tm_types.specs.declared.request.Request.{Request}
-use Rattle.tm_types.specs.declared.step.Made.{Made}
-use Rattle.tm_types.specs.declared.step.Reply.{Reply}
-use Rattle.tm_types.specs.declared.step.Start.{Start}
+use Rattle.tm_rules.specs.Types.{Domain, Made, Policy, Proc, Profile, Reply, Request, Start, Verdict}
 use Rattle.tm_machine.specs.Tomoyo.{tomoyo_grammar}
 use Rattle.tm_machine.proofs.IsOne.{is_one}
-use Rattle.tm_legal.specs.Steps.{State, opening, apply, after}
-use Rattle.tm_legal.specs.Run.{Situation}
-use Rattle.tm_legal.specs.Legal.{Scene, Replies}
-use Rattle.tm_legal.specs.Play.{IsOpened}
-use Rattle.tm_legal.specs.Stages.{DomainIn}
-use Rattle.tm_legal.specs.Verdict.{verdict, verdict_in}
+use Rattle.tm_legal.specs.Prelude.{DomainIn, IsOpened, Replies, Scene, Situation, State, after, apply, opening, verdict, verdict_in}
 use Rattle.tm_made.specs.Made.{steps_made, told_from, start_in, EachFits}
 use Rattle.tm_made.proofs.Telling.{each-fitted, told-reply}
 use Rattle.tm_joint.specs.AtLists.{state_after}
 use Rattle.tm_joint.proofs.ListLaws.{looks-are-judged}
 use Rattle.tm_machine.specs.Office.{fits_at, fits_at_stays, reply_in}
-use Rattle.tm_core.specs.Judging.{verdict_at, judged}
-use Rattle.tm_core.specs.declared.judging.Judged.{Judged}
+use Rattle.tm_core.specs.Judging.{judged}
+use Rattle.tm_take.specs.Looking.{verdict_at}
+use Rattle.tm_take.specs.declared.judged.Judged.{Judged}
 use Rattle.tm_publish.specs.declared.event.Event.{Event}
 use Rattle.tm_publish.specs.declared.pass.Pass.{Pass}
 use Rattle.tm_publish.specs.History as history
 use Rattle.tm_publish.specs.declared.event.Event.TheVariants as event
 use Rattle.tm_publish.specs.Words.{home, known}
-use Rattle.tm_seat.specs.declared.seat.Shown.{Shown}
 use Rattle.tm_seat.specs.Seats.{scene_of, state_of, ShowsAt, FitsFrom, Begins, IsMade}
 use Rattle.tm_seat.proofs.Opening.{some-trace, fits-scene, state-scene}
 use Rattle.tm_replay.specs.Seats.{no_start, home_of}
@@ -115,7 +100,7 @@ verdict-there policy attached domain process request v h = of-domain (domain_at 
     of-domain (Some its) there h = of-profile its (profile_of policy its) there refl h
 
 -- what is judged at the state after a list is what a seat shows there
-pub shows-at : (start : Start) (list : List Made) (domain : ℕ) (process : Proc) (request : Request) (shown : Shown) (version : ℕ) → judged (state_of start list) domain process request ≡ Some (record { verdict = shown.verdict; audit = shown.audit }) → version ≡ length list → ShowsAt start list domain process request shown version
+pub shows-at : (start : Start) (list : List Made) (domain : ℕ) (process : Proc) (request : Request) (shown : Judged) (version : ℕ) → judged (state_of start list) domain process request ≡ Some shown → version ≡ length list → ShowsAt start list domain process request shown version
 shows-at start list domain process request shown version h at = go (verdict_at (state_of start list) domain process request) refl h
   where
     policy : Policy
@@ -124,10 +109,10 @@ shows-at start list domain process request shown version h at = go (verdict_at (
     its : Verdict → Judged
     its v = record { verdict = v; audit = audit_text tomoyo_grammar policy domain process request v }
 
-    go : (found : Option Verdict) → verdict_at (state_of start list) domain process request ≡ found → option_map its found ≡ Some (record { verdict = shown.verdict; audit = shown.audit }) → ShowsAt start list domain process request shown version
+    go : (found : Option Verdict) → verdict_at (state_of start list) domain process request ≡ found → option_map its found ≡ Some shown → ShowsAt start list domain process request shown version
     go None is none = absurd cc
     go (Some v) is same =
-        let both : its v ≡ record { verdict = shown.verdict; audit = shown.audit } = cc in
+        let both : its v ≡ shown = cc in
         let verdict_same : v ≡ shown.verdict = ap (λ (j : Judged). j.verdict) both in
         let audit_same : audit_text tomoyo_grammar policy domain process request v ≡ shown.audit = ap (λ (j : Judged). j.audit) both in
         record {
@@ -138,7 +123,7 @@ shows-at start list domain process request shown version h at = go (verdict_at (
         }
 
 -- the same of what a look may show
-pub shows-ok : (start start' : Start) (list : List Made) (domain : ℕ) (process : Proc) (request : Request) (found : Option Judged) (version : ℕ) (shown : Option (Shown × ℕ)) → start' ≡ start → found ≡ judged (state_of start list) domain process request → version ≡ length list → IfSome shown (λ j. found ≡ Some (record { verdict = j.0.verdict; audit = j.0.audit })) → IfSome shown (λ j. j.1 ≡ version) → IfSome shown (λ j. ShowsAt start' list domain process request j.0 j.1)
+pub shows-ok : (start start' : Start) (list : List Made) (domain : ℕ) (process : Proc) (request : Request) (found : Option Judged) (version : ℕ) (shown : Option (Judged × ℕ)) → start' ≡ start → found ≡ judged (state_of start list) domain process request → version ≡ length list → IfSome shown (λ j. found ≡ Some j.0) → IfSome shown (λ j. j.1 ≡ version) → IfSome shown (λ j. ShowsAt start' list domain process request j.0 j.1)
 shows-ok start start' list domain process request found version None same is at shown version_is = tt
 shows-ok start start' list domain process request found version (Some (shown, number)) same is at shown_is version_is =
     subst (λ (s : Start). ShowsAt s list domain process request shown number) (sym same) (shows-at start list domain process request shown number (sym is ∙ shown_is) (version_is ∙ at))

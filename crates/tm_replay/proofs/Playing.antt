@@ -1,38 +1,29 @@
 -- What a worker, an editor and the supervisor have done with their passes.
 use Rattle.std.proofs.Common.{◌≡◌, ◌≤◌, ◌<◌, ℕ, zero, suc, List, [], ◌∷◌, ◌++◌, length, take, Bool, refl, sym, ap, ◌∙◌, subst, arith, inl, inr, ◌⊎◌, ⊎_elim}
-use Rattle.std.specs.Prelude.{Option, Some, Result, Ok, Err, IfOk, IfSome, unwrap_or}
+use Rattle.std.specs.Prelude.{Option, Some, Result, Ok, Err, IfOk, IfSome}
 use Rattle.std.specs.List.{AllByRecursion}
 use Rattle.std.proofs.lemmas.List.{length-append}
 use mathlib.Core.List.{IsPrefix}
-use Rattle.tm_word.specs.Words.{Text}
-use Rattle.tm_types.specs.declared.step.Book.{Book}
-use Rattle.tm_types.specs.declared.step.FileKind.{FileKind}
-use Rattle.tm_types.specs.declared.step.Made.{Made}
-use Rattle.tm_types.specs.declared.step.Maker.{Maker}
-use Rattle.tm_types.specs.declared.step.Query.{Query}
-use Rattle.tm_types.specs.declared.step.Start.{Start}
-use Rattle.tm_types.specs.declared.step.Step.{Step}
-use Rattle.tm_rules.specs.Queries.{numbered, first_query}
-use Rattle.tm_rules.specs.Words.{Trace}
+use Rattle.tm_word.specs.Prelude.{Text}
+use Rattle.tm_rules.specs.Types.{Book, FileKind, Made, Maker, Query, Start, Step}
+use Rattle.tm_rules.specs.Prelude.{Trace, first_query, numbered}
 use Rattle.tm_machine.specs.Tomoyo.{tomoyo_grammar}
-use Rattle.tm_legal.specs.Legal.{Scene, RisesFrom}
-use Rattle.tm_legal.specs.Play.{all_ended}
-use Rattle.tm_legal.specs.Steps.{State, opening, after}
+use Rattle.tm_legal.specs.Prelude.{RisesFrom, Scene, State, after, all_ended, last_from, opening}
 use Rattle.tm_made.specs.Made.{start_in, state_made, steps_made}
 use Rattle.tm_joint.specs.Makers.{Claims}
-use Rattle.tm_joint.specs.Played.{LinesMade, DeskDid, last_from}
+use Rattle.tm_joint.specs.Played.{LinesMade, DeskDid}
 use Rattle.tm_joint.proofs.Rising.{RisesFrom-low}
 use Rattle.tm_machine.specs.Office.{by_desk}
 use Rattle.tm_machine.specs.Office as office
 use Rattle.tm_publish.specs.declared.pass.Pass.{Pass}
-use Rattle.tm_publish.specs.Words.{home, known, HasSeen}
+use Rattle.tm_publish.specs.Words.{known, HasSeen}
 use Rattle.tm_seat.specs.Seats.{scene_of, Begins, MadeBy}
 use Rattle.tm_serve.specs.Serving.{AnswersFrom, AllWasDone}
 use Rattle.tm_serve.proofs.Answering.{get_within, numbered_later}
 use Rattle.tm_serve.proofs.Did.{desk_did, first_in, over_in, answer_in}
 use Rattle.tm_seat.specs.Parts.{coming, ClaimedBy, HasCome, EditorDid, SupervisorDid}
 use Rattle.tm_seat.proofs.Working.{claimed}
-use Rattle.tm_replay.specs.Seats.{no_start, home_of}
+use Rattle.tm_replay.specs.Seats.{home_of}
 use Rattle.tm_replay.specs.Jobs.{GoesBack}
 use Rattle.tm_replay.proofs.Passes.{home-there}
 
@@ -42,9 +33,6 @@ if-ok P Q Z (Ok x) p q all = all x p q
 if-ok P Q Z (Err e) p q all = tt
 
 module _ {L O : Type 0} {n : _} {l : _} {o : _} where
-  pub home-same : (old new : Pass L O Start Made n l o) → home new ≡ home old → home_of new ≡ home_of old
-  home-same old new is = ap (λ (found : Option Start). unwrap_or found no_start) is
-
   -- a pass whose opening and list go on
   pub goes-back : (old new : Pass L O Start Made n l o) → home_of new ≡ home_of old → Begins (known old) (known new) → HasSeen new (known new) → GoesBack old new
   goes-back old new same grows has =

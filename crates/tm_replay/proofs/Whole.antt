@@ -4,18 +4,11 @@ use Rattle.std.specs.Prelude.{Option, Some, None, slice_get, slice_index_or, tak
 use Rattle.std.specs.List.{AllByRecursion}
 use Rattle.std.specs.Option.{IfSome}
 use Rattle.std.proofs.lemmas.List.{map-append}
-use Rattle.tm_types.specs.declared.step.Book.{Book}
-use Rattle.tm_types.specs.declared.step.Made.{Made}
-use Rattle.tm_types.specs.declared.step.Run.{Run}
-use Rattle.tm_types.specs.declared.step.Start.{Start}
-use Rattle.tm_types.specs.declared.step.Take.{Take}
-use Rattle.tm_rules.specs.Words.{Trace}
+use Rattle.tm_rules.specs.Types.{Book, Made, Run, Start, Take}
+use Rattle.tm_rules.specs.Prelude.{Trace}
 use Rattle.tm_machine.specs.Written.{IsTrace}
 use Rattle.tm_machine.specs.Tomoyo.{tomoyo_grammar}
-use Rattle.tm_legal.specs.Steps.{State, opening, after}
-use Rattle.tm_legal.specs.Run.{steps_of}
-use Rattle.tm_legal.specs.Legal.{Legal, Replies, NoLookBeforeAttach, opening_of, final_policy}
-use Rattle.tm_legal.specs.Play.{CanPlay}
+use Rattle.tm_legal.specs.Prelude.{CanPlay, Legal, NoLookBeforeAttach, Replies, State, after, final_policy, opening, opening_of, steps_of}
 use Rattle.tm_made.specs.Made.{history_made, told_from, steps_made}
 use Rattle.tm_made.proofs.Telling.{told-again}
 use Rattle.tm_joint.specs.Joint.{takes_in}
@@ -34,7 +27,8 @@ use Rattle.tm_seat.specs.Seats.{FitsFrom}
 use Rattle.tm_seat.specs.Rows.{row_of}
 use Rattle.tm_seat.specs.Dealing.{hand_of}
 use Rattle.tm_seat.specs.declared.part.Part.{Part}
-use Rattle.tm_seat.specs.Parts.{coming, trees_from, editor_parts, working_parts, desk_parts, CanBegin, IsWorking, PartWaits, PartIsDone, EachPart, Deed, PlayedTogether}
+use Rattle.tm_take.specs.Each.{EachWith}
+use Rattle.tm_seat.specs.Parts.{coming, trees_from, editor_parts, working_parts, desk_parts, CanBegin, IsWorking, PartWaits, PartIsDone, Deed, PlayedTogether}
 use Rattle.tm_seat.specs.Replayed.{scene_of, AreDealt, Replayed, run_of, ReplayedRunsAreLegal}
 use Rattle.tm_seat.proofs.Lists.{All-at, get-map, get-mapped}
 use Rattle.tm_replay.specs.Jobs.{IsJob, JobIsDone, StartsFrom, JobStarts, HasComing, EachIsDone, ArePlayed}
@@ -129,7 +123,7 @@ together Did start book hands parts course queues given are played replies left 
       come = played.come;
       begins = played.begins;
       deeds = played.deeds;
-      each = subst (λ (ps : List (Part _)). EachPart (PartIsDone Did start book (length played.attached)) ps played.deeds)
+      each = subst (λ (ps : List (Part _)). EachWith (PartIsDone Did start book (length played.attached)) ps played.deeds)
           (ap (λ (ps : List (Part _)). ps ++ desk_parts start.desk) are ∙ append_assoc (map Part.Worker hands) (editor_parts 1 start.editors) (desk_parts start.desk)) played.each;
       seen = played.seen;
       closed = played.closed;

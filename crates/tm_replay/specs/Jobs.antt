@@ -2,16 +2,15 @@
 use Rattle.std.specs.Prelude.{◌≡◌, ℕ, Bool, true, List, [], ◌∷◌, length, Option, Some, None}
 use Rattle.std.specs.Option.{IfSome}
 use Rattle.std.specs.List.{AllByRecursion}
-use Rattle.tm_types.specs.declared.step.Book.{Book}
-use Rattle.tm_types.specs.declared.step.Made.{Made}
-use Rattle.tm_types.specs.declared.step.Start.{Start}
-use Rattle.tm_rules.specs.Queries.{numbered}
+use Rattle.tm_rules.specs.Types.{Book, Made, Start}
+use Rattle.tm_rules.specs.Prelude.{numbered}
 use Rattle.tm_publish.specs.declared.front.Front.{Front}
 use Rattle.tm_publish.specs.declared.pass.Pass.{Pass}
 use Rattle.tm_publish.specs.Words.{home, known, HasSeen, made_of, front_home, front_list}
 use Rattle.tm_seat.specs.Seats.{Begins}
 use Rattle.tm_seat.specs.declared.part.Part.{Part}
-use Rattle.tm_seat.specs.Parts.{coming, deed, Deed, CanBegin, PartIsReady, PassIsReady, PartIsDone, EachPart}
+use Rattle.tm_take.specs.Each.{EachWith}
+use Rattle.tm_seat.specs.Parts.{coming, deed, Deed, CanBegin, PartIsReady, PassIsReady, PartIsDone}
 use Rattle.tm_replay.specs.Seats.{home_of}
 
 -- where a supervisor stands, its coming is in the list
@@ -91,7 +90,7 @@ module _ {L O : Type 0} {n : _} {l : _} {o : _} where
       (attached : List Made) (parts : List (Part H)) (passes : List (Pass L O Start Made n l o))
       (queues : List (List D)) : Type 0 where
     pub count : length queues ≡ length passes
-    pub each : EachPart (PartIsDone Did start book (length attached)) parts (deeds_of passes queues)
+    pub each : EachWith (PartIsDone Did start book (length attached)) parts (deeds_of passes queues)
 
   -- all parts were played, each of a pass that knew the supervisor's coming; nothing more is told
   -- where one of them failed

@@ -1,11 +1,8 @@
 -- What a pass at an engine on a machine knows, and what it is shown.
 use Rattle.std.specs.Prelude.{◌≡◌, ℕ, false, List, [], length, Option, unwrap_or}
-use Rattle.tm_types.specs.declared.request.Proc.{Proc}
-use Rattle.tm_types.specs.declared.request.Request.{Request}
-use Rattle.tm_types.specs.declared.step.Made.{Made}
-use Rattle.tm_types.specs.declared.step.Start.{Start}
+use Rattle.tm_rules.specs.Types.{Made, Proc, Request, Start}
 use Rattle.tm_core.specs.Judging.{judged}
-use Rattle.tm_core.specs.declared.judging.Judged.{Judged}
+use Rattle.tm_take.specs.declared.judged.Judged.{Judged}
 use Rattle.tm_publish.specs.declared.pass.Pass.{Pass}
 use Rattle.tm_publish.specs.Words.{home}
 use Rattle.tm_seat.specs.Seats.{state_of}

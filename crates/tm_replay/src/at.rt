@@ -12,7 +12,8 @@ use tm_office::Hall;
 use tm_publish::front::Named;
 use tm_publish::page::Sheet;
 use tm_publish::pass::Pass;
-use tm_seat::{Seat, Shown};
+use tm_seat::Seat;
+use tm_take::Judged;
 use tm_types::request::{Proc, Request};
 use tm_types::step::{Answered, Made, Reply, Settled};
 
@@ -49,7 +50,7 @@ impl<'a, W: Wait, L: Named, R: Rep, T: Sheet<L, Machine<R>>, G: Gate> Seat
         domain: u32,
         process: &Proc,
         request: &Request,
-    ) -> Result<(Shown, u64), NoMemory> {
+    ) -> Result<(Judged, u64), NoMemory> {
         look_at(
             self.rt,
             alloc,
@@ -67,7 +68,7 @@ impl<'a, W: Wait, L: Named, R: Rep, T: Sheet<L, Machine<R>>, G: Gate> Seat
         domain: u32,
         process: &Proc,
         request: &Request,
-    ) -> Result<Option<(Shown, u64)>, NoMemory> {
+    ) -> Result<Option<(Judged, u64)>, NoMemory> {
         look_if_there(
             self.rt,
             alloc,

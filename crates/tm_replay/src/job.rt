@@ -15,7 +15,7 @@ use tm_engine::gate::Gate;
 use tm_list::{NoMemory, Seq};
 use tm_machine::Machine;
 use tm_machine::rep::Rep;
-use tm_office::Office;
+use tm_office::{Hall, Office};
 use tm_publish::front::Named;
 use tm_publish::pass::Pass;
 use tm_seat::{Part, Seat, Work, play_editor};
@@ -31,33 +31,43 @@ pub(crate) struct Job<L: Named, O: Office, H, D> {
     pub(crate) rows: Option<Seq<D>>,
 }
 
+/// What is the same for all jobs of a replay: the runtime of its threads, where memory is taken, the
+/// engine, the desk, the gate, the way in which workers work, and whether a supervisor stands.
+#[derive(Drop)]
+pub(crate) struct Field<'a, 'b, L: Named, O: Hall, F, W, G, K> {
+    pub(crate) rt: &'a W,
+    pub(crate) alloc: Global,
+    pub(crate) engine: &'a Engine<L, O>,
+    pub(crate) desk: &'a Desk<'b, F>,
+    pub(crate) gate: &'a G,
+    pub(crate) way: &'a K,
+    pub(crate) supervised: bool,
+}
+
 // A worker's hand.
-fn run_worker<L: Named, R: Rep, W: Wait, G: Gate, H, D, K: Work<H, D>>(
-    rt: &W,
-    alloc: Global,
-    engine: &Engine<L, Machine<R>>,
-    gate: &G,
-    way: &K,
+fn run_worker<L: Named, R: Rep, F, W: Wait, G: Gate, H, D, K: Work<H, D>>(
+    field: &Field<'_, '_, L, Machine<R>, F, W, G, K>,
     pass: Pass<L, Machine<R>>,
     hand: H,
-    supervised: bool,
 ) -> (Pass<L, Machine<R>>, Result<Vec<D>, NoMemory>)
     requires can { CanBegin (home_of pass) }
-    requires stands { supervised ≡ (home_of pass).desk }
-    requires ready { K.ready way.now (home_of pass) hand }
+    requires stands { field.now.supervised ≡ (home_of pass).desk }
+    requires ready { K.ready field.now.way.now (home_of pass) hand }
     requires made { made_of pass ≡ [] }
-    ensures did { IfOk result.1 (λ rows. K.did way.now (home_of pass) (length (known pass)) hand
+    ensures did { IfOk result.1 (λ rows. K.did field.now.way.now (home_of pass) (length (known pass)) hand
         (deed (known result.0) (made_of result.0) rows.items)) }
     ensures back { GoesBack pass result.0 }
 {
     let mut seat = At {
-        rt,
-        engine,
+        rt: field.rt,
+        engine: field.engine,
         pass,
-        gate,
+        gate: field.gate,
     };
     seat.arrive(0);
-    let rows = way.work(rt, &mut seat, alloc, hand, supervised);
+    let rows = field
+        .way
+        .work(field.rt, &mut seat, field.alloc, hand, field.supervised);
     let At {
         rt: _,
         engine: _,
@@ -69,11 +79,8 @@ fn run_worker<L: Named, R: Rep, W: Wait, G: Gate, H, D, K: Work<H, D>>(
 }
 
 // An editor's lines.
-fn run_editor<L: Named, R: Rep, W: Wait, G: Gate>(
-    rt: &W,
-    alloc: Global,
-    engine: &Engine<L, Machine<R>>,
-    gate: &G,
+fn run_editor<L: Named, R: Rep, F, W: Wait, G: Gate, K>(
+    field: &Field<'_, '_, L, Machine<R>, F, W, G, K>,
     pass: Pass<L, Machine<R>>,
     editor: u32,
     lines: Seq<(FileKind, Text)>,
@@ -85,13 +92,13 @@ fn run_editor<L: Named, R: Rep, W: Wait, G: Gate>(
     ensures back { GoesBack pass result.0 }
 {
     let mut seat = At {
-        rt,
-        engine,
+        rt: field.rt,
+        engine: field.engine,
         pass,
-        gate,
+        gate: field.gate,
     };
     seat.arrive(0);
-    let done = play_editor(&mut seat, alloc, editor, lines);
+    let done = play_editor(&mut seat, field.alloc, editor, lines);
     let At {
         rt: _,
         engine: _,
@@ -103,21 +110,18 @@ fn run_editor<L: Named, R: Rep, W: Wait, G: Gate>(
 }
 
 // The supervisor's answers, and its leaving.
-fn run_desk<L: Named, R: Rep, F: Fn(&Query) -> u64, W: Wait>(
-    rt: &W,
-    alloc: Global,
-    engine: &Engine<L, Machine<R>>,
-    desk: &Desk<'_, F>,
+fn run_desk<L: Named, R: Rep, F: Fn(&Query) -> u64, W: Wait, G, K>(
+    field: &Field<'_, '_, L, Machine<R>, F, W, G, K>,
     pass: &mut Pass<L, Machine<R>>,
 ) -> Result<(), NoMemory>
-    requires desk { IsDesk F.Fn desk.now }
+    requires desk { IsDesk F.Fn field.now.desk.now }
     requires come { HasCome (known pass.old) (made_of pass.old) }
-    ensures did { OnOk result (SupervisorDid (home_of pass.old) (desk_book desk.now)
+    ensures did { OnOk result (SupervisorDid (home_of pass.old) (desk_book field.now.desk.now)
         (known pass.new) (made_of pass.new)) }
     ensures back { GoesBack pass.old pass.new }
 {
     pass.seen();
-    let served = serve(rt, alloc, engine, pass, desk);
+    let served = serve(field.rt, field.alloc, field.engine, pass, field.desk);
     pass.seen();
     match served {
         Ok(_) => Ok(()),
@@ -127,37 +131,31 @@ fn run_desk<L: Named, R: Rep, F: Fn(&Query) -> u64, W: Wait>(
 
 // A part, with a pass that is given back.
 fn run_part<L: Named, R: Rep, F: Fn(&Query) -> u64, W: Wait, G: Gate, H, D: Drop, K: Work<H, D>>(
-    rt: &W,
-    alloc: Global,
-    engine: &Engine<L, Machine<R>>,
-    desk: &Desk<'_, F>,
-    gate: &G,
-    way: &K,
-    supervised: bool,
+    field: &Field<'_, '_, L, Machine<R>, F, W, G, K>,
     part: Part<H>,
     pass: Pass<L, Machine<R>>,
 ) -> (Pass<L, Machine<R>>, Option<Seq<D>>)
-    requires desk { IsDesk F.Fn desk.now }
-    requires given { IsGiven (K.ready way.now) supervised part pass }
-    ensures { IsPlayedOut (K.did way.now) (desk_book desk.now) part pass result.0 result.1 }
+    requires desk { IsDesk F.Fn field.now.desk.now }
+    requires given { IsGiven (K.ready field.now.way.now) field.now.supervised part pass }
+    ensures { IsPlayedOut (K.did field.now.way.now) (desk_book field.now.desk.now) part pass result.0 result.1 }
 {
     match part {
         Part::Worker(hand) => {
-            match run_worker(rt, alloc, engine, gate, way, pass, hand, supervised) {
+            match run_worker(field, pass, hand) {
                 (pass, Ok(rows)) => (pass, Some(Seq::from_vec(rows))),
                 (pass, Err(_)) => (pass, None),
             }
         }
         Part::Editor(editor, lines) => {
-            match run_editor(rt, alloc, engine, gate, pass, editor, lines) {
-                (pass, Ok(())) => (pass, Some(Seq::new(alloc))),
+            match run_editor(field, pass, editor, lines) {
+                (pass, Ok(())) => (pass, Some(Seq::new(field.alloc))),
                 (pass, Err(_)) => (pass, None),
             }
         }
         Part::Desk => {
             let mut pass = pass;
-            match run_desk(rt, alloc, engine, desk, &mut pass) {
-                Ok(()) => (pass, Some(Seq::new(alloc))),
+            match run_desk(field, &mut pass) {
+                Ok(()) => (pass, Some(Seq::new(field.alloc))),
                 Err(_) => (pass, None),
             }
         }
@@ -175,19 +173,10 @@ pub(crate) fn run_job<
     H: Drop,
     D: Drop,
     K: Work<H, D>,
->(
-    rt: &W,
-    alloc: Global,
-    engine: &Engine<L, Machine<R>>,
-    desk: &Desk<'_, F>,
-    gate: &G,
-    way: &K,
-    supervised: bool,
-    job: &mut Job<L, Machine<R>, H, D>,
-)
-    requires desk { IsDesk F.Fn desk.now }
-    requires given { IsJob (K.ready way.now) supervised job.old.part job.old.pass }
-    ensures { JobIsDone (K.did way.now) (desk_book desk.now) job.old.part job.old.pass
+>(field: &Field<'_, '_, L, Machine<R>, F, W, G, K>, job: &mut Job<L, Machine<R>, H, D>)
+    requires desk { IsDesk F.Fn field.now.desk.now }
+    requires given { IsJob (K.ready field.now.way.now) field.now.supervised job.old.part job.old.pass }
+    ensures { JobIsDone (K.did field.now.way.now) (desk_book field.now.desk.now) job.old.part job.old.pass
         job.new.pass job.new.rows }
 {
     let Some(part) = job.part.take() else {
@@ -196,9 +185,9 @@ pub(crate) fn run_job<
     let Some(pass) = job.pass.take() else {
         unreachable!()
     };
-    let (pass, rows) = run_part(rt, alloc, engine, desk, gate, way, supervised, part, pass);
+    let (pass, rows) = run_part(field, part, pass);
     if rows.is_none() {
-        engine.stop(rt);
+        field.engine.stop(field.rt);
     }
     job.pass = Some(pass);
     job.rows = rows;

@@ -1,8 +1,7 @@
 //! All jobs of a replay: how they begin, how they are played beside each other, and what is left.
 ghost use Rattle.std.specs.Prelude.{◌≡◌, ◌<◌, ◌++◌, ◌∷◌, [], ℕ, List, length, map, Some, None, true, false, IfOk, OnOk, IfSome, MatchOption, slice_index_or};
 ghost use Rattle.std.specs.List.{AllByRecursion};
-ghost use Rattle.tm_types.specs.declared.step.Made.{Made};
-ghost use Rattle.tm_types.specs.declared.step.Start.{Start};
+ghost use Rattle.tm_rules.specs.Types.{Made, Start};
 ghost use Rattle.tm_desk.specs.Desks.{desk_book, IsDesk};
 ghost use Rattle.tm_publish.specs.Words.{IsFresh};
 ghost use Rattle.tm_seat.specs.Parts.{IsWorking};
@@ -10,13 +9,12 @@ ghost use Rattle.tm_seat.specs.declared.part.Part.{Part};
 ghost use Rattle.tm_replay.specs.Jobs.{IsJob, JobIsDone, JobStarts, told_of, IsFrontOf, StartsFrom};
 ghost use Rattle.tm_replay.specs.Beginnings.{AreGiven, HaveBegun};
 
-use crate::job::{Job, run_job};
+use crate::job::{Field, Job, run_job};
 use std::alloc::Global;
 use std::collections::VecDeque;
 use std::sync::Wait;
 use std::thread::Threads;
 use tm_beside::call_together;
-use tm_desk::Desk;
 use tm_engine::engine::Engine;
 use tm_engine::gate::Gate;
 use tm_list::{NoMemory, Seq};
@@ -198,37 +196,31 @@ pub(crate) fn run_jobs<
     D: Send + Drop,
     K: Work<H, D> + Sync,
 >(
-    rt: &W,
-    alloc: Global,
-    engine: &Engine<L, Machine<R>>,
-    desk: &Desk<'_, F>,
-    gate: &G,
-    way: &K,
-    supervised: bool,
+    field: &Field<'_, '_, L, Machine<R>, F, W, G, K>,
     jobs: Vec<Job<L, Machine<R>, H, D>>,
 ) -> Vec<Job<L, Machine<R>, H, D>>
-    requires desk { IsDesk F.Fn desk.now }
+    requires desk { IsDesk F.Fn field.now.desk.now }
     requires given { (k : ℕ) (d : _) → k < length jobs.items
-        → IsJob (K.ready way.now) supervised (slice_index_or jobs.items k d).part
+        → IsJob (K.ready field.now.way.now) field.now.supervised (slice_index_or jobs.items k d).part
         (slice_index_or jobs.items k d).pass }
     ensures count { length result.items ≡ length jobs.items }
     ensures done { (k : ℕ) (d : _) → k < length jobs.items
-        → JobIsDone (K.did way.now) (desk_book desk.now) (slice_index_or jobs.items k d).part
+        → JobIsDone (K.did field.now.way.now) (desk_book field.now.desk.now) (slice_index_or jobs.items k d).part
         (slice_index_or jobs.items k d).pass (slice_index_or result.items k d).pass
         (slice_index_or result.items k d).rows }
 {
     call_together(
-        rt,
+        field.rt,
         jobs,
         &|_place: usize, job: &mut Job<L, Machine<R>, H, D>|
-            requires desk { IsDesk F.Fn desk.now }
-            requires given { IsJob (K.ready way.now) supervised job.old.part job.old.pass }
-            ensures { JobIsDone (K.did way.entry.now) (desk_book desk.entry.now) job.old.part
+            requires desk { IsDesk F.Fn field.now.desk.now }
+            requires given { IsJob (K.ready field.now.way.now) field.now.supervised job.old.part job.old.pass }
+            ensures { JobIsDone (K.did field.entry.now.way.now) (desk_book field.entry.now.desk.now) job.old.part
                 job.old.pass job.new.pass job.new.rows }
-        { run_job(rt, alloc, engine, desk, gate, way, supervised, job) },
+        { run_job(field, job) },
         &|| {
-            if supervised {
-                engine.stop(rt);
+            if field.supervised {
+                field.engine.stop(field.rt);
             }
         },
     )

@@ -6,7 +6,8 @@ use std::alloc::{AllocError, Global};
 use tm_list::NoMemory;
 use tm_machine::Machine;
 use tm_machine::rep::Rep;
-use tm_seat::{Seat, Shown};
+use tm_seat::Seat;
+use tm_take::Judged;
 use tm_types::request::{Proc, Request};
 use tm_types::step::{Answered, Made, Reply, Settled};
 
@@ -52,7 +53,7 @@ impl<R: Rep> Seat for Lone<R> {
         domain: u32,
         process: &Proc,
         request: &Request,
-    ) -> Result<(Shown, u64), NoMemory> {
+    ) -> Result<(Judged, u64), NoMemory> {
         self.machine.versions();
         match judge_at(alloc, &self.machine, domain, process, request) {
             Ok(found) => Ok((shown(found), self.machine.version())),
@@ -66,7 +67,7 @@ impl<R: Rep> Seat for Lone<R> {
         domain: u32,
         process: &Proc,
         request: &Request,
-    ) -> Result<Option<(Shown, u64)>, NoMemory> {
+    ) -> Result<Option<(Judged, u64)>, NoMemory> {
         self.machine.versions();
         match judge_at(alloc, &self.machine, domain, process, request) {
             Ok(found) => Ok(shown_if_there(found, self.machine.version())),

@@ -1,23 +1,22 @@
 //! Looks of a pass at an engine on a machine.
 ghost use Rattle.std.specs.Prelude.{◌≡◌, List, Some, true, IfOk, IfSome, IsSome, IsTrue, length};
-ghost use Rattle.tm_types.specs.declared.step.Made.{Made};
-ghost use Rattle.tm_types.specs.declared.step.Start.{Start};
-ghost use Rattle.tm_rules.specs.Requests.{is_request};
+ghost use Rattle.tm_rules.specs.Types.{Made, Start};
+ghost use Rattle.tm_rules.specs.Prelude.{is_request};
 ghost use Rattle.tm_machine.specs.Tomoyo.{tomoyo_grammar};
-ghost use Rattle.tm_legal.specs.Play.{IsNamed, IsOpened};
-ghost use Rattle.tm_legal.specs.Stages.{DomainIn};
+ghost use Rattle.tm_legal.specs.Prelude.{DomainIn, IsNamed, IsOpened};
 ghost use Rattle.tm_made.specs.Made.{EachFits};
 ghost use Rattle.tm_machine.specs.Office.{list_of};
 ghost use Rattle.tm_core.specs.Judging.{judged};
 ghost use Rattle.tm_publish.specs.Words.{home, known, HasSeen, made_of};
-ghost use Rattle.tm_seat.specs.Seats.{state_of, verdict_at, audit_at, ShowsAt, FitsFrom, Begins};
+ghost use Rattle.tm_take.specs.Looking.{verdict_at};
+ghost use Rattle.tm_seat.specs.Seats.{state_of, audit_at, ShowsAt, FitsFrom, Begins};
 ghost use Rattle.tm_replay.specs.Seats.{home_of, IsLookAt};
 
 use std::alloc::Global;
 use std::sync::Wait;
 use std::thread;
 use tm_change_domains::standing_at;
-use tm_core::{Judged, judge};
+use tm_core::judge;
 use tm_engine::engine::EngineOf;
 use tm_list::NoMemory;
 use tm_machine::Machine;
@@ -25,7 +24,7 @@ use tm_machine::rep::Rep;
 use tm_publish::front::Named;
 use tm_publish::page::Sheet;
 use tm_publish::pass::Pass;
-use tm_seat::Shown;
+use tm_take::Judged;
 use tm_types::request::{Proc, Request};
 
 // A judgement at the machine's newest version, by its list of steps.
@@ -197,25 +196,20 @@ fn look<L: Named, R: Rep, T: Sheet<L, Machine<R>>, W: Wait>(
 }
 
 // What a look shows with its version, if the domain is there.
-pub(crate) fn shown_if_there(found: Option<Judged>, version: u64) -> Option<(Shown, u64)>
-    ensures shown { IfSome result (λ j.
-        found ≡ Some (record { verdict = j.0.verdict; audit = j.0.audit })) }
+pub(crate) fn shown_if_there(found: Option<Judged>, version: u64) -> Option<(Judged, u64)>
+    ensures shown { IfSome result (λ j. found ≡ Some j.0) }
     ensures version { IfSome result (λ j. j.1 ≡ version) }
 {
-    let Judged { verdict, audit } = found?;
-    Some((Shown { verdict, audit }, version))
+    Some((found?, version))
 }
 
 // What a look shows, where the domain is there.
-pub(crate) fn shown(found: Option<Judged>) -> Shown
+pub(crate) fn shown(found: Option<Judged>) -> Judged
     requires { IsSome found }
-    ensures { found ≡ Some (record { verdict = result.verdict; audit = result.audit }) }
+    ensures { found ≡ Some result }
 {
     match found {
-        Some(judged) => {
-            let Judged { verdict, audit } = judged;
-            Shown { verdict, audit }
-        }
+        Some(judged) => judged,
         None => unreachable!(),
     }
 }
@@ -232,7 +226,7 @@ pub(crate) fn look_at<L: Named, R: Rep, T: Sheet<L, Machine<R>>, W: Wait>(
     domain: u32,
     process: &Proc,
     request: &Request,
-) -> Result<(Shown, u64), NoMemory>
+) -> Result<(Judged, u64), NoMemory>
     requires opened { IsOpened (home_of pass.old).policy }
     requires named { IsNamed tomoyo_grammar.is_path (home_of pass.old).policy }
     requires asked { is_request tomoyo_grammar.is_path request.now ≡ true }
@@ -269,7 +263,7 @@ pub(crate) fn look_if_there<L: Named, R: Rep, T: Sheet<L, Machine<R>>, W: Wait>(
     domain: u32,
     process: &Proc,
     request: &Request,
-) -> Result<Option<(Shown, u64)>, NoMemory>
+) -> Result<Option<(Judged, u64)>, NoMemory>
     requires named { IsNamed tomoyo_grammar.is_path (home_of pass.old).policy }
     requires asked { is_request tomoyo_grammar.is_path request.now ≡ true }
     ensures fitted { IfOk result (λ found. FitsFrom (home_of pass.new) (known pass.new)) }

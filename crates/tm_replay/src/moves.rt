@@ -1,8 +1,8 @@
 //! Steps of a pass at an engine on a machine, and the answers that it hears.
 ghost use Rattle.std.specs.Prelude.{◌≡◌, ◌++◌, ◌∷◌, [], Some, IfOk, OnErr, IsSome, length};
-ghost use Rattle.tm_rules.specs.Queries.{answer_of};
+ghost use Rattle.tm_rules.specs.Prelude.{answer_of};
 ghost use Rattle.tm_machine.specs.Tomoyo.{tomoyo_grammar};
-ghost use Rattle.tm_legal.specs.Steps.{apply};
+ghost use Rattle.tm_legal.specs.Prelude.{apply};
 ghost use Rattle.tm_publish.specs.Words.{home, known, made_of};
 ghost use Rattle.tm_seat.specs.Seats.{state_of, FitsFrom, Begins, IsMade};
 ghost use Rattle.tm_replay.specs.Seats.{home_of};

@@ -1,12 +1,10 @@
 //! A trace played at an engine, from its opening to its closing.
 ghost use Rattle.std.specs.Prelude.{◌≡◌, ◌<◌, ◌≤◌, ◌+◌, ◌++◌, ℕ, [], length, map, Some, IfOk, OnOk, IfSome, if◌then◌else◌};
-ghost use Rattle.tm_types.specs.declared.step.Start.{Start};
+ghost use Rattle.tm_rules.specs.Types.{Start};
 ghost use Rattle.std.specs.List.{AllByRecursion};
-ghost use Rattle.tm_rules.specs.Few.{IsFew};
+ghost use Rattle.tm_rules.specs.Prelude.{IsFew};
 ghost use Rattle.tm_machine.specs.Written.{IsTrace};
-ghost use Rattle.tm_legal.specs.Legal.{Legal, NoLookBeforeAttach, final_policy};
-ghost use Rattle.tm_legal.specs.Play.{CanPlay};
-ghost use Rattle.tm_legal.specs.Steps.{opening};
+ghost use Rattle.tm_legal.specs.Prelude.{CanPlay, Legal, NoLookBeforeAttach, final_policy, opening};
 ghost use Rattle.tm_core.specs.Scenes.{scene_of};
 ghost use Rattle.tm_desk.specs.Desks.{desk_book, IsDesk};
 ghost use Rattle.tm_publish.specs.Boards.{Names, blank_parts};
@@ -20,6 +18,7 @@ ghost use Rattle.tm_seat.specs.Replayed.{Replayed};
 ghost use Rattle.tm_replay.specs.Jobs.{ArePlayed};
 ghost use Rattle.tm_replay.specs.Replays.{AreAllPlayed};
 
+use crate::job::Field;
 use crate::jobs::{begin_jobs, run_jobs, take_apart};
 use std::alloc::{AllocError, Global};
 use std::marker::Brand;
@@ -123,7 +122,16 @@ fn play_at<
         r.0.items r.1) }
 {
     let jobs = begin_jobs(rt, alloc, engine, parts, passes, supervised)?;
-    let done = run_jobs(rt, alloc, engine, desk, gate, way, supervised, jobs);
+    let field = Field {
+        rt,
+        alloc,
+        engine,
+        desk,
+        gate,
+        way,
+        supervised,
+    };
+    let done = run_jobs(&field, jobs);
     take_apart(alloc, done)
 }
 

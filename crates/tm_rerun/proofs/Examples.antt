@@ -1,12 +1,9 @@
 -- Worked examples: quiet lines, and clean steps.
 use Rattle.std.proofs.Common.{◌≡◌, true, false, refl}
 use Rattle.std.specs.Prelude.{codes}
-use Rattle.tm_word.specs.Spelling.{words_of}
-use Rattle.tm_types.specs.declared.step.FileKind.{FileKind}
-use Rattle.tm_types.specs.declared.step.Step.{Step}
-use Rattle.tm_types.specs.declared.step.EditReply.{EditReply}
-use Rattle.tm_types.specs.declared.step.Reply.{Reply}
-use Rattle.tm_rules.specs.Clean.{is_quiet, is_clean_step}
+use Rattle.tm_word.specs.Prelude.{words_of}
+use Rattle.tm_rules.specs.Types.{EditReply, FileKind, Reply, Step}
+use Rattle.tm_rules.specs.Prelude.{is_clean_step, is_quiet}
 
 -- an ACL line is quiet without execute among its permissions
 pub quiet_acl : is_quiet FileKind.Domain (codes " file read/write /a") ≡ true

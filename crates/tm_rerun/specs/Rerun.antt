@@ -1,7 +1,7 @@
 -- The line that a rerun adds to a summary.
 use Rattle.std.specs.Prelude.{Bool, ◌∷◌, [], ◌++◌, length, decimal, codes}
-use Rattle.tm_word.specs.Words.{Text}
-use Rattle.tm_types.specs.declared.step.Run.{Run}
+use Rattle.tm_word.specs.Prelude.{Text}
+use Rattle.tm_rules.specs.Types.{Run}
 use Rattle.tm_rerun.specs.Summary.{yes_or_no, counts_text}
 
 -- the line of a rerun's run, and of whether its processes are in the domains that they were in

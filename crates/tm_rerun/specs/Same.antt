@@ -1,9 +1,8 @@
 -- The names of the domains that a take is in.
 use Rattle.std.specs.Prelude.{Option}
-use Rattle.tm_rules.specs.Words.{DomainName}
-use Rattle.tm_types.specs.declared.policy.Policy.{Policy}
-use Rattle.tm_types.specs.declared.step.Take.{Take}
-use Rattle.tm_legal.specs.Clean.{name_at}
+use Rattle.tm_rules.specs.Prelude.{DomainName}
+use Rattle.tm_rules.specs.Types.{Policy, Take}
+use Rattle.tm_legal.specs.Prelude.{name_at}
 
 -- before and after a take, as the final policy of its run gives them
 abbrev pub take_names : Policy → Take → Option DomainName × Option DomainName

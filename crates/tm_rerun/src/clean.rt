@@ -1,7 +1,7 @@
 //! Clean runs.
 ghost use Rattle.std.specs.Prelude.{◌≡◌};
 ghost use Rattle.std.specs.List.{list_all};
-ghost use Rattle.tm_rules.specs.Clean.{is_calm_mode, is_quota, is_clean_look, is_clean_take, is_clean_step, is_clean};
+ghost use Rattle.tm_rules.specs.Prelude.{is_calm_mode, is_clean, is_clean_look, is_clean_step, is_clean_take, is_quota};
 
 use crate::quiet::is_quiet;
 use tm_types::policy::Mode;

@@ -1,5 +1,6 @@
 //! What is said of a whole run, and of its opening: whether it is clean, or plain, and its summary.
 //! Stands on tm_rules and tm_legal, whose definitions it computes, on tm_word and on tm_number.
+//! Of its own, on no player: it needs a run and a policy, however they came.
 //! Promises that each answer is the one of its definition, for every run and every policy.
 #![tactic(auto)]
 

@@ -1,8 +1,7 @@
 //! Whether a policy is plain: nothing is executed under conditions that learning doesn't write.
 ghost use Rattle.std.specs.Prelude.{◌≡◌};
 ghost use Rattle.std.specs.List.{list_all};
-ghost use Rattle.tm_rules.specs.Policy.{has_permission};
-ghost use Rattle.tm_rules.specs.Clean.{is_plain_clause, lets_execute, is_plain_entry, is_plain_domain, are_plain_groups, is_plain};
+ghost use Rattle.tm_rules.specs.Prelude.{are_plain_groups, has_permission, is_plain, is_plain_clause, is_plain_domain, is_plain_entry, lets_execute};
 
 use tm_list::Seq;
 use tm_types::entry::{Args, Attr, Clause, Entry};

@@ -1,8 +1,8 @@
 //! Quiet edits: those that can't change where an execute leads or what a mode is.
 ghost use Rattle.std.specs.Prelude.{◌≡◌, ◌==◌, [], ◌∷◌, codes};
 ghost use Rattle.std.specs.List.{slice_split};
-ghost use Rattle.tm_word.specs.Spelling.{words_of};
-ghost use Rattle.tm_rules.specs.Clean.{is_one_of, is_quiet_acl, is_quiet_group, without_namespace, is_quiet_line, is_quiet};
+ghost use Rattle.tm_word.specs.Prelude.{words_of};
+ghost use Rattle.tm_rules.specs.Prelude.{is_one_of, is_quiet, is_quiet_acl, is_quiet_group, is_quiet_line, without_namespace};
 
 use tm_types::step::FileKind;
 use tm_word::{begins_with, bytes_equal, cut_word};

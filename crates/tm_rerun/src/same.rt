@@ -1,6 +1,6 @@
 //! Runs whose processes are in the same domains.
 ghost use Rattle.std.specs.Prelude.{◌≡◌, ◌↔◌, IsTrue};
-ghost use Rattle.tm_legal.specs.Clean.{name_at, SameDomains};
+ghost use Rattle.tm_legal.specs.Prelude.{SameDomains, name_at};
 ghost use Rattle.tm_rerun.specs.Same.{take_names};
 
 use tm_list::Same;

@@ -1,10 +1,7 @@
 //! Policies with their profiles enforcing.
 ghost use Rattle.std.specs.Prelude.{◌≡◌, ℕ, IfOk, map};
-ghost use Rattle.tm_types.specs.declared.policy.Config.{Config};
-ghost use Rattle.tm_types.specs.declared.policy.Profile.{Profile};
-ghost use Rattle.tm_types.specs.declared.policy.SlotName.{SlotName};
-ghost use Rattle.tm_types.specs.declared.policy.Namespace.{Namespace};
-ghost use Rattle.tm_legal.specs.Clean.{switched_mode, switched_config, switched_profile, switched};
+ghost use Rattle.tm_rules.specs.Types.{Config, Namespace, Profile, SlotName};
+ghost use Rattle.tm_legal.specs.Prelude.{switched, switched_config, switched_mode, switched_profile};
 
 use std::alloc::Global;
 use tm_list::{Copied, Map, NoMemory, Seq};

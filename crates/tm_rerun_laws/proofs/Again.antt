@@ -2,30 +2,10 @@
 -- look.
 use Rattle.std.proofs.Common.{◌≡◌, ℕ, List, [], Bool, true, false, true≢false, refl, sym, ap, ◌∙◌}
 use Rattle.std.specs.Prelude.{Option, Some, None, ◌&&◌, ◌||◌, not, if◌then◌else◌, is_some}
-use Rattle.tm_word.specs.Words.{Text}
-use Rattle.tm_rules.specs.Words.{DomainName}
-use Rattle.tm_types.specs.declared.entry.Entry.{Entry}
-use Rattle.tm_types.specs.declared.policy.Mode.{Mode}
-use Rattle.tm_types.specs.declared.policy.Namespace.{Namespace}
-use Rattle.tm_types.specs.declared.policy.Domain.{Domain}
-use Rattle.tm_types.specs.declared.policy.Policy.{Policy}
-use Rattle.tm_types.specs.declared.request.Request.{Request}
-use Rattle.tm_types.specs.declared.step.Step.{Step}
-use Rattle.tm_types.specs.declared.step.Heard.{Heard}
-use Rattle.tm_types.specs.declared.step.Look.{Look}
-use Rattle.tm_types.specs.declared.verdict.Reason.{Reason}
-use Rattle.tm_types.specs.declared.verdict.Move.{Move}
-use Rattle.tm_types.specs.declared.verdict.Verdict.{Verdict}
-use Rattle.tm_rules.specs.Clean.{is_calm_mode, is_quota}
-use Rattle.tm_rules.specs.Condition.{is_execute}
-use Rattle.tm_rules.specs.Learned.{line_of}
-use Rattle.tm_rules.specs.Search.{Granting}
-use Rattle.tm_rules.specs.Transition.{decision, is_strict, can_enter}
-use Rattle.tm_rules.specs.Grammar.{Grammar}
-use Rattle.tm_legal.specs.Legal.{grants_with, steps_asked}
-use Rattle.tm_legal.specs.Verdict.{is_enforcing, denied, made, moving, by_entry, with_line, by_mode, move_to, is_ready, execute_verdict, in_mode, is_granting}
-use Rattle.tm_legal.specs.Clean.{switched_mode}
-use Rattle.tm_legal.specs.Replay.{is_repeated}
+use Rattle.tm_word.specs.Prelude.{Text}
+use Rattle.tm_rules.specs.Prelude.{DomainName, Grammar, Granting, can_enter, decision, is_calm_mode, is_execute, is_quota, is_strict, line_of}
+use Rattle.tm_rules.specs.Types.{Domain, Entry, Heard, Look, Mode, Move, Namespace, Policy, Reason, Request, Step, Verdict}
+use Rattle.tm_legal.specs.Prelude.{by_entry, by_mode, denied, execute_verdict, grants_with, in_mode, is_enforcing, is_granting, is_ready, is_repeated, made, move_to, moving, steps_asked, switched_mode, with_line}
 use Rattle.tm_rerun_laws.proofs.SameWay.{way_of}
 use Rattle.tm_rerun_laws.proofs.Lands.{Arrives}
 

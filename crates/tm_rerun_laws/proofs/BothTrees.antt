@@ -1,15 +1,9 @@
 -- Both runs' walks through all trees, side by side.
 use Rattle.std.proofs.Common.{◌≡◌, ℕ, zero, suc, ◌+◌, List, [], ◌∷◌, ◌++◌, length, take, drop, refl, ap, ◌∙◌, arith, length-append}
 use Rattle.std.specs.List.{AllByRecursion}
-use Rattle.tm_rules.specs.Words.{Trace}
-use Rattle.tm_types.specs.declared.policy.Policy.{Policy}
-use Rattle.tm_types.specs.declared.request.Item.{Item}
-use Rattle.tm_types.specs.declared.request.Tree.{Tree}
-use Rattle.tm_types.specs.declared.step.Take.{Take}
-use Rattle.tm_rules.specs.Grammar.{Grammar}
-use Rattle.tm_rules.specs.Policy.{live_domain}
-use Rattle.tm_legal.specs.Run.{Case, History, Situations, with_situation, with_ids, forked, at_start, after_take, do_pids, all_do_pids, tree_cases, cases_from}
-use Rattle.tm_legal.specs.Replay.{alone}
+use Rattle.tm_rules.specs.Prelude.{Grammar, Trace, live_domain}
+use Rattle.tm_rules.specs.Types.{Item, Policy, Take, Tree}
+use Rattle.tm_legal.specs.Prelude.{Case, History, Situations, after_take, all_do_pids, alone, at_start, cases_from, do_pids, forked, tree_cases, with_ids, with_situation}
 use Rattle.tm_rerun_laws.proofs.Lists.{All-split}
 use Rattle.tm_rerun_laws.proofs.BothWalk.{Pairs, Pairs-join, Agree, AllAgree, AllAgree-with, TakeAgain, FirstCase, SecondCase, take-again, agree-after}
 

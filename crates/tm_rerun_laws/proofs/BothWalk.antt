@@ -3,20 +3,9 @@
 use Rattle.std.proofs.Common.{◌≡◌, ◌≤◌, ◌<◌, max, ℕ, zero, suc, List, [], ◌∷◌, ◌++◌, length, map, take, drop, Bool, true, false, refl, sym, ap, ◌∙◌, subst, arith}
 use Rattle.std.specs.Prelude.{Option, Some, None, ◌==◌, if◌then◌else◌, IfSome, flat_map}
 use Rattle.std.specs.List.{AllByRecursion}
-use Rattle.tm_rules.specs.Words.{Trace}
-use Rattle.tm_types.specs.declared.policy.Mode.{Mode}
-use Rattle.tm_types.specs.declared.policy.Policy.{Policy}
-use Rattle.tm_types.specs.declared.step.Look.{Look}
-use Rattle.tm_types.specs.declared.step.Take.{Take}
-use Rattle.tm_types.specs.declared.verdict.Reason.{Reason}
-use Rattle.tm_types.specs.declared.verdict.Move.{Move}
-use Rattle.tm_types.specs.declared.verdict.Verdict.{Verdict}
-use Rattle.tm_rules.specs.Grammar.{Grammar}
-use Rattle.tm_legal.specs.Verdict.{verdict}
-use Rattle.tm_legal.specs.Steps.{after}
-use Rattle.tm_legal.specs.Run.{Case, History, Situation, Situations, with_situation, after_take, seen, raised, heard_version, step_at}
-use Rattle.tm_legal.specs.Legal.{Scene, Subject, subject_of, LookHolds, LooksRise, OwnSteps, EndsWith, look_grants, grants_with, steps_asked, retry_written, last_look}
-use Rattle.tm_legal.specs.Replay.{alone, is_repeated}
+use Rattle.tm_rules.specs.Prelude.{Grammar, Trace}
+use Rattle.tm_rules.specs.Types.{Look, Mode, Move, Policy, Reason, Take, Verdict}
+use Rattle.tm_legal.specs.Prelude.{Case, EndsWith, History, LookHolds, LooksRise, OwnSteps, Scene, Situation, Situations, Subject, after, after_take, alone, grants_with, heard_version, is_repeated, last_look, look_grants, raised, retry_written, seen, step_at, steps_asked, subject_of, verdict, with_situation}
 use Rattle.tm_legal.proofs.NoStep.{Silent}
 use Rattle.tm_rerun_laws.proofs.Lands.{after-leads, leads}
 use Rattle.tm_rerun_laws.proofs.Again.{Lands, IsAgain}

@@ -4,33 +4,10 @@ use Rattle.std.specs.Prelude.{Option, Some, None, ◌&&◌, ◌||◌, not, optio
 use Rattle.std.specs.Option.{option_and_then}
 use Rattle.std.specs.List.{AllByRecursion, list_all}
 use Rattle.std.proofs.lemmas.Bool.{and_parts}
-use Rattle.tm_word.specs.Words.{Text}
-use Rattle.tm_rules.specs.Words.{DomainName}
-use Rattle.tm_types.specs.declared.entry.Entry.{Entry}
-use Rattle.tm_types.specs.declared.policy.Function.{Function}
-use Rattle.tm_types.specs.declared.policy.Mode.{Mode}
-use Rattle.tm_types.specs.declared.policy.Profile.{Profile}
-use Rattle.tm_types.specs.declared.policy.Namespace.{Namespace}
-use Rattle.tm_types.specs.declared.policy.Domain.{Domain}
-use Rattle.tm_types.specs.declared.policy.Policy.{Policy}
-use Rattle.tm_types.specs.declared.request.Proc.{Proc}
-use Rattle.tm_types.specs.declared.request.Request.{Request}
-use Rattle.tm_types.specs.declared.step.Heard.{Heard}
-use Rattle.tm_types.specs.declared.step.Look.{Look}
-use Rattle.tm_types.specs.declared.verdict.Reason.{Reason}
-use Rattle.tm_types.specs.declared.verdict.Move.{Move}
-use Rattle.tm_types.specs.declared.verdict.Verdict.{Verdict}
-use Rattle.tm_rules.specs.Clean.{is_calm_mode}
-use Rattle.tm_rules.specs.Condition.{is_execute, is_manual}
-use Rattle.tm_rules.specs.Learned.{line_of}
-use Rattle.tm_rules.specs.Mode.{mode_of}
-use Rattle.tm_rules.specs.Policy.{domain_at, namespace_of, profile_of}
-use Rattle.tm_rules.specs.Search.{Granting, aggregated, first}
-use Rattle.tm_rules.specs.Transition.{decision, is_strict, can_enter}
-use Rattle.tm_types.specs.Functions.{function_of}
-use Rattle.tm_legal.specs.Verdict.{is_enforcing, denied, by_entry, by_mode, move_to, is_ready, manual_verdict, execute_verdict, in_mode, verdict_in, verdict, is_granting, moving, with_line}
-use Rattle.tm_legal.specs.Run.{History, raised, seen}
-use Rattle.tm_legal.specs.Legal.{LooksRise, grants_with, last_look}
+use Rattle.tm_word.specs.Prelude.{Text}
+use Rattle.tm_rules.specs.Prelude.{DomainName, Granting, aggregated, can_enter, decision, domain_at, first, is_calm_mode, is_execute, is_manual, is_strict, line_of, mode_of, namespace_of, profile_of}
+use Rattle.tm_rules.specs.Types.{Domain, Entry, Function, Heard, Look, Mode, Move, Namespace, Policy, Proc, Profile, Reason, Request, Verdict, function_of}
+use Rattle.tm_legal.specs.Prelude.{History, LooksRise, by_entry, by_mode, denied, execute_verdict, grants_with, in_mode, is_enforcing, is_granting, is_ready, last_look, manual_verdict, move_to, moving, raised, seen, verdict, verdict_in, with_line}
 use Rattle.tm_rerun_laws.specs.Repeating.{execute_of}
 use Rattle.tm_rerun_laws.proofs.SameWay.{way_of}
 use Rattle.tm_rerun_laws.proofs.Again.{if-both}

@@ -4,28 +4,9 @@ use Rattle.std.proofs.Common.{◌≡◌, ◌≤◌, ◌<◌, ℕ, length, map, B
 use Rattle.std.specs.Prelude.{Option, Some, not, is_some, IfSome, IsTrue, option_map}
 use Rattle.std.specs.List.{AllByRecursion, list_all}
 use Rattle.std.proofs.lemmas.Bool.{and_parts}
-use Rattle.tm_types.specs.declared.policy.Profile.{Profile}
-use Rattle.tm_types.specs.declared.policy.Namespace.{Namespace}
-use Rattle.tm_types.specs.declared.policy.Domain.{Domain}
-use Rattle.tm_types.specs.declared.policy.Policy.{Policy}
-use Rattle.tm_types.specs.declared.request.Proc.{Proc}
-use Rattle.tm_types.specs.declared.request.Request.{Request}
-use Rattle.tm_types.specs.declared.step.Look.{Look}
-use Rattle.tm_types.specs.declared.step.Take.{Take}
-use Rattle.tm_types.specs.declared.step.Run.{Run}
-use Rattle.tm_types.specs.declared.verdict.Move.{Move}
-use Rattle.tm_types.specs.declared.verdict.Verdict.{Verdict}
-use Rattle.tm_rules.specs.Clean.{is_plain, is_clean, is_clean_take, is_clean_look, is_clean_step, is_calm_mode, is_quota}
-use Rattle.tm_rules.specs.Condition.{is_execute}
-use Rattle.tm_rules.specs.Policy.{at_key, domain_at, namespace_of, namespace_named, namespace_word, profile_of}
-use Rattle.tm_rules.specs.Requests.{is_request}
-use Rattle.tm_rules.specs.Search.{first}
-use Rattle.tm_legal.specs.Verdict.{is_granting}
-use Rattle.tm_legal.specs.Run.{Case, step_at}
-use Rattle.tm_legal.specs.Legal.{Scene, Subject, Legal, subject_of, state_at, final_policy, opening_of, verdict_at, LookHolds, LooksRise, OwnSteps, EndsWith, look_grants, steps_asked, retry_written, last_look}
-use Rattle.tm_legal.specs.Play.{CanPlay}
-use Rattle.tm_legal.specs.Clean.{switched, switched_profile}
-use Rattle.tm_legal.specs.Replay.{Grows, IsLive, Execute, FoundLine, line_found, execute_found, OwnLineGrants, StaysLearned}
+use Rattle.tm_rules.specs.Types.{Domain, Look, Move, Namespace, Policy, Proc, Profile, Request, Run, Take, Verdict}
+use Rattle.tm_rules.specs.Prelude.{at_key, domain_at, first, is_calm_mode, is_clean, is_clean_look, is_clean_step, is_clean_take, is_execute, is_plain, is_quota, is_request, namespace_named, namespace_of, namespace_word, profile_of}
+use Rattle.tm_legal.specs.Prelude.{CanPlay, Case, EndsWith, Execute, FoundLine, Grows, IsLive, Legal, LookHolds, LooksRise, OwnLineGrants, OwnSteps, Scene, StaysLearned, Subject, execute_found, final_policy, is_granting, last_look, line_found, look_grants, opening_of, retry_written, state_at, step_at, steps_asked, subject_of, switched, switched_profile, verdict_at}
 use Rattle.tm_rerun_laws.specs.Repeating.{Parts, execute_of}
 use Rattle.tm_legal.proofs.Histories.{state_at-newest}
 use Rattle.tm_rerun_laws.proofs.Switched.{switched_keeps}

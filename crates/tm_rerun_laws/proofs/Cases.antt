@@ -4,18 +4,10 @@ use Rattle.std.specs.Prelude.{IsTrue, ◌==◌, if◌then◌else◌, flat_map}
 use Rattle.std.specs.List.{AllByRecursion, list_all}
 use Rattle.std.proofs.lemmas.Bool.{and_parts, eqb-true}
 use Rattle.std.proofs.lemmas.List.{map-append, length-append, length-map, length-take-le, length-drop, take-append-drop}
-use Rattle.tm_word.specs.Words.{Text}
-use Rattle.tm_types.specs.declared.policy.Policy.{Policy}
-use Rattle.tm_types.specs.declared.request.Item.{Item}
-use Rattle.tm_types.specs.declared.request.Tree.{Tree}
-use Rattle.tm_types.specs.declared.step.Look.{Look}
-use Rattle.tm_types.specs.declared.step.Take.{Take}
-use Rattle.tm_types.specs.declared.step.Run.{Run}
-use Rattle.tm_rules.specs.Words.{Trace}
-use Rattle.tm_rules.specs.Requests.{is_request, item_is_request}
-use Rattle.tm_legal.specs.Run.{Situations, with_situation, with_ids, forked, after_take, at_start, Case, tree_cases, cases_from, do_pids, all_do_pids}
-use Rattle.tm_legal.specs.Legal.{Scene, EachCase, TakesInOrder, cases_of, own_numbers, times}
-use Rattle.tm_legal.specs.Play.{CanPlay}
+use Rattle.tm_word.specs.Prelude.{Text}
+use Rattle.tm_rules.specs.Types.{Item, Look, Policy, Run, Take, Tree}
+use Rattle.tm_rules.specs.Prelude.{Trace, is_request, item_is_request}
+use Rattle.tm_legal.specs.Prelude.{CanPlay, Case, EachCase, Scene, Situations, TakesInOrder, after_take, all_do_pids, at_start, cases_from, cases_of, do_pids, forked, own_numbers, times, tree_cases, with_ids, with_situation}
 use Rattle.tm_legal.proofs.Asked.{All-append}
 
 -- the take of a case

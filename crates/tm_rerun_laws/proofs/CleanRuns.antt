@@ -3,13 +3,9 @@ use Rattle.std.proofs.Common.{◌≡◌, ◌≤◌, ℕ, zero, suc, List, [], �
 use Rattle.std.specs.Prelude.{IsTrue}
 use Rattle.std.specs.List.{AllByRecursion, list_all}
 use Rattle.std.proofs.lemmas.Bool.{and_parts}
-use Rattle.tm_types.specs.declared.step.Run.{Run}
-use Rattle.tm_rules.specs.Grammar.{Grammar}
-use Rattle.tm_rules.specs.Clean.{is_clean, is_clean_take, is_clean_step}
-use Rattle.tm_legal.specs.Steps.{State, apply, at, after}
-use Rattle.tm_legal.specs.Run.{History, steps_of}
-use Rattle.tm_legal.specs.Legal.{Replies, opening_of}
-use Rattle.tm_legal.specs.Replay.{Grows, CleanRunGrows}
+use Rattle.tm_rules.specs.Types.{Run}
+use Rattle.tm_rules.specs.Prelude.{Grammar, is_clean, is_clean_step, is_clean_take}
+use Rattle.tm_legal.specs.Prelude.{CleanRunGrows, Grows, History, Replies, State, after, apply, at, opening_of, steps_of}
 use Rattle.tm_legal.proofs.Growth.{Grows-refl, QuietLinesGrow, history-grows}
 use Rattle.tm_rerun_laws.proofs.QuietLines.{quiet-lines-grow}
 

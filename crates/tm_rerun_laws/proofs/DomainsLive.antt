@@ -3,37 +3,10 @@ use Rattle.std.proofs.Common.{◌≡◌, ◌≤◌, ◌<◌, ℕ, zero, suc, Lis
 use Rattle.std.specs.Prelude.{Option, Some, None, IsTrue, IfSome, ◌&&◌, ◌==◌, if◌then◌else◌, option_map, slice_get, slice_set, nat_lt, nat_le, unwrap_or, not}
 use Rattle.std.specs.List.{AllByRecursion}
 use Rattle.std.specs.Option.{option_and_then, option_map_or}
-use Rattle.tm_word.specs.Words.{Text}
-use Rattle.tm_rules.specs.Words.{DomainName, Cursor, Trace}
-use Rattle.tm_types.specs.declared.policy.Domain.{Domain}
-use Rattle.tm_types.specs.declared.policy.Profile.{Profile}
-use Rattle.tm_types.specs.declared.policy.Policy.{Policy}
-use Rattle.tm_types.specs.declared.policy.Mode.{Mode}
-use Rattle.tm_types.specs.declared.request.Item.{Item}
-use Rattle.tm_types.specs.declared.step.Editor.{Editor}
-use Rattle.tm_types.specs.declared.step.EditReply.{EditReply}
-use Rattle.tm_types.specs.declared.step.FileKind.{FileKind}
-use Rattle.tm_types.specs.declared.step.Heard.{Heard}
-use Rattle.tm_types.specs.declared.step.Step.{Step}
-use Rattle.tm_types.specs.declared.step.Reply.{Reply}
-use Rattle.tm_types.specs.declared.step.MakeReply.{MakeReply}
-use Rattle.tm_types.specs.declared.step.Look.{Look}
-use Rattle.tm_types.specs.declared.step.Take.{Take}
-use Rattle.tm_types.specs.declared.step.Run.{Run}
-use Rattle.tm_types.specs.declared.verdict.Reason.{Reason}
-use Rattle.tm_types.specs.declared.verdict.Move.{Move}
-use Rattle.tm_types.specs.declared.verdict.Verdict.{Verdict}
-use Rattle.tm_rules.specs.Grammar.{Grammar}
-use Rattle.tm_rules.specs.Clean.{is_clean}
-use Rattle.tm_rules.specs.Policy.{domain_at, profile_of, live_domain}
-use Rattle.tm_rules.specs.Changes.{in_domain, learn, make, made_new, fail, is_manager}
-use Rattle.tm_rules.specs.Edit.{Edited, apply_line, new_domain, put_member}
-use Rattle.tm_rules.specs.Queries.{ask}
-use Rattle.tm_legal.specs.Steps.{State, Applied, apply, unfit, on_policy, on_queries, fits_entry, fits_name, edit_step, at, after}
-use Rattle.tm_legal.specs.Run.{History, steps_of, reply_at, Situation, Situations, with_situation, with_ids, forked, after_take, at_start, Case, tree_cases, cases_from, do_pids, raised, seen}
-use Rattle.tm_legal.specs.Legal.{Scene, Subject, Legal, EachCase, LookHolds, LooksRise, EndsWith, Replies, cases_of, subject_of, state_at, opening_of, final_policy, grants_with, last_look, last_number, made_number, domain_after}
-use Rattle.tm_legal.specs.Play.{CanPlay}
-use Rattle.tm_legal.specs.Replay.{Grows, IsLive, DomainsStay}
+use Rattle.tm_word.specs.Prelude.{Text}
+use Rattle.tm_rules.specs.Prelude.{Cursor, DomainName, Edited, Grammar, Trace, apply_line, ask, domain_at, fail, in_domain, is_clean, is_manager, learn, live_domain, made_new, make, new_domain, profile_of, put_member}
+use Rattle.tm_rules.specs.Types.{Domain, EditReply, Editor, FileKind, Heard, Item, Look, MakeReply, Mode, Move, Policy, Profile, Reason, Reply, Run, Step, Take, Verdict}
+use Rattle.tm_legal.specs.Prelude.{Applied, CanPlay, Case, DomainsStay, EachCase, EndsWith, Grows, History, IsLive, Legal, LookHolds, LooksRise, Replies, Scene, Situation, Situations, State, Subject, after, after_take, apply, at, at_start, cases_from, cases_of, do_pids, domain_after, edit_step, final_policy, fits_entry, fits_name, forked, grants_with, last_look, last_number, made_number, on_policy, on_queries, opening_of, raised, reply_at, seen, state_at, steps_of, subject_of, tree_cases, unfit, with_ids, with_situation}
 use Rattle.tm_legal.proofs.Kept.{live_is_there}
 use Rattle.tm_legal.proofs.Asked.{All-append}
 use Rattle.tm_legal.proofs.Histories.{state_at-newest}

@@ -3,11 +3,8 @@ use Rattle.std.proofs.Common.{◌≡◌, ◌<◌, ℕ, zero, suc, List, [], ◌�
 use Rattle.std.specs.Prelude.{Option, Some, if◌then◌else◌, ◌==◌, flat_map}
 use Rattle.std.specs.List.{AllByRecursion}
 use Rattle.std.proofs.lemmas.Bool.{eqb-true}
-use Rattle.tm_types.specs.declared.step.Step.{Step}
-use Rattle.tm_types.specs.declared.step.Look.{Look}
-use Rattle.tm_types.specs.declared.step.Take.{Take}
-use Rattle.tm_legal.specs.Run.{Case}
-use Rattle.tm_legal.specs.Legal.{RisesFrom, own_numbers, times}
+use Rattle.tm_rules.specs.Types.{Look, Step, Take}
+use Rattle.tm_legal.specs.Prelude.{Case, RisesFrom, own_numbers, times}
 use Rattle.tm_legal.proofs.Laws.{times-append}
 
 -- The takes of cases

@@ -5,27 +5,9 @@ use Rattle.std.specs.Prelude.{Some, None, IsTrue, flat_map}
 use Rattle.std.specs.List.{AllByRecursion, list_all}
 use Rattle.std.proofs.lemmas.Bool.{and_parts, cases_eq}
 use Rattle.std.proofs.lemmas.List.{length-map}
-use Rattle.tm_types.specs.declared.entry.Entry.{Entry}
-use Rattle.tm_types.specs.declared.policy.Domain.{Domain}
-use Rattle.tm_types.specs.declared.policy.Policy.{Policy}
-use Rattle.tm_types.specs.declared.request.Proc.{Proc}
-use Rattle.tm_types.specs.declared.request.Request.{Request}
-use Rattle.tm_types.specs.declared.step.Look.{Look}
-use Rattle.tm_types.specs.declared.step.Take.{Take}
-use Rattle.tm_types.specs.declared.step.Run.{Run}
-use Rattle.tm_types.specs.declared.step.Step.{Step}
-use Rattle.tm_types.specs.declared.step.Reply.{Reply}
-use Rattle.tm_rules.specs.Grammar.{Grammar}
-use Rattle.tm_rules.specs.Condition.{is_execute}
-use Rattle.tm_rules.specs.Policy.{domain_at, namespace_of, with_domain, adding, has_line}
-use Rattle.tm_rules.specs.Requests.{is_request}
-use Rattle.tm_rules.specs.Learned.{line_of}
-use Rattle.tm_rules.specs.Clean.{is_plain, is_clean, is_clean_step, is_clean_take}
-use Rattle.tm_legal.specs.Steps.{State, apply, at, after}
-use Rattle.tm_legal.specs.Run.{History, Case, steps_of, step_at, all_do_pids}
-use Rattle.tm_legal.specs.Legal.{Scene, Legal, Replies, LookHolds, OwnSteps, opening_of, state_at, cases_of, subject_of, own_numbers, times, retry_written, look_grants, steps_asked}
-use Rattle.tm_legal.specs.Play.{CanPlay}
-use Rattle.tm_legal.specs.Replay.{Execute, FoundLine, IsLearnedLine, IsLive, Grows, CleanRunGrows, FirstExecuteStays, execute_found, execute_line}
+use Rattle.tm_rules.specs.Types.{Domain, Entry, Look, Policy, Proc, Reply, Request, Run, Step, Take}
+use Rattle.tm_rules.specs.Prelude.{Grammar, adding, domain_at, has_line, is_clean, is_clean_step, is_clean_take, is_execute, is_plain, is_request, line_of, namespace_of, with_domain}
+use Rattle.tm_legal.specs.Prelude.{CanPlay, Case, CleanRunGrows, Execute, FirstExecuteStays, FoundLine, Grows, History, IsLearnedLine, IsLive, Legal, LookHolds, OwnSteps, Replies, Scene, State, after, all_do_pids, apply, at, cases_of, execute_found, execute_line, look_grants, opening_of, own_numbers, retry_written, state_at, step_at, steps_asked, steps_of, subject_of, times}
 use Rattle.tm_rerun_laws.proofs.Executes.{Blind, own_or_blind}
 use Rattle.tm_rerun_laws.proofs.ExecuteLists.{seen_in, learned-has, seen_in-own}
 use Rattle.tm_rerun_laws.proofs.ExecutePolicies.{SameFound, found-is, plain-first, changed-is, other-same, line-sees}

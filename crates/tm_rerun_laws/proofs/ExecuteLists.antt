@@ -7,22 +7,10 @@ use Rattle.std.specs.Int.{bit_at}
 use Rattle.std.proofs.lemmas.Nat.Bits.{bit_at_or, bit_at-lt, bit_at_lowest, bit_at-pow_same}
 use Rattle.std.proofs.lemmas.Nat.{and_mask}
 use Rattle.std.proofs.lemmas.Bool.{eqb-true, eq-eqb, and_parts, and_from}
-use Rattle.tm_types.specs.declared.unions.Groups.{Groups}
-use Rattle.tm_types.specs.declared.unions.NamePlace.{NamePlace}
-use Rattle.tm_types.specs.declared.entry.Entry.{Entry}
-use Rattle.tm_types.specs.declared.verdict.EntryPlace.{EntryPlace}
-use Rattle.tm_types.specs.declared.request.Proc.{Proc}
-use Rattle.tm_types.specs.declared.request.Request.{Request}
-use Rattle.tm_rules.specs.Equality.{args_equal, conds_equal}
+use Rattle.tm_rules.specs.Types.{Domain, Entry, EntryPlace, Groups, NamePlace, Namespace, Proc, Request}
+use Rattle.tm_rules.specs.Prelude.{Granting, Numbers, acl_group, adding, args_equal, at_key, conds_equal, entries_of, first_of, grants, has_line, has_permission, is_plain_entry, learned_line, placed, same_line}
 use Rattle.tm_rules.proofs.EqualityLaws.{same_args, same_conds}
-use Rattle.tm_rules.specs.Policy.{at_key, has_permission, same_line, adding, has_line}
-use Rattle.tm_types.specs.declared.policy.Namespace.{Namespace}
-use Rattle.tm_types.specs.declared.policy.Domain.{Domain}
-use Rattle.tm_rules.specs.Edit.{Numbers, acl_group}
-use Rattle.tm_rules.specs.Search.{entries_of, grants, placed, Granting, first_of}
-use Rattle.tm_rules.specs.Learned.{learned_line}
-use Rattle.tm_rules.specs.Clean.{is_plain_entry}
-use Rattle.tm_legal.specs.Replay.{Execute, FoundLine, line_found, execute_line, IsLearnedLine}
+use Rattle.tm_legal.specs.Prelude.{Execute, FoundLine, IsLearnedLine, execute_line, line_found}
 use Rattle.tm_rerun_laws.proofs.Executes.{IsExecute, look_of, plain-same, Blind, joined, blind-line, blind-joined, own-look, own-has, shares}
 
 -- what is kept of the entry at a place

@@ -3,21 +3,10 @@ use Rattle.std.proofs.Common.{◌≡◌, ◌<◌, ℕ, zero, suc, List, [], ◌�
 use Rattle.std.specs.Prelude.{Option, Some, None, ◌==◌, cond, if◌then◌else◌, slice_get, option_map, unwrap_or, nat_lt}
 use Rattle.std.specs.List.{list_all, find}
 use Rattle.std.proofs.lemmas.Bool.{eqb-true, eq-eqb, ltb-true, and_parts, cases_eq, ne_eqb}
-use Rattle.tm_word.specs.Words.{Text}
-use Rattle.tm_types.specs.declared.unions.Groups.{Groups}
-use Rattle.tm_types.specs.declared.entry.Entry.{Entry}
-use Rattle.tm_types.specs.declared.verdict.EntryPlace.{EntryPlace}
-use Rattle.tm_types.specs.declared.policy.Namespace.{Namespace}
-use Rattle.tm_types.specs.declared.policy.Domain.{Domain}
-use Rattle.tm_types.specs.declared.policy.Policy.{Policy}
-use Rattle.tm_types.specs.declared.request.Proc.{Proc}
-use Rattle.tm_types.specs.declared.request.Request.{Request}
-use Rattle.tm_word.specs.Texts.{texts_equal}
-use Rattle.tm_rules.specs.Policy.{at_key, empty_namespace, namespace_named, namespace_of, namespace_word, domain_at, changed_at, with_domain, same_line, adding}
-use Rattle.tm_rules.specs.Search.{first, searched, entries_of, placed}
-use Rattle.tm_rules.specs.Edit.{Numbers, acl_group, in_namespace, changing_namespace, with_group, put_group, put_key}
-use Rattle.tm_rules.specs.Clean.{is_plain_entry, is_plain_domain, are_plain_groups, is_plain}
-use Rattle.tm_legal.specs.Replay.{Execute, line_found, nobody, execute_request, execute_found}
+use Rattle.tm_word.specs.Prelude.{Text, texts_equal}
+use Rattle.tm_rules.specs.Types.{Domain, Entry, EntryPlace, Groups, Namespace, Policy, Proc, Request}
+use Rattle.tm_rules.specs.Prelude.{Numbers, acl_group, adding, are_plain_groups, at_key, changed_at, changing_namespace, domain_at, empty_namespace, entries_of, first, in_namespace, is_plain, is_plain_domain, is_plain_entry, namespace_named, namespace_of, namespace_word, placed, put_group, put_key, same_line, searched, with_domain, with_group}
+use Rattle.tm_legal.specs.Prelude.{Execute, execute_found, execute_request, line_found, nobody}
 use Rattle.tm_rerun_laws.proofs.Executes.{IsExecute, look_of, Blind, joined}
 use Rattle.tm_rerun_laws.proofs.ExecuteLists.{plain_pair, seen, first-seen, plain-seen, plain-placed, plain-append, seen-blind, acl_pairs, seen_in, entries-seen, seen_in-blind, seen_in-groups}
 

@@ -4,35 +4,10 @@ use Rattle.std.specs.Prelude.{Option, Some, None, Ok, Err, Result, ◌&&◌, if�
 use Rattle.std.specs.List.{list_any}
 use Rattle.std.specs.Option.{option_and_then, option_map_or}
 use Rattle.std.proofs.lemmas.Bool.{and_parts, not-true}
-use Rattle.tm_word.specs.Words.{Text}
-use Rattle.tm_rules.specs.Words.{DomainName, Cursor}
-use Rattle.tm_types.specs.declared.unions.Groups.{Groups}
-use Rattle.tm_types.specs.declared.entry.Entry.{Entry}
-use Rattle.tm_types.specs.declared.entry.LineKind.{LineKind}
-use Rattle.tm_types.specs.declared.policy.Domain.{Domain}
-use Rattle.tm_types.specs.declared.policy.Profile.{Profile}
-use Rattle.tm_types.specs.declared.policy.Policy.{Policy}
-use Rattle.tm_types.specs.declared.policy.DomainRule.{DomainRule}
-use Rattle.tm_types.specs.declared.policy.ManagerRule.{ManagerRule}
-use Rattle.tm_types.specs.declared.policy.GroupLine.{GroupLine}
-use Rattle.tm_types.specs.declared.policy.PolicyLine.{PolicyLine}
-use Rattle.tm_types.specs.declared.step.FileKind.{FileKind}
-use Rattle.tm_types.specs.declared.step.EditReply.{EditReply}
-use Rattle.tm_types.specs.declared.step.Editor.{Editor}
-use Rattle.tm_types.specs.declared.step.Step.{Step}
-use Rattle.tm_types.specs.declared.step.Reply.{Reply}
-use Rattle.tm_types.specs.declared.step.LearnReply.{LearnReply}
-use Rattle.tm_types.specs.declared.step.MakeReply.{MakeReply}
-use Rattle.tm_rules.specs.Grammar.{Grammar, IsGrammar}
-use Rattle.tm_word.specs.Texts.{texts_equal}
-use Rattle.tm_rules.specs.Policy.{domain_at, profile_of, live_domain, with_domain, adding, has_line}
-use Rattle.tm_rules.specs.Edit.{Edited, edited, refused, joining, leaving, new_domain, on_chosen, changed_domain, removing, selecting, domain_line, group_line, manager_line, apply_read, apply_parsed, apply_line, put_member}
-use Rattle.tm_rules.specs.Load.{is_done}
-use Rattle.tm_rules.specs.Clean.{is_quiet, is_quiet_rule, lets_execute, is_clean_step}
-use Rattle.tm_rules.specs.Changes.{in_domain, learns, is_full, learned_domain, learn_reply, learn, made_new, make, is_manager}
-use Rattle.tm_rules.specs.Queries.{ask, detach, closed}
-use Rattle.tm_legal.specs.Steps.{State, Applied, apply, unfit, on_policy, on_queries, fits_entry, fits_name, edit_step}
-use Rattle.tm_legal.specs.Replay.{Execute}
+use Rattle.tm_word.specs.Prelude.{Text, texts_equal}
+use Rattle.tm_rules.specs.Prelude.{Cursor, DomainName, Edited, Grammar, IsGrammar, adding, apply_line, apply_parsed, apply_read, ask, changed_domain, closed, detach, domain_at, domain_line, edited, group_line, has_line, in_domain, is_clean_step, is_done, is_full, is_manager, is_quiet, is_quiet_rule, joining, learn, learn_reply, learned_domain, learns, leaving, lets_execute, live_domain, made_new, make, manager_line, new_domain, on_chosen, profile_of, put_member, refused, removing, selecting, with_domain}
+use Rattle.tm_rules.specs.Types.{Domain, DomainRule, EditReply, Editor, Entry, FileKind, GroupLine, Groups, LearnReply, LineKind, MakeReply, ManagerRule, Policy, PolicyLine, Profile, Reply, Step}
+use Rattle.tm_legal.specs.Prelude.{Applied, Execute, State, apply, edit_step, fits_entry, fits_name, on_policy, on_queries, unfit}
 use Rattle.tm_rerun_laws.proofs.Executes.{Blind, blind-quiet}
 use Rattle.tm_rerun_laws.proofs.ExecutePolicies.{SameFound, changed-same, line-same, made-same, rest-same, group-same}
 use Rattle.tm_rerun_laws.proofs.QuietLines.{line-refuses}

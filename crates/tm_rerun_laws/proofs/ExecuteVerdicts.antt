@@ -6,41 +6,11 @@ use Rattle.std.specs.Option.{option_and_then}
 use Rattle.std.specs.Bool.{beq}
 use Rattle.std.proofs.lemmas.Bool.{eqb-true, eqb-false, and_parts}
 use Rattle.std.proofs.lemmas.Nat.Bits.{bit_at-pow_other}
-use Rattle.tm_word.specs.Words.{Text, Word}
-use Rattle.tm_word.specs.Matching.{is_empty}
-use Rattle.tm_rules.specs.Words.{DomainName}
-use Rattle.tm_types.specs.declared.unions.NamePlace.{NamePlace}
-use Rattle.tm_types.specs.declared.unions.Groups.{Groups}
-use Rattle.tm_types.specs.declared.entry.Args.{Args}
-use Rattle.tm_types.specs.declared.entry.Entry.{Entry}
-use Rattle.tm_types.specs.declared.policy.Function.{Function}
-use Rattle.tm_types.specs.declared.policy.Mode.{Mode}
-use Rattle.tm_types.specs.declared.policy.Namespace.{Namespace}
-use Rattle.tm_types.specs.declared.policy.Domain.{Domain}
-use Rattle.tm_types.specs.declared.policy.Profile.{Profile}
-use Rattle.tm_types.specs.declared.policy.Policy.{Policy}
-use Rattle.tm_types.specs.declared.request.Attributes.{Attributes}
-use Rattle.tm_types.specs.declared.request.Proc.{Proc}
-use Rattle.tm_types.specs.declared.request.Request.{Request}
-use Rattle.tm_types.specs.declared.step.Step.{Step}
-use Rattle.tm_types.specs.declared.verdict.Reason.{Reason}
-use Rattle.tm_types.specs.declared.verdict.Move.{Move}
-use Rattle.tm_types.specs.declared.verdict.Verdict.{Verdict}
-use Rattle.tm_types.specs.Functions.{function_of}
-use Rattle.tm_rules.specs.Grammar.{Grammar}
-use Rattle.tm_rules.specs.Policy.{domain_at, profile_of, namespace_of}
-use Rattle.tm_rules.specs.Condition.{is_execute, is_manual}
-use Rattle.tm_rules.specs.Requests.{is_request, is_path_word, has_bytes, bytes_if, has_exec, has_no_exec, has_its_attributes, are_literal, is_symlink, may_have, is_stat}
-use Rattle.tm_word.specs.Spelling.{are_bytes}
-use Rattle.tm_rules.specs.Search.{Granting, first, searched, aggregated, path_of}
-use Rattle.tm_rules.specs.Learned.{learned_line, line_of}
-use Rattle.tm_rules.specs.Transition.{Decision, decision, candidate, target_name, is_strict, can_enter}
-use Rattle.tm_rules.specs.Mode.{mode_of}
-use Rattle.tm_rules.specs.Clean.{lets_execute}
+use Rattle.tm_word.specs.Prelude.{Text, Word, are_bytes, is_empty}
+use Rattle.tm_rules.specs.Prelude.{Decision, DomainName, Grammar, Granting, aggregated, are_literal, bytes_if, can_enter, candidate, decision, domain_at, first, has_bytes, has_exec, has_its_attributes, has_no_exec, is_execute, is_manual, is_path_word, is_request, is_stat, is_strict, is_symlink, learned_line, lets_execute, line_of, may_have, mode_of, namespace_of, path_of, profile_of, searched, target_name}
+use Rattle.tm_rules.specs.Types.{Args, Attributes, Domain, Entry, Function, Groups, Mode, Move, NamePlace, Namespace, Policy, Proc, Profile, Reason, Request, Step, Verdict, function_of}
 use Rattle.tm_rules.proofs.LearnedLaws.{execute-first}
-use Rattle.tm_legal.specs.Replay.{Execute, execute_line}
-use Rattle.tm_legal.specs.Verdict.{moving, with_line, by_entry, denied, by_mode, move_to, is_ready, is_enforcing, manual_verdict, execute_verdict, in_mode, verdict_in, verdict}
-use Rattle.tm_legal.specs.Legal.{steps_of_line, steps_of_move, steps_asked}
+use Rattle.tm_legal.specs.Prelude.{Execute, by_entry, by_mode, denied, execute_line, execute_verdict, in_mode, is_enforcing, is_ready, manual_verdict, move_to, moving, steps_asked, steps_of_line, steps_of_move, verdict, verdict_in, with_line}
 use Rattle.tm_legal.proofs.Asked.{All-append}
 use Rattle.tm_rerun_laws.proofs.Executes.{IsExecute, Blind, blind-quiet}
 

@@ -8,31 +8,12 @@ use Rattle.std.specs.Bool.{beq}
 use Rattle.std.specs.Int.{bit_at}
 use Rattle.std.proofs.lemmas.Nat.Bits.{bit_at_or, bit_at-lt}
 use Rattle.std.proofs.lemmas.Bool.{eqb-true, eqb-false, and_parts}
-use Rattle.tm_word.specs.Words.{Word}
-use Rattle.tm_word.specs.Matching.{matches}
-use Rattle.tm_word.specs.Printing.{literal}
+use Rattle.tm_word.specs.Prelude.{Word, literal, matches, texts_equal}
 use Rattle.tm_word.proofs.Literals.{literal-alone, literal-own, literal-name}
-use Rattle.tm_types.specs.declared.unions.Groups.{Groups}
-use Rattle.tm_types.specs.declared.unions.NameUnion.{NameUnion}
-use Rattle.tm_types.specs.declared.unions.NamePlace.{NamePlace}
-use Rattle.tm_types.specs.declared.entry.Args.{Args}
-use Rattle.tm_types.specs.declared.entry.Attr.{Attr}
-use Rattle.tm_types.specs.declared.entry.Right.{Right}
-use Rattle.tm_types.specs.declared.entry.Clause.{Clause}
-use Rattle.tm_types.specs.declared.entry.Cond.{Cond}
-use Rattle.tm_types.specs.declared.entry.Entry.{Entry}
-use Rattle.tm_types.specs.declared.request.Proc.{Proc}
-use Rattle.tm_types.specs.declared.request.Request.{Request}
-use Rattle.tm_rules.specs.Equality.{args_equal, conds_equal}
-use Rattle.tm_word.specs.Texts.{texts_equal}
+use Rattle.tm_rules.specs.Types.{Args, Attr, Clause, Cond, Entry, Groups, NamePlace, NameUnion, Proc, Request, Right}
+use Rattle.tm_rules.specs.Prelude.{args_equal, args_grant, clause_holds, conds_equal, grants, has_permission, holds, is_plain_clause, is_plain_entry, learned_line, lets_execute, name_in, number_of, same_line, when, word_of}
 use Rattle.tm_rules.proofs.EqualityLaws.{same_texts, same_args, same_conds}
-use Rattle.tm_rules.specs.Policy.{has_permission, same_line}
-use Rattle.tm_rules.specs.Group.{name_in}
-use Rattle.tm_rules.specs.Condition.{number_of, word_of, clause_holds, holds}
-use Rattle.tm_rules.specs.Search.{when, args_grant, grants}
-use Rattle.tm_rules.specs.Learned.{learned_line}
-use Rattle.tm_rules.specs.Clean.{is_plain_clause, lets_execute, is_plain_entry}
-use Rattle.tm_legal.specs.Replay.{Execute, execute_request, execute_line, nobody}
+use Rattle.tm_legal.specs.Prelude.{Execute, execute_line, execute_request, nobody}
 
 -- a request that is searched for with these three values
 pub record IsExecute (x : Execute) (r : Request) : Type 0 where

@@ -4,20 +4,9 @@ use Rattle.std.proofs.Common.{◌≡◌, ℕ, zero, suc, List, [], ◌∷◌, �
 use Rattle.std.specs.Prelude.{Option, Some, None, ◌&&◌, ◌||◌, slice_get, is_some, IsSome, unwrap_or, option_map, flat_map}
 use Rattle.std.specs.Option.{option_or}
 use Rattle.std.specs.List.{list_any}
-use Rattle.tm_types.specs.declared.unions.Groups.{Groups}
-use Rattle.tm_types.specs.declared.unions.NamePlace.{NamePlace}
-use Rattle.tm_types.specs.declared.entry.Entry.{Entry}
-use Rattle.tm_types.specs.declared.verdict.EntryPlace.{EntryPlace}
-use Rattle.tm_types.specs.declared.policy.Profile.{Profile}
-use Rattle.tm_types.specs.declared.policy.Namespace.{Namespace}
-use Rattle.tm_types.specs.declared.policy.Domain.{Domain}
-use Rattle.tm_types.specs.declared.request.Proc.{Proc}
-use Rattle.tm_types.specs.declared.request.Request.{Request}
-use Rattle.tm_rules.specs.Condition.{holds, first_of_all}
-use Rattle.tm_rules.specs.Edit.{acl_group}
-use Rattle.tm_rules.specs.Policy.{at_key, has_permission}
-use Rattle.tm_rules.specs.Search.{when, args_grant, grants, placed, entries_of, Granting, granting, first_of, searched, first, aggregated}
-use Rattle.tm_legal.specs.Replay.{NoFewer, EntriesGrow}
+use Rattle.tm_rules.specs.Types.{Domain, Entry, EntryPlace, Groups, NamePlace, Namespace, Proc, Profile, Request}
+use Rattle.tm_rules.specs.Prelude.{Granting, acl_group, aggregated, args_grant, at_key, entries_of, first, first_of, first_of_all, granting, grants, has_permission, holds, placed, searched, when}
+use Rattle.tm_legal.specs.Prelude.{EntriesGrow, NoFewer}
 
 -- tests
 
@@ -32,10 +21,6 @@ or-right false b h = h
 or-map : (a b c d : Bool) → (a ≡ true → c ≡ true) → (b ≡ true → d ≡ true) → (a || b) ≡ true → (c || d) ≡ true
 or-map true b c d f g h = or-left c d (f refl)
 or-map false b c d f g h = or-right c d (g h)
-
-or-assoc : (a b c : Bool) → ((a || b) || c) ≡ (a || (b || c))
-or-assoc true b c = refl
-or-assoc false b c = refl
 
 when-test : {A : Type 0} (b c : Bool) (o : Option A) → is_some (when (b && c) o) ≡ true → b ≡ true
 when-test true c o h = refl

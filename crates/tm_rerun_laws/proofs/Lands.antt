@@ -3,39 +3,15 @@
 use Rattle.std.proofs.Common.{◌≡◌, ◌≤◌, ℕ, zero, suc, ◌+◌, List, [], ◌∷◌, ◌++◌, length, map, Bool, true, false, true≢false, refl, sym, ap, ◌∙◌, arith}
 use Rattle.std.specs.Prelude.{Option, Some, None, ◌&&◌, cond, slice_get, option_map, if◌then◌else◌}
 use Rattle.std.specs.Option.{option_and_then, option_map_or}
-use Rattle.std.specs.List.{AllByRecursion, position_from, list_all}
+use Rattle.std.specs.List.{position_from, list_all}
 use Rattle.std.proofs.lemmas.Bool.{and_parts}
-use Rattle.tm_rules.specs.Words.{DomainName}
+use Rattle.tm_rules.specs.Prelude.{DomainName, Grammar, can_enter, domain_at, is_clean_step, live_domain, made_new, make, new_domain, profile_of}
 use Rattle.tm_rules.proofs.EqualityLaws.{same_texts}
-use Rattle.tm_types.specs.declared.policy.Mode.{Mode}
-use Rattle.tm_types.specs.declared.policy.Profile.{Profile}
-use Rattle.tm_types.specs.declared.policy.Domain.{Domain}
-use Rattle.tm_types.specs.declared.policy.Policy.{Policy}
-use Rattle.tm_types.specs.declared.step.Step.{Step}
-use Rattle.tm_types.specs.declared.step.Reply.{Reply}
-use Rattle.tm_types.specs.declared.step.MakeReply.{MakeReply}
-use Rattle.tm_types.specs.declared.step.Heard.{Heard}
-use Rattle.tm_types.specs.declared.step.Look.{Look}
-use Rattle.tm_types.specs.declared.verdict.Reason.{Reason}
-use Rattle.tm_types.specs.declared.verdict.Move.{Move}
-use Rattle.tm_types.specs.declared.verdict.Verdict.{Verdict}
-use Rattle.tm_rules.specs.Grammar.{Grammar}
-use Rattle.tm_word.specs.Texts.{texts_equal}
-use Rattle.tm_rules.specs.Policy.{domain_at, profile_of, live_domain}
-use Rattle.tm_rules.specs.Transition.{can_enter}
-use Rattle.tm_rules.specs.Clean.{is_clean_step}
-use Rattle.tm_rules.specs.Edit.{new_domain}
-use Rattle.tm_rules.specs.Changes.{made_new, make}
-use Rattle.tm_legal.specs.Verdict.{move_to, made}
-use Rattle.tm_legal.specs.Steps.{State, Applied, apply, unfit, on_policy, fits_name, at, after}
-use Rattle.tm_legal.specs.Run.{History, steps_of, step_at, reply_at}
-use Rattle.tm_legal.specs.Legal.{Replies, look_grants, steps_of_line, steps_asked, last_number, made_number, domain_after}
+use Rattle.tm_rules.specs.Types.{Domain, Heard, Look, MakeReply, Mode, Move, Policy, Profile, Reason, Reply, Step, Verdict}
+use Rattle.tm_word.specs.Prelude.{texts_equal}
+use Rattle.tm_legal.specs.Prelude.{Applied, History, Replies, State, after, apply, at, domain_after, fits_name, last_number, look_grants, made, made_number, move_to, on_policy, reply_at, step_at, steps_asked, steps_of, steps_of_line, unfit}
 
 -- Lists
-
-pub All-joined : {A : Type 0} (P : A → Type 0) (xs ys : List A) → AllByRecursion P xs → AllByRecursion P ys → AllByRecursion P (xs ++ ys)
-All-joined P [] ys h k = k
-All-joined P (x ∷ xs) ys h k = (h.0, All-joined P xs ys h.1 k)
 
 pub all-at : {A : Type 0} (t : A → Bool) (xs : List A) (n : ℕ) (x : A) → list_all t xs ≡ true → slice_get xs n ≡ Some x → t x ≡ true
 all-at t [] n x all at = absurd cc

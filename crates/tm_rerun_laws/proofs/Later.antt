@@ -2,17 +2,10 @@
 use Rattle.std.proofs.Common.{◌≡◌, ℕ, suc, ◌+◌, List, [], ◌∷◌, Bool, true, false, refl, sym, ap, ◌∙◌}
 use Rattle.std.specs.Prelude.{Some, None, ◌&&◌, cond, slice_get, unwrap_or, option_map}
 use Rattle.std.specs.List.{position_from}
-use Rattle.tm_word.specs.Words.{Text}
-use Rattle.tm_types.specs.declared.entry.Entry.{Entry}
-use Rattle.tm_types.specs.declared.policy.Profile.{Profile}
-use Rattle.tm_types.specs.declared.policy.Namespace.{Namespace}
-use Rattle.tm_types.specs.declared.policy.Domain.{Domain}
-use Rattle.tm_types.specs.declared.policy.Policy.{Policy}
-use Rattle.tm_word.specs.Texts.{texts_equal}
-use Rattle.tm_rules.specs.Edit.{acl_group}
-use Rattle.tm_rules.specs.Policy.{at_key, domain_at, namespace_named, live_domain}
-use Rattle.tm_legal.specs.Clean.{switched, switched_profile}
-use Rattle.tm_legal.specs.Replay.{EntriesGrow, NamespaceGrows, Grows}
+use Rattle.tm_word.specs.Prelude.{Text, texts_equal}
+use Rattle.tm_rules.specs.Types.{Domain, Entry, Namespace, Policy, Profile}
+use Rattle.tm_rules.specs.Prelude.{acl_group, at_key, domain_at, live_domain, namespace_named}
+use Rattle.tm_legal.specs.Prelude.{EntriesGrow, Grows, NamespaceGrows, switched, switched_profile}
 use Rattle.tm_rerun_laws.specs.Repeating.{SwitchedKeeps, switched_profiles}
 
 -- the domain with other entries, which have grown; a switched policy has the same

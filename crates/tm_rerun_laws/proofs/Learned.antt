@@ -1,6 +1,6 @@
 -- A clean learned run is repeated by its switched final policy: the parts put together.
 use Rattle.tm_rerun_laws.specs.Repeating.{Parts}
-use Rattle.tm_legal.specs.Replay.{LooksRepeat, LearnedRunRepeats}
+use Rattle.tm_legal.specs.Prelude.{LearnedRunRepeats, LooksRepeat}
 use Rattle.tm_rerun_laws.proofs.Repeating as law
 use Rattle.tm_rerun_laws.proofs.CleanRuns.{clean_run_grows}
 use Rattle.tm_rerun_laws.proofs.PlainRuns.{plain_stays}

@@ -7,46 +7,11 @@ use Rattle.std.specs.Option.{option_and_then, IfSome}
 use Rattle.std.specs.Int.{bit_at}
 use Rattle.std.proofs.lemmas.Bool.{and_parts, and_from, eqb-true, eq-eqb}
 use Rattle.std.proofs.lemmas.Nat.Bits.{bit_at_or, bit_at_and, bit_at-lt}
-use Rattle.tm_word.specs.Words.{Text, Word}
-use Rattle.tm_rules.specs.Words.{DomainName}
-use Rattle.tm_types.specs.declared.entry.Args.{Args}
-use Rattle.tm_types.specs.declared.entry.Entry.{Entry}
-use Rattle.tm_types.specs.declared.policy.Function.{Function}
-use Rattle.tm_types.specs.declared.policy.Mode.{Mode}
-use Rattle.tm_types.specs.declared.policy.Namespace.{Namespace}
-use Rattle.tm_types.specs.declared.policy.Domain.{Domain}
-use Rattle.tm_types.specs.declared.policy.Profile.{Profile}
-use Rattle.tm_types.specs.declared.policy.Policy.{Policy}
-use Rattle.tm_types.specs.declared.request.Attributes.{Attributes}
-use Rattle.tm_types.specs.declared.request.Proc.{Proc}
-use Rattle.tm_types.specs.declared.request.Request.{Request}
-use Rattle.tm_types.specs.declared.step.Step.{Step}
-use Rattle.tm_types.specs.declared.step.Reply.{Reply}
-use Rattle.tm_types.specs.declared.step.LearnReply.{LearnReply}
-use Rattle.tm_types.specs.declared.step.Look.{Look}
-use Rattle.tm_types.specs.declared.step.Run.{Run}
-use Rattle.tm_types.specs.declared.verdict.Reason.{Reason}
-use Rattle.tm_types.specs.declared.verdict.Move.{Move}
-use Rattle.tm_types.specs.declared.verdict.Verdict.{Verdict}
-use Rattle.tm_types.specs.Functions.{function_of}
-use Rattle.tm_rules.specs.Grammar.{Grammar}
-use Rattle.tm_rules.specs.Condition.{is_execute}
-use Rattle.tm_rules.specs.Mode.{mode_of}
-use Rattle.tm_rules.specs.Policy.{has_permission, same_line, adding, has_line, changed_at, with_domain, domain_at, namespace_of, namespace_named, namespace_word, profile_of}
-use Rattle.tm_rules.specs.Search.{Granting, aggregated, path_of, first}
-use Rattle.tm_rules.specs.Learned.{learned_line, line_of}
-use Rattle.tm_rules.specs.Requests.{is_request}
-use Rattle.tm_rules.specs.Transition.{Decision, decision, candidate, target_name, is_strict, can_enter}
-use Rattle.tm_rules.specs.Changes.{learn, learn_reply, learned_domain, learns, is_full}
-use Rattle.tm_rules.specs.Clean.{is_clean, is_clean_take, is_clean_step}
+use Rattle.tm_word.specs.Prelude.{Text, Word}
+use Rattle.tm_rules.specs.Prelude.{Decision, DomainName, Grammar, Granting, adding, aggregated, can_enter, candidate, changed_at, decision, domain_at, first, has_line, has_permission, is_clean, is_clean_step, is_clean_take, is_execute, is_full, is_request, is_strict, learn, learn_reply, learned_domain, learned_line, learns, line_of, mode_of, namespace_named, namespace_of, namespace_word, path_of, profile_of, same_line, target_name, with_domain}
+use Rattle.tm_rules.specs.Types.{Args, Attributes, Domain, Entry, Function, LearnReply, Look, Mode, Move, Namespace, Policy, Proc, Profile, Reason, Reply, Request, Run, Step, Verdict, function_of}
 use Rattle.tm_rules.proofs.EqualityLaws.{same_args, same_conds}
-use Rattle.tm_legal.specs.Verdict.{is_enforcing, denied, moving, by_entry, with_line, by_mode, move_to, is_ready, manual_verdict, execute_verdict, in_mode, verdict_in, verdict}
-use Rattle.tm_legal.specs.Steps.{State, Applied, apply, unfit, on_policy, fits_entry, at, after}
-use Rattle.tm_legal.specs.Run.{History, steps_of, step_at, Case, cases}
-use Rattle.tm_legal.specs.Legal.{Scene, Subject, Legal, EachCase, subject_of, opening_of, state_at, final_policy, LookHolds, OwnSteps, RisesFrom, Replies, steps_of_line, steps_asked, retry_written, look_grants}
-use Rattle.tm_legal.specs.Play.{CanPlay}
-use Rattle.tm_legal.specs.Clean.{switched}
-use Rattle.tm_legal.specs.Replay.{EntriesGrow, Grows, CleanRunGrows, OwnLineGrants, StaysLearned, LearnedLinesGrant}
+use Rattle.tm_legal.specs.Prelude.{Applied, CanPlay, Case, CleanRunGrows, EachCase, EntriesGrow, Grows, History, LearnedLinesGrant, Legal, LookHolds, OwnLineGrants, OwnSteps, Replies, RisesFrom, Scene, State, StaysLearned, Subject, after, apply, at, by_entry, by_mode, cases, denied, execute_verdict, final_policy, fits_entry, in_mode, is_enforcing, is_ready, look_grants, manual_verdict, move_to, moving, on_policy, opening_of, retry_written, state_at, step_at, steps_asked, steps_of, steps_of_line, subject_of, switched, unfit, verdict, verdict_in, with_line}
 use Rattle.tm_rules.proofs.LearnedLaws.{line-grants, line-permission, has-own}
 use Rattle.tm_legal.proofs.Histories.{state_at-newest}
 use Rattle.tm_rerun_laws.proofs.Switched.{domains, namespaces}

@@ -3,10 +3,9 @@
 use Rattle.std.proofs.Common.{◌≡◌, [], Option, Some, None, refl}
 use Rattle.std.specs.Prelude.{unwrap_or, slice_get}
 use Rattle.std.proofs.lemmas.Bool.{eqb-true}
-use Rattle.tm_word.specs.Words.{Word}
-use Rattle.tm_types.specs.declared.policy.Namespace.{Namespace}
-use Rattle.tm_rules.specs.Policy.{namespace_of}
-use Rattle.tm_rules.specs.Search.{searched}
+use Rattle.tm_word.specs.Prelude.{Word}
+use Rattle.tm_rules.specs.Types.{Namespace}
+use Rattle.tm_rules.specs.Prelude.{namespace_of, searched}
 use Rattle.tm_rules.proofs.LearnedLaws.{execute-first}
 use Rattle.tm_rerun_laws.specs.Repeating.{PlainFirst, execute_of}
 use Rattle.tm_rerun_laws.proofs.Executes.{IsExecute}

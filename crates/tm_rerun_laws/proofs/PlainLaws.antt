@@ -6,21 +6,11 @@ use Rattle.std.specs.Int.{bit_at}
 use Rattle.std.proofs.lemmas.Nat.Bits.{bit_at_or}
 use Rattle.std.proofs.lemmas.Bool.{and_from, and_parts}
 use Rattle.std.proofs.lemmas.Bool.Decides.{nat_tests}
-use Rattle.tm_word.specs.Words.{Text}
-use Rattle.tm_types.specs.declared.entry.Args.{Args}
-use Rattle.tm_types.specs.declared.entry.Cond.{Cond}
-use Rattle.tm_types.specs.declared.entry.Entry.{Entry}
-use Rattle.tm_types.specs.declared.policy.Namespace.{Namespace}
-use Rattle.tm_types.specs.declared.policy.Domain.{Domain}
-use Rattle.tm_types.specs.declared.policy.Policy.{Policy}
-use Rattle.tm_types.specs.declared.step.Step.{Step}
+use Rattle.tm_word.specs.Prelude.{Text, texts_equal}
+use Rattle.tm_rules.specs.Types.{Args, Cond, Domain, Entry, Namespace, Policy, Step}
 use Rattle.tm_rules.proofs.EqualityLaws.{same_args, same_conds}
-use Rattle.tm_rules.specs.Equality.{args_equal, conds_equal}
-use Rattle.tm_word.specs.Texts.{texts_equal}
-use Rattle.tm_rules.specs.Clean.{is_plain_clause, lets_execute, is_plain_entry, is_plain_domain, are_plain_groups, is_plain}
-use Rattle.tm_rules.specs.Policy.{has_permission, same_line, adding, changed_at, with_domain, domain_at, at_key, empty_namespace}
-use Rattle.tm_rules.specs.Edit.{acl_group, put_key, in_namespace, with_group}
-use Rattle.tm_legal.specs.Steps.{at}
+use Rattle.tm_rules.specs.Prelude.{acl_group, adding, are_plain_groups, args_equal, at_key, changed_at, conds_equal, domain_at, empty_namespace, has_permission, in_namespace, is_plain, is_plain_clause, is_plain_domain, is_plain_entry, lets_execute, put_key, same_line, with_domain, with_group}
+use Rattle.tm_legal.specs.Prelude.{at}
 use Rattle.tm_rerun_laws.proofs.QuietLines.{Quietly, adding-put}
 
 -- Lists of which all pass a test

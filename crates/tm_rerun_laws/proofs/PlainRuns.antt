@@ -4,31 +4,10 @@ use Rattle.std.specs.Prelude.{Option, Some, None, IsTrue, ◌&&◌, ◌||◌, �
 use Rattle.std.specs.List.{AllByRecursion, list_all}
 use Rattle.std.proofs.lemmas.Bool.{and_parts, eqb-false}
 use Rattle.std.proofs.lemmas.Nat.Bits.{bit_at-pow_other}
-use Rattle.tm_word.specs.Words.{Text, Word}
-use Rattle.tm_types.specs.declared.entry.Args.{Args}
-use Rattle.tm_types.specs.declared.entry.Attr.{Attr}
-use Rattle.tm_types.specs.declared.entry.Entry.{Entry}
-use Rattle.tm_types.specs.declared.unions.NamePlace.{NamePlace}
-use Rattle.tm_types.specs.declared.policy.Mode.{Mode}
-use Rattle.tm_rules.specs.Words.{DomainName}
-use Rattle.tm_types.specs.declared.request.Attributes.{Attributes}
-use Rattle.tm_types.specs.declared.request.Request.{Request}
-use Rattle.tm_types.specs.declared.step.Step.{Step}
-use Rattle.tm_types.specs.declared.step.Look.{Look}
-use Rattle.tm_types.specs.declared.step.Run.{Run}
-use Rattle.tm_types.specs.declared.verdict.Reason.{Reason}
-use Rattle.tm_types.specs.declared.verdict.Move.{Move}
-use Rattle.tm_types.specs.declared.verdict.Verdict.{Verdict}
-use Rattle.tm_types.specs.Functions.{function_of}
-use Rattle.tm_rules.specs.Grammar.{Grammar}
-use Rattle.tm_rules.specs.Clean.{is_plain, is_clean, is_plain_clause, is_plain_entry}
-use Rattle.tm_rules.specs.Condition.{is_execute, is_manual}
-use Rattle.tm_rules.specs.Learned.{is_word, learned_line}
-use Rattle.tm_rules.specs.Policy.{has_permission, permission}
-use Rattle.tm_rules.specs.Requests.{is_request, are_literal, has_its_attributes}
-use Rattle.tm_legal.specs.Run.{History, step_at, Case}
-use Rattle.tm_legal.specs.Legal.{Scene, Subject, Legal, LookHolds, OwnSteps, cases_of, subject_of, state_at, opening_of, steps_of_line, steps_of_move, steps_asked, retry_written, look_grants, times_owned}
-use Rattle.tm_legal.specs.Play.{CanPlay}
+use Rattle.tm_word.specs.Prelude.{Text, Word}
+use Rattle.tm_rules.specs.Types.{Args, Attr, Attributes, Entry, Look, Mode, Move, NamePlace, Reason, Request, Run, Step, Verdict, function_of}
+use Rattle.tm_rules.specs.Prelude.{DomainName, Grammar, are_literal, has_its_attributes, has_permission, is_clean, is_execute, is_manual, is_plain, is_plain_clause, is_plain_entry, is_request, is_word, learned_line, permission}
+use Rattle.tm_legal.specs.Prelude.{CanPlay, Case, History, Legal, LookHolds, OwnSteps, Scene, Subject, cases_of, look_grants, opening_of, retry_written, state_at, step_at, steps_asked, steps_of_line, steps_of_move, subject_of, times_owned}
 use Rattle.tm_legal.proofs.Asked.{All-append}
 use Rattle.tm_rerun_laws.proofs.CleanRuns.{clean-parts}
 use Rattle.tm_rerun_laws.proofs.PlainLaws.{plain-of, is_plain-of, LearnsPlain, or-true}

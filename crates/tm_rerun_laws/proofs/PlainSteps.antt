@@ -3,29 +3,10 @@ use Rattle.std.proofs.Common.{◌≡◌, ℕ, zero, suc, List, [], ◌∷◌, Bo
 use Rattle.std.specs.Prelude.{Option, Some, None, ◌&&◌, nat_lt, nat_le, if◌then◌else◌, slice_get, slice_set, option_map, unwrap_or, not, map}
 use Rattle.std.specs.List.{AllByRecursion}
 use Rattle.std.specs.Option.{option_and_then, option_map_or}
-use Rattle.tm_word.specs.Words.{Text}
-use Rattle.tm_rules.specs.Words.{Cursor}
-use Rattle.tm_types.specs.declared.step.FileKind.{FileKind}
-use Rattle.tm_types.specs.declared.step.EditReply.{EditReply}
-use Rattle.tm_types.specs.declared.entry.Entry.{Entry}
-use Rattle.tm_types.specs.declared.policy.Domain.{Domain}
-use Rattle.tm_types.specs.declared.policy.Profile.{Profile}
-use Rattle.tm_types.specs.declared.policy.Policy.{Policy}
-use Rattle.tm_types.specs.declared.step.Editor.{Editor}
-use Rattle.tm_types.specs.declared.step.Step.{Step}
-use Rattle.tm_types.specs.declared.step.Reply.{Reply}
-use Rattle.tm_types.specs.declared.step.LearnReply.{LearnReply}
-use Rattle.tm_types.specs.declared.step.MakeReply.{MakeReply}
-use Rattle.tm_rules.specs.Grammar.{Grammar, IsGrammar}
-use Rattle.tm_rules.specs.Load.{is_done}
-use Rattle.tm_rules.specs.Clean.{is_clean_step}
-use Rattle.tm_rules.specs.Policy.{changed_at, with_domain, domain_at, profile_of, live_domain}
-use Rattle.tm_rules.specs.Changes.{learned_domain, learn_reply, learn, made_new, make, in_domain, is_manager}
-use Rattle.tm_rules.specs.Edit.{Edited, apply_line, put_member}
-use Rattle.tm_rules.specs.Queries.{ask, detach, closed}
-use Rattle.tm_legal.specs.Steps.{State, Applied, apply, unfit, on_policy, on_queries, fits_entry, fits_name, edit_step, at, after}
-use Rattle.tm_legal.specs.Run.{History, steps_of}
-use Rattle.tm_legal.specs.Legal.{Replies}
+use Rattle.tm_word.specs.Prelude.{Text}
+use Rattle.tm_rules.specs.Prelude.{Cursor, Edited, Grammar, IsGrammar, apply_line, ask, changed_at, closed, detach, domain_at, in_domain, is_clean_step, is_done, is_manager, learn, learn_reply, learned_domain, live_domain, made_new, make, profile_of, put_member, with_domain}
+use Rattle.tm_rules.specs.Types.{Domain, EditReply, Editor, Entry, FileKind, LearnReply, MakeReply, Policy, Profile, Reply, Step}
+use Rattle.tm_legal.specs.Prelude.{Applied, History, Replies, State, after, apply, at, edit_step, fits_entry, fits_name, on_policy, on_queries, steps_of, unfit}
 use Rattle.tm_rerun_laws.proofs.QuietLines.{Quietly, line-quietly, quiet-lines-grow}
 use Rattle.tm_rerun_laws.proofs.PlainLaws.{Plain, Cleanly, LearnsPlain, cleanly-plain}
 

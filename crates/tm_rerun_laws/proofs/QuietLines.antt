@@ -4,27 +4,10 @@ use Rattle.std.specs.Prelude.{Option, Some, None, Ok, Err, Result, ◌&&◌, ◌
 use Rattle.std.specs.List.{find, list_any}
 use Rattle.std.specs.Option.{option_and_then, option_map_or}
 use Rattle.std.proofs.lemmas.Bool.{eqb-true, ltb-true, and_parts}
-use Rattle.tm_word.specs.Words.{Text}
-use Rattle.tm_rules.specs.Words.{Cursor}
-use Rattle.tm_types.specs.declared.entry.Entry.{Entry}
-use Rattle.tm_types.specs.declared.entry.LineKind.{LineKind}
-use Rattle.tm_types.specs.declared.policy.Namespace.{Namespace}
-use Rattle.tm_types.specs.declared.policy.Domain.{Domain}
-use Rattle.tm_types.specs.declared.policy.Policy.{Policy}
-use Rattle.tm_types.specs.declared.policy.DomainRule.{DomainRule}
-use Rattle.tm_types.specs.declared.policy.ExceptRule.{ExceptRule}
-use Rattle.tm_types.specs.declared.policy.GroupLine.{GroupLine}
-use Rattle.tm_types.specs.declared.policy.ManagerRule.{ManagerRule}
-use Rattle.tm_types.specs.declared.policy.PolicyLine.{PolicyLine}
-use Rattle.tm_types.specs.declared.step.FileKind.{FileKind}
-use Rattle.tm_types.specs.declared.step.EditReply.{EditReply}
-use Rattle.tm_rules.specs.Grammar.{Grammar, IsGrammar}
-use Rattle.tm_word.specs.Texts.{texts_equal}
-use Rattle.tm_rules.specs.Load.{is_done}
-use Rattle.tm_rules.specs.Clean.{is_quiet, is_quiet_rule, lets_execute}
-use Rattle.tm_rules.specs.Policy.{same_line, adding, deleting, with_domain, domain_at, live_domain, namespace_named, empty_namespace, at_key, namespace_word, profile_numbered, has_part}
-use Rattle.tm_rules.specs.Edit.{Edited, edited, refused, leaving, put_key, remove_key, put_group, acl_group, with_group, in_namespace, changing_namespace, group_line, except_there, except_line, chosen, on_chosen, changed_domain, removing, making_domain, domain_line, manager_line, apply_read, apply_parsed, apply_line}
-use Rattle.tm_legal.specs.Replay.{EntriesGrow, NamespaceGrows, Grows}
+use Rattle.tm_word.specs.Prelude.{Text, texts_equal}
+use Rattle.tm_rules.specs.Prelude.{Cursor, Edited, Grammar, IsGrammar, acl_group, adding, apply_line, apply_parsed, apply_read, at_key, changed_domain, changing_namespace, chosen, deleting, domain_at, domain_line, edited, empty_namespace, except_line, except_there, group_line, has_part, in_namespace, is_done, is_quiet, is_quiet_rule, leaving, lets_execute, live_domain, making_domain, manager_line, namespace_named, namespace_word, on_chosen, profile_numbered, put_group, put_key, refused, remove_key, removing, same_line, with_domain, with_group}
+use Rattle.tm_rules.specs.Types.{Domain, DomainRule, EditReply, Entry, ExceptRule, FileKind, GroupLine, LineKind, ManagerRule, Namespace, Policy, PolicyLine}
+use Rattle.tm_legal.specs.Prelude.{EntriesGrow, Grows, NamespaceGrows}
 use Rattle.tm_legal.proofs.Kept.{same_texts}
 use Rattle.tm_legal.proofs.Growth.{EntriesGrow-refl, EntriesGrow-adding, DomainGrows-refl, NamespaceGrows-refl, with_domain-grows, QuietLinesGrow}
 

@@ -4,22 +4,9 @@ use Rattle.std.specs.Prelude.{Option, Some, IsSome, IfSome, IsTrue, option_map, 
 use Rattle.std.specs.List.{AllByRecursion, list_all}
 use Rattle.std.proofs.lemmas.List.{length-map}
 use Rattle.std.proofs.lemmas.Bool.{and_parts}
-use Rattle.tm_rules.specs.Words.{DomainName}
-use Rattle.tm_types.specs.declared.policy.Domain.{Domain}
-use Rattle.tm_types.specs.declared.policy.Policy.{Policy}
-use Rattle.tm_types.specs.declared.request.Tree.{Tree}
-use Rattle.tm_types.specs.declared.step.Look.{Look}
-use Rattle.tm_types.specs.declared.step.Take.{Take}
-use Rattle.tm_types.specs.declared.step.Run.{Run}
-use Rattle.tm_rules.specs.Clean.{is_plain, is_clean, is_clean_take}
-use Rattle.tm_rules.specs.Policy.{live_domain}
-use Rattle.tm_rules.specs.Requests.{is_request}
-use Rattle.tm_legal.specs.Steps.{after}
-use Rattle.tm_legal.specs.Run.{Case, History}
-use Rattle.tm_legal.specs.Legal.{Scene, Legal, cases_of, subject_of, final_policy, opening_of, LookHolds, LooksRise, OwnSteps, EndsWith, last_look}
-use Rattle.tm_legal.specs.Play.{CanPlay}
-use Rattle.tm_legal.specs.Clean.{switched, name_at}
-use Rattle.tm_legal.specs.Replay.{IsLive, StaysLearned, rerun_scene, is_repeated, Repeats, LooksRepeat, LearnedRunRepeats}
+use Rattle.tm_rules.specs.Prelude.{DomainName, is_clean, is_clean_take, is_plain, is_request, live_domain}
+use Rattle.tm_rules.specs.Types.{Domain, Look, Policy, Run, Take, Tree}
+use Rattle.tm_legal.specs.Prelude.{CanPlay, Case, EndsWith, History, IsLive, LearnedRunRepeats, Legal, LookHolds, LooksRepeat, LooksRise, OwnSteps, Repeats, Scene, StaysLearned, after, cases_of, final_policy, is_repeated, last_look, name_at, opening_of, rerun_scene, subject_of, switched}
 use Rattle.tm_rerun_laws.specs.Repeating.{Parts}
 use Rattle.tm_legal.proofs.Kept.{some_of}
 use Rattle.tm_legal.proofs.NoStep.{Silent, no_step}

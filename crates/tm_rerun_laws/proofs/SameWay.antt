@@ -2,21 +2,11 @@
 -- learned line leads where no line does.
 use Rattle.std.proofs.Common.{◌≡◌, ℕ, List, [], refl, sym, ap, ◌∙◌, inl, inr, ◌⊎◌}
 use Rattle.std.specs.Prelude.{Option, Some, None, option_map}
-use Rattle.tm_word.specs.Words.{Text}
-use Rattle.tm_word.specs.Spelling.{spell}
+use Rattle.tm_word.specs.Prelude.{Text, spell}
 use Rattle.tm_word.proofs.Literals.{literal-spelled}
-use Rattle.tm_rules.specs.Words.{DomainName}
-use Rattle.tm_types.specs.declared.unions.NamePlace.{NamePlace}
-use Rattle.tm_types.specs.declared.entry.Args.{Args}
-use Rattle.tm_types.specs.declared.entry.Entry.{Entry}
-use Rattle.tm_types.specs.declared.verdict.EntryPlace.{EntryPlace}
-use Rattle.tm_types.specs.declared.policy.Profile.{Profile}
-use Rattle.tm_types.specs.declared.policy.Namespace.{Namespace}
-use Rattle.tm_types.specs.declared.request.Request.{Request}
-use Rattle.tm_rules.specs.Learned.{learned_line}
-use Rattle.tm_rules.specs.Search.{Granting, aggregated, path_of, written_name}
-use Rattle.tm_rules.specs.Transition.{Decision, candidate, control_kind, decision, target_name}
-use Rattle.tm_legal.specs.Replay.{Execute, FoundLine, line_found, execute_line, IsLearnedLine}
+use Rattle.tm_rules.specs.Prelude.{Decision, DomainName, Granting, aggregated, candidate, control_kind, decision, learned_line, path_of, target_name, written_name}
+use Rattle.tm_rules.specs.Types.{Args, Entry, EntryPlace, NamePlace, Namespace, Profile, Request}
+use Rattle.tm_legal.specs.Prelude.{Execute, FoundLine, IsLearnedLine, execute_line, line_found}
 use Rattle.tm_rerun_laws.proofs.FirstLater.{grown}
 
 -- the name that an execute leads to, by what was found for it

@@ -4,32 +4,11 @@ use Rattle.std.specs.Prelude.{Option, Some, None, ◌==◌, ◌&&◌, if◌then�
 use Rattle.std.specs.List.{find, list_all, AllByRecursion}
 use Rattle.std.specs.Option.{option_and_then}
 use Rattle.std.proofs.lemmas.List.Folds.{list_all-map}
-use Rattle.tm_word.specs.Words.{Text, Word, Pattern}
-use Rattle.tm_rules.specs.Words.{DomainName}
+use Rattle.tm_word.specs.Prelude.{Pattern, Text, Word, texts_equal}
+use Rattle.tm_rules.specs.Prelude.{DomainName, Granting, aggregated, are_plain_groups, can_enter, candidate, config_of, control_kind, decision, domain_at, empty_namespace, entries_of, first, first_of, is_path_word, is_plain, is_plain_domain, line_of, live_domain, mode_of, namespace_named, namespace_of, namespace_word, profile_of, slot}
 use Rattle.tm_list.specs.Map.{at_rank}
-use Rattle.tm_types.specs.Slot.{slot_rank}
-use Rattle.tm_types.specs.Functions.{category_of}
-use Rattle.tm_types.specs.declared.unions.Groups.{Groups}
-use Rattle.tm_types.specs.declared.policy.Function.{Function}
-use Rattle.tm_types.specs.declared.policy.SlotName.{SlotName}
-use Rattle.tm_types.specs.declared.policy.Config.{Config}
-use Rattle.tm_types.specs.declared.policy.Profile.{Profile}
-use Rattle.tm_types.specs.declared.policy.Namespace.{Namespace}
-use Rattle.tm_types.specs.declared.policy.Domain.{Domain}
-use Rattle.tm_types.specs.declared.policy.Policy.{Policy}
-use Rattle.tm_types.specs.declared.request.Proc.{Proc}
-use Rattle.tm_types.specs.declared.request.Request.{Request}
-use Rattle.tm_word.specs.Texts.{texts_equal}
-use Rattle.tm_rules.specs.Mode.{slot, config_of, mode_of}
-use Rattle.tm_rules.specs.Clean.{is_plain_domain, are_plain_groups, is_plain}
-use Rattle.tm_rules.specs.Learned.{line_of}
-use Rattle.tm_rules.specs.Policy.{domain_at, namespace_named, namespace_of, namespace_word, empty_namespace, profile_of, live_domain}
-use Rattle.tm_rules.specs.Requests.{is_path_word}
-use Rattle.tm_rules.specs.Search.{Granting, aggregated, entries_of, first, first_of}
-use Rattle.tm_rules.specs.Transition.{candidate, control_kind, decision, can_enter}
-use Rattle.tm_legal.specs.Clean.{switched_mode, switched_config, switched_profile, switched}
-use Rattle.tm_legal.specs.Play.{IsOpened}
-use Rattle.tm_legal.specs.Replay.{Execute, FoundLine, line_found, execute_request, nobody, execute_found}
+use Rattle.tm_rules.specs.Types.{Config, Domain, Function, Groups, Namespace, Policy, Proc, Profile, Request, SlotName, category_of, slot_rank}
+use Rattle.tm_legal.specs.Prelude.{Execute, FoundLine, IsOpened, execute_found, execute_request, line_found, nobody, switched, switched_config, switched_mode, switched_profile}
 use Rattle.tm_rerun_laws.specs.Repeating.{SwitchedKeeps}
 
 -- Lists

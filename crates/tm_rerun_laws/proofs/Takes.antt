@@ -1,9 +1,8 @@
 -- The two parts of what the verdicts of each take say.
 use Rattle.std.proofs.Common.{◌≡◌, Some}
 use Rattle.std.specs.List.{AllByRecursion}
-use Rattle.tm_types.specs.declared.step.Run.{Run}
-use Rattle.tm_legal.specs.Run.{Case}
-use Rattle.tm_legal.specs.Legal.{Scene, Legal, EachCase, TakeHolds, LookHolds, subject_of, cases_of}
+use Rattle.tm_rules.specs.Types.{Run}
+use Rattle.tm_legal.specs.Prelude.{Case, EachCase, Legal, LookHolds, Scene, TakeHolds, cases_of, subject_of}
 use Rattle.tm_rerun_laws.proofs.Lists.{All-to}
 
 -- each take begins in the domain that its process is in

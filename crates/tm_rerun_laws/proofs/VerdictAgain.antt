@@ -2,31 +2,10 @@
 -- step.
 use Rattle.std.proofs.Common.{◌≡◌, ℕ, List, Bool, true, false, refl, sym, ap, ◌∙◌, subst, inl, inr, ◌⊎◌}
 use Rattle.std.specs.Prelude.{Option, Some, None, if◌then◌else◌, is_some, option_map}
-use Rattle.tm_word.specs.Words.{Text}
-use Rattle.tm_rules.specs.Words.{DomainName}
-use Rattle.tm_types.specs.declared.entry.Args.{Args}
-use Rattle.tm_types.specs.declared.entry.Entry.{Entry}
-use Rattle.tm_types.specs.declared.policy.Function.{Function}
-use Rattle.tm_types.specs.declared.policy.Mode.{Mode}
-use Rattle.tm_types.specs.declared.policy.Profile.{Profile}
-use Rattle.tm_types.specs.declared.policy.Namespace.{Namespace}
-use Rattle.tm_types.specs.declared.policy.Domain.{Domain}
-use Rattle.tm_types.specs.declared.policy.Policy.{Policy}
-use Rattle.tm_types.specs.declared.request.Attributes.{Attributes}
-use Rattle.tm_types.specs.declared.request.Proc.{Proc}
-use Rattle.tm_types.specs.declared.request.Request.{Request}
-use Rattle.tm_types.specs.declared.verdict.Reason.{Reason}
-use Rattle.tm_types.specs.declared.verdict.Move.{Move}
-use Rattle.tm_types.specs.declared.verdict.Verdict.{Verdict}
-use Rattle.tm_rules.specs.Condition.{is_execute, is_manual}
-use Rattle.tm_rules.specs.Learned.{line_of}
-use Rattle.tm_rules.specs.Mode.{mode_of}
-use Rattle.tm_types.specs.Functions.{function_of}
-use Rattle.tm_rules.specs.Policy.{domain_at, namespace_of, profile_of}
-use Rattle.tm_rules.specs.Search.{Granting, first}
-use Rattle.tm_rules.specs.Transition.{can_enter}
-use Rattle.tm_legal.specs.Verdict.{denied, made, by_entry, move_to, manual_verdict, in_mode, verdict_in, verdict, is_granting}
-use Rattle.tm_legal.specs.Clean.{switched_mode, switched_profile}
+use Rattle.tm_word.specs.Prelude.{Text}
+use Rattle.tm_rules.specs.Prelude.{DomainName, Granting, can_enter, domain_at, first, is_execute, is_manual, line_of, mode_of, namespace_of, profile_of}
+use Rattle.tm_rules.specs.Types.{Args, Attributes, Domain, Entry, Function, Mode, Move, Namespace, Policy, Proc, Profile, Reason, Request, Verdict, function_of}
+use Rattle.tm_legal.specs.Prelude.{by_entry, denied, in_mode, is_granting, made, manual_verdict, move_to, switched_mode, switched_profile, verdict, verdict_in}
 use Rattle.tm_legal.proofs.Kept.{some_of}
 use Rattle.tm_rerun_laws.proofs.FirstLater.{grown}
 use Rattle.tm_rerun_laws.proofs.SameWay.{way_of, way-later}

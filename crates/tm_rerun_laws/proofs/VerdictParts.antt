@@ -3,30 +3,10 @@
 use Rattle.std.proofs.Common.{◌≡◌, ℕ, Bool, true, false, refl, subst}
 use Rattle.std.specs.Prelude.{Option, Some, None, ◌&&◌, ◌||◌, if◌then◌else◌, option_map, not}
 use Rattle.std.specs.Option.{option_and_then, option_map_or}
-use Rattle.tm_word.specs.Words.{Text, Word}
-use Rattle.tm_rules.specs.Words.{DomainName}
-use Rattle.tm_types.specs.declared.entry.Args.{Args}
-use Rattle.tm_types.specs.declared.entry.Entry.{Entry}
-use Rattle.tm_types.specs.declared.policy.Function.{Function}
-use Rattle.tm_types.specs.declared.policy.Mode.{Mode}
-use Rattle.tm_types.specs.declared.policy.Namespace.{Namespace}
-use Rattle.tm_types.specs.declared.policy.Domain.{Domain}
-use Rattle.tm_types.specs.declared.policy.Profile.{Profile}
-use Rattle.tm_types.specs.declared.policy.Policy.{Policy}
-use Rattle.tm_types.specs.declared.request.Attributes.{Attributes}
-use Rattle.tm_types.specs.declared.request.Proc.{Proc}
-use Rattle.tm_types.specs.declared.request.Request.{Request}
-use Rattle.tm_types.specs.declared.verdict.Reason.{Reason}
-use Rattle.tm_types.specs.declared.verdict.Move.{Move}
-use Rattle.tm_types.specs.declared.verdict.Verdict.{Verdict}
-use Rattle.tm_types.specs.Functions.{function_of}
-use Rattle.tm_rules.specs.Condition.{is_execute}
-use Rattle.tm_rules.specs.Mode.{mode_of}
-use Rattle.tm_rules.specs.Policy.{domain_at, profile_of, live_domain, namespace_of}
-use Rattle.tm_rules.specs.Search.{Granting, first, aggregated, path_of}
-use Rattle.tm_rules.specs.Transition.{Decision, can_enter, decision, candidate, target_name, is_strict}
-use Rattle.tm_rules.specs.Learned.{learned_line}
-use Rattle.tm_legal.specs.Verdict.{is_enforcing, denied, moving, by_entry, with_line, by_mode, move_to, is_ready, manual_verdict, execute_verdict, in_mode, verdict_in, verdict}
+use Rattle.tm_word.specs.Prelude.{Text, Word}
+use Rattle.tm_rules.specs.Prelude.{Decision, DomainName, Granting, aggregated, can_enter, candidate, decision, domain_at, first, is_execute, is_strict, learned_line, live_domain, mode_of, namespace_of, path_of, profile_of, target_name}
+use Rattle.tm_rules.specs.Types.{Args, Attributes, Domain, Entry, Function, Mode, Move, Namespace, Policy, Proc, Profile, Reason, Request, Verdict, function_of}
+use Rattle.tm_legal.specs.Prelude.{by_entry, by_mode, denied, execute_verdict, in_mode, is_enforcing, is_ready, manual_verdict, move_to, moving, verdict, verdict_in, with_line}
 
 -- a line that is learned for the request
 abbrev pub IsLineOf : Request → Option Entry → Type 0

@@ -1,24 +1,9 @@
 -- What the replay of a learned run takes from the other parts of its proof.
 use Rattle.std.specs.Prelude.{◌≡◌, ℕ, ◌≤◌, Bool, true, List, [], map, length, slice_get, unwrap_or, Some, IsTrue, option_map}
-use Rattle.tm_word.specs.Words.{Text}
-use Rattle.tm_types.specs.declared.policy.Function.{Function}
-use Rattle.tm_types.specs.declared.policy.Profile.{Profile}
-use Rattle.tm_types.specs.declared.policy.Namespace.{Namespace}
-use Rattle.tm_types.specs.declared.policy.Domain.{Domain}
-use Rattle.tm_types.specs.declared.policy.Policy.{Policy}
-use Rattle.tm_types.specs.declared.request.Proc.{Proc}
-use Rattle.tm_types.specs.declared.request.Request.{Request}
-use Rattle.tm_types.specs.declared.step.Run.{Run}
-use Rattle.tm_rules.specs.Clean.{is_plain, is_clean}
-use Rattle.tm_rules.specs.Condition.{is_execute}
-use Rattle.tm_rules.specs.Mode.{mode_of}
-use Rattle.tm_rules.specs.Policy.{at_key, domain_at, namespace_of, namespace_named}
-use Rattle.tm_rules.specs.Requests.{is_request}
-use Rattle.tm_rules.specs.Search.{aggregated, path_of, first}
-use Rattle.tm_legal.specs.Legal.{Scene, Legal, state_at}
-use Rattle.tm_legal.specs.Play.{CanPlay}
-use Rattle.tm_legal.specs.Clean.{switched, switched_mode, switched_profile}
-use Rattle.tm_legal.specs.Replay.{Execute, line_found, execute_found, CleanRunGrows, FirstExecuteStays, LearnedLinesGrant, DomainsStay}
+use Rattle.tm_word.specs.Prelude.{Text}
+use Rattle.tm_rules.specs.Types.{Domain, Function, Namespace, Policy, Proc, Profile, Request, Run}
+use Rattle.tm_rules.specs.Prelude.{aggregated, at_key, domain_at, first, is_clean, is_execute, is_plain, is_request, mode_of, namespace_named, namespace_of, path_of}
+use Rattle.tm_legal.specs.Prelude.{CanPlay, CleanRunGrows, DomainsStay, Execute, FirstExecuteStays, LearnedLinesGrant, Legal, Scene, execute_found, line_found, state_at, switched, switched_mode, switched_profile}
 
 -- a clean run from a plain opening has plain policies
 abbrev pub PlainStays : Type 0

@@ -1,10 +1,8 @@
 //! Laws of clean runs: their policies grow, stay plain, and keep the domains that processes are in.
 ghost use Rattle.std.specs.Prelude.{ℕ, ◌≤◌, length, IsTrue};
-ghost use Rattle.tm_types.specs.declared.step.Run.{Run};
-ghost use Rattle.tm_rules.specs.Clean.{is_plain, is_clean};
-ghost use Rattle.tm_legal.specs.Legal.{Scene, Legal, state_at};
-ghost use Rattle.tm_legal.specs.Play.{CanPlay};
-ghost use Rattle.tm_legal.specs.Replay.{CleanRunGrows, DomainsStay};
+ghost use Rattle.tm_rules.specs.Types.{Run};
+ghost use Rattle.tm_rules.specs.Prelude.{is_clean, is_plain};
+ghost use Rattle.tm_legal.specs.Prelude.{CanPlay, CleanRunGrows, DomainsStay, Legal, Scene, state_at};
 
 /// A clean run's policy grows from version to version.
 pub fn clean_runs_grow()

@@ -1,23 +1,10 @@
 //! Laws of what is learned, and of what a switched policy keeps, each on a function whose only
 //! clauses they are.
 ghost use Rattle.std.specs.Prelude.{◌≡◌, ℕ, Bool, Option, option_map};
-ghost use Rattle.tm_word.specs.Words.{Text};
-ghost use Rattle.tm_rules.specs.Words.{DomainName};
-ghost use Rattle.tm_types.specs.declared.policy.Function.{Function};
-ghost use Rattle.tm_types.specs.declared.policy.Profile.{Profile};
-ghost use Rattle.tm_types.specs.declared.policy.Domain.{Domain};
-ghost use Rattle.tm_types.specs.declared.policy.Policy.{Policy};
-ghost use Rattle.tm_types.specs.declared.request.Proc.{Proc};
-ghost use Rattle.tm_types.specs.declared.request.Request.{Request};
-ghost use Rattle.tm_rules.specs.Clean.{is_plain};
-ghost use Rattle.tm_rules.specs.Learned.{line_of};
-ghost use Rattle.tm_rules.specs.Mode.{mode_of};
-ghost use Rattle.tm_rules.specs.Policy.{live_domain, namespace_named, namespace_of, profile_of};
-ghost use Rattle.tm_rules.specs.Search.{Granting, entries_of, first};
-ghost use Rattle.tm_rules.specs.Transition.{candidate, decision, can_enter};
-ghost use Rattle.tm_legal.specs.Clean.{switched, switched_mode, switched_profile};
-ghost use Rattle.tm_legal.specs.Play.{IsOpened};
-ghost use Rattle.tm_legal.specs.Replay.{Execute, execute_found, LearnedLinesGrant};
+ghost use Rattle.tm_word.specs.Prelude.{Text};
+ghost use Rattle.tm_rules.specs.Prelude.{DomainName, Granting, can_enter, candidate, decision, entries_of, first, is_plain, line_of, live_domain, mode_of, namespace_named, namespace_of, profile_of};
+ghost use Rattle.tm_rules.specs.Types.{Domain, Function, Policy, Proc, Profile, Request};
+ghost use Rattle.tm_legal.specs.Prelude.{Execute, IsOpened, LearnedLinesGrant, execute_found, switched, switched_mode, switched_profile};
 
 /// A switched policy keeps all but its namespaces, so each domain with its entries, and finds live
 /// domains at the same numbers.

@@ -1,6 +1,7 @@
 //! A learned run is repeated: the laws of clean runs and of the switched final policy.
 //! Stands on tm_legal, whose definitions of legal runs, plays and switched policies it takes; it
 //! has laws alone, and no code.
+//! Of its own, so that its laws are of every grammar, and only the top call waits for them.
 //! Promises that every legal rerun of a clean run from a plain opening, under its switched final
 //! policy, makes no step and grants every take.
 #![tactic(auto)]

@@ -1,6 +1,6 @@
 //! A clean learned run is repeated by its switched final policy: two laws, each on a function whose
 //! only clause it is.
-ghost use Rattle.tm_legal.specs.Replay.{LooksRepeat, LearnedRunRepeats};
+ghost use Rattle.tm_legal.specs.Prelude.{LearnedRunRepeats, LooksRepeat};
 ghost use Rattle.tm_rerun_laws.specs.Repeating.{PlainFirst, SwitchedKeeps};
 
 /// Every look of a rerun is in mode disabled, enforcing or none, is granted as disabled or by an

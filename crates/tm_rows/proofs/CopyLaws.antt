@@ -1,7 +1,7 @@
 -- No copy, and one copy more.
 use Rattle.std.proofs.Common.{◌≡◌, ℕ, ◌+◌, ◌++◌, refl, sym, ap, ◌∙◌, add-one, append-nil}
 use Rattle.std.proofs.lemmas.List.{append_assoc}
-use Rattle.tm_word.specs.Words.{Text}
+use Rattle.tm_word.specs.Prelude.{Text}
 use Rattle.tm_rows.specs.declared.row.Piece.{Piece}
 use Rattle.tm_rows.specs.Pieces.{copy_text, copies_text}
 

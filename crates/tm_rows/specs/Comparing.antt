@@ -1,8 +1,7 @@
 -- How a call ends, and what it leaves, compared with what a row says.
 use Rattle.std.specs.Prelude.{◌==◌, ◌&&◌, ◌||◌, Bool, true, false, List, [], ◌∷◌, Option, Some, None}
 use Rattle.std.specs.List.{list_all}
-use Rattle.tm_word.specs.Words.{Text}
-use Rattle.tm_word.specs.Texts.{texts_equal}
+use Rattle.tm_word.specs.Prelude.{Text, texts_equal}
 use Rattle.tm_io.specs.Memory.{InMemory, state_in, held_in}
 use Rattle.tm_io.specs.declared.names.FileName.{FileName}
 use Rattle.tm_call.specs.declared.status.Status.{Status}
@@ -33,11 +32,6 @@ all_hold_so row shelf names = list_all (λ name. holds_so row shelf name) names
 -- standard output is
 abbrev pub puts_so : Row → Text → Bool
 puts_so row bytes = texts_equal (pieces_text row.put.items) bytes
-
--- a list without members
-abbrev pub is_nil : {A : Type 0} → List A → Bool
-is_nil [] = true
-is_nil (x ∷ xs) = false
 
 -- all of it: the files of these names, how the call ends, and standard output
 abbrev pub agrees : Row → List FileName → InMemory → Status → Text → Bool

@@ -1,6 +1,6 @@
 -- The first bytes of a text, as they are and with bytes 0 for spaces.
 use Rattle.std.specs.Prelude.{ℕ, ◌==◌, if◌then◌else◌, Bool, true, false, map, take, min, length}
-use Rattle.tm_word.specs.Words.{Text}
+use Rattle.tm_word.specs.Prelude.{Text}
 
 -- a byte 0 for a space
 abbrev pub zeroed_byte : ℕ → ℕ

@@ -1,7 +1,7 @@
 -- What the pieces of a row give.
 use Rattle.std.specs.Prelude.{ℕ, zero, suc, ◌==◌, if◌then◌else◌, Bool, List, [], ◌∷◌, ◌++◌, Option, Some, None, decimal}
 use Rattle.std.specs.List.{list_any}
-use Rattle.tm_word.specs.Words.{Text}
+use Rattle.tm_word.specs.Prelude.{Text}
 use Rattle.tm_io.specs.Names.{same_name}
 use Rattle.tm_io.specs.declared.names.FileName.{FileName}
 use Rattle.tm_rows.specs.declared.row.Piece.{Piece}

@@ -1,8 +1,9 @@
 //! How the readers themselves answer on the files of a `step`.
 ghost use Rattle.std.specs.Prelude.{IfOk};
-ghost use Rattle.tm_rules.specs.Few.{IsFew};
+ghost use Rattle.tm_rules.specs.Prelude.{IsFew};
 
 use std::alloc::Global;
+use tm_call::{Status, text_at};
 use tm_change_domains::live_domain;
 use tm_io::{FileList, FileName};
 use tm_list::NoMemory;
@@ -13,17 +14,6 @@ use tm_types::policy::Policy;
 use tm_types::request::{ScriptFault, Trace, TraceFault, TraceKind, Tree};
 use tm_types::step::{LoadFault, PolicyFiles};
 use tm_word::Text;
-use tomoyo::Status;
-
-// The bytes of a file, none where it isn't there.
-fn text_at(files: &FileList, name: FileName) -> &[u8] {
-    for (other, text) in files.as_slice() {
-        if other.is(name) {
-            return text.bytes();
-        }
-    }
-    &[]
-}
 
 // The four policy files.
 fn policy_files(alloc: Global, files: &FileList) -> Result<PolicyFiles, NoMemory> {

@@ -3,10 +3,11 @@ use crate::row::{Row, files_of};
 use std::alloc::Global;
 use std::sync::Wait;
 use std::thread::Threads;
+use tm_call::Status;
 use tm_engine::gate::NoGate;
 use tm_io::{MemoryShelf, MemorySink};
 use tm_list::NoMemory;
-use tomoyo::{Status, run, run_alone};
+use tomoyo::{run, run_alone};
 
 /// How a call ended, and what it left.
 #[derive(Drop)]

@@ -1,16 +1,17 @@
 //! What differs from what a row expects.
 ghost use Rattle.std.specs.Prelude.{◌≡◌, Some, None, IfOk, is_none};
 ghost use Rattle.tm_rows.specs.Pieces.{pieces_text};
-ghost use Rattle.tm_rows.specs.Comparing.{is_nil, is_same, ends_so, holds_so, all_hold_so, puts_so, agrees};
+ghost use Rattle.tm_rows.specs.Comparing.{is_same, ends_so, holds_so, all_hold_so, puts_so, agrees};
+ghost use Rattle.tm_word.specs.Prelude.{is_empty};
 
 use crate::lines::line_of_difference;
 use crate::row::{NAMES, Row, expected, push_piece};
 use std::alloc::Global;
 use std::fmt;
+use tm_call::Status;
 use tm_io::{FileName, MemoryShelf};
 use tm_list::NoMemory;
 use tm_word::{Text, bytes_equal};
-use tomoyo::Status;
 
 /// What is otherwise than a row says. Lines count from 1.
 #[derive(Clone, Copy)]
@@ -111,7 +112,7 @@ fn files_differ(
     shelf: &MemoryShelf,
     names: &[FileName],
 ) -> Result<Vec<Difference>, NoMemory>
-    ensures { IfOk result (λ found. is_nil found.items ≡ all_hold_so row.now shelf.now names.now) }
+    ensures { IfOk result (λ found. is_empty found.items ≡ all_hold_so row.now shelf.now names.now) }
 {
     let mut found = Vec::new(alloc);
     for name in names {
@@ -157,7 +158,7 @@ pub fn differences(
     put: &[u8],
 ) -> Result<Vec<Difference>, NoMemory>
     ensures { IfOk result
-        (λ found. is_nil found.items ≡ agrees row.now NAMES shelf.now status put.now) }
+        (λ found. is_empty found.items ≡ agrees row.now NAMES shelf.now status put.now) }
 {
     let mut found = files_differ(alloc, row, shelf, &NAMES)?;
     if let Some(difference) = end_differs(alloc, row, status)? {

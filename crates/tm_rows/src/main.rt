@@ -1,7 +1,9 @@
 //! Plays worked rows: calls over files in memory, each with all that is expected of it, from
 //! tables.
 //! Stands on the top call of tomoyo, on tm_io for files in memory, and on the readers of cut files.
+//! Of its own, a program that reads its rows, so that a new row proves nothing anew.
 //! Promises that a row agrees exactly where its status, standard output and files are as it says.
+//! Only tested: that every row is played and every cut made, and how answers are put together.
 #![tactic(auto)]
 
 mod answers;

@@ -5,33 +5,9 @@ use Rattle.std.specs.List.{slice_index_or}
 use Rattle.std.specs.Bool.{beq}
 use Rattle.std.proofs.lemmas.Bool.{eqb-true}
 use Rattle.tm_types.specs.Words.{Text, Part}
-use Rattle.tm_types.specs.Element.{Element}
-use Rattle.tm_types.specs.Repeat.{Repeat}
-use Rattle.tm_types.specs.Component.{Component}
-use Rattle.tm_types.specs.Base.{Base}
-use Rattle.tm_types.specs.Number.{Number}
-use Rattle.tm_types.specs.Range.{Range}
-use Rattle.tm_types.specs.Addr.{Addr}
-use Rattle.tm_types.specs.AddrRange.{AddrRange}
-use Rattle.tm_types.specs.declared.unions.NameUnion.{NameUnion}
-use Rattle.tm_types.specs.declared.unions.NumberUnion.{NumberUnion}
-use Rattle.tm_types.specs.declared.unions.AddrUnion.{AddrUnion}
-use Rattle.tm_types.specs.declared.entry.InetKind.{InetKind}
-use Rattle.tm_types.specs.declared.entry.UnixKind.{UnixKind}
-use Rattle.tm_types.specs.declared.entry.Prefer.{Prefer}
-use Rattle.tm_types.specs.declared.entry.Args.{Args}
-use Rattle.tm_types.specs.declared.entry.IdField.{IdField}
-use Rattle.tm_types.specs.declared.entry.StatPlace.{StatPlace}
-use Rattle.tm_types.specs.declared.entry.StatField.{StatField}
-use Rattle.tm_types.specs.declared.entry.FileKindWord.{FileKindWord}
-use Rattle.tm_types.specs.declared.entry.Attr.{Attr}
-use Rattle.tm_types.specs.declared.entry.Right.{Right}
-use Rattle.tm_types.specs.declared.entry.Clause.{Clause}
-use Rattle.tm_types.specs.declared.entry.Cond.{Cond}
-use Rattle.tm_types.specs.declared.entry.Entry.{Entry}
-use Rattle.tm_rules.specs.Equality.{options_equal, element_place, base_place, inet_place, unix_place, id_place, stat_place, field_place, kind_place, repeat_place, parts_equal, components_equal, patterns_equal, numbers_equal, ranges_equal, addrs_equal, names_equal, number_unions_equal, addr_unions_equal, prefers_equal, args_equal, attrs_equal, rights_equal, clauses_equal, conds_equal}
+use Rattle.tm_rules.specs.Types.{Addr, AddrRange, AddrUnion, Args, Attr, Base, Clause, Component, Cond, Element, Entry, FileKindWord, IdField, InetKind, NameUnion, Number, NumberUnion, Prefer, Range, Repeat, Right, StatField, StatPlace, UnixKind}
+use Rattle.tm_rules.specs.Prelude.{addr_unions_equal, addrs_equal, args_equal, attrs_equal, base_place, clauses_equal, components_equal, conds_equal, element_place, field_place, id_place, inet_place, kind_place, names_equal, number_unions_equal, numbers_equal, options_equal, parts_equal, patterns_equal, prefers_equal, ranges_equal, repeat_place, rights_equal, same_line, stat_place, unix_place}
 use Rattle.tm_types.specs.WordTexts.{lists_equal, texts_equal}
-use Rattle.tm_rules.specs.Policy.{same_line}
 
 -- Tests joined by `&&`
 

@@ -9,32 +9,11 @@ use Rattle.tm_types.specs.Words.{Text, Word, Pattern}
 use Rattle.tm_types.specs.Matching.{matches, is_empty}
 use Rattle.tm_types.specs.Printing.{literal, literal_word}
 use Rattle.tm_types.proofs.WordLiterals.{literal-own, literal-name}
-use Rattle.tm_types.specs.Number.{Number}
-use Rattle.tm_types.specs.Addr.{Addr}
+use Rattle.tm_rules.specs.Types.{Addr, AddrUnion, Args, Attr, Attributes, Entry, Groups, NamePlace, NameUnion, Namespace, Number, NumberUnion, Proc, Request, function_of, name_value}
 use Rattle.tm_types.specs.Addresses.{addr_le}
-use Rattle.tm_types.specs.Request.{name_value}
-use Rattle.tm_types.specs.declared.unions.Groups.{Groups}
-use Rattle.tm_types.specs.declared.unions.NameUnion.{NameUnion}
-use Rattle.tm_types.specs.declared.unions.NamePlace.{NamePlace}
-use Rattle.tm_types.specs.declared.unions.NumberUnion.{NumberUnion}
-use Rattle.tm_types.specs.declared.unions.AddrUnion.{AddrUnion}
-use Rattle.tm_types.specs.declared.entry.Args.{Args}
-use Rattle.tm_types.specs.declared.entry.Attr.{Attr}
-use Rattle.tm_types.specs.declared.entry.Entry.{Entry}
-use Rattle.tm_types.specs.declared.policy.Namespace.{Namespace}
-use Rattle.tm_types.specs.declared.request.Proc.{Proc}
-use Rattle.tm_types.specs.declared.request.Attributes.{Attributes}
-use Rattle.tm_types.specs.declared.request.Request.{Request}
-use Rattle.tm_rules.specs.Equality.{inet_place, unix_place, numbers_equal, addrs_equal}
-use Rattle.tm_rules.specs.Group.{name_in, number_in, addr_in}
-use Rattle.tm_rules.specs.Condition.{is_execute, is_manual, word_of, clause_holds, holds}
-use Rattle.tm_rules.specs.Policy.{has_permission, permission}
-use Rattle.tm_rules.specs.Search.{number_value, addr_value, aggregated, path_of, args_grant, grants, searched}
-use Rattle.tm_rules.specs.Learned.{is_word, learned_line, line_of}
-use Rattle.tm_rules.specs.Requests.{is_literal, is_written, is_name, is_number, is_addr_value, is_addr, are_literal, has_its_attributes, is_request}
+use Rattle.tm_rules.specs.Prelude.{addr_in, addr_value, addrs_equal, aggregated, are_literal, args_grant, clause_holds, grants, has_its_attributes, has_permission, holds, inet_place, is_addr, is_addr_value, is_execute, is_literal, is_manual, is_name, is_number, is_request, is_word, is_written, learned_line, line_of, name_in, number_in, number_value, numbers_equal, path_of, permission, searched, unix_place, word_of}
 use Rattle.tm_types.specs.Spelling.{are_bytes}
 use Rattle.tm_types.specs.WordTexts.{begins_with_byte}
-use Rattle.tm_types.specs.Functions.{function_of}
 use Rattle.tm_rules.proofs.EqualityLaws.{same_patterns, same_number, same_addrs, same_texts}
 
 -- Arguments

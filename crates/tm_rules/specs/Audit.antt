@@ -2,20 +2,8 @@
 use Rattle.std.specs.Prelude.{ℕ, Bool, [], ◌∷◌, ◌++◌, Option, Some, None, if◌then◌else◌, unwrap_or, slice_get, decimal, codes}
 use Rattle.std.specs.Option.{option_and_then}
 use Rattle.tm_types.specs.Words.{Text}
-use Rattle.tm_types.specs.declared.entry.Entry.{Entry}
-use Rattle.tm_types.specs.declared.verdict.EntryPlace.{EntryPlace}
-use Rattle.tm_types.specs.Texts.{mode_text}
-use Rattle.tm_types.specs.declared.policy.Mode.{Mode}
-use Rattle.tm_types.specs.declared.policy.Logs.{Logs}
-use Rattle.tm_types.specs.declared.policy.Namespace.{Namespace}
-use Rattle.tm_types.specs.declared.policy.Domain.{Domain}
-use Rattle.tm_types.specs.declared.policy.Policy.{Policy}
-use Rattle.tm_types.specs.declared.request.Proc.{Proc}
-use Rattle.tm_types.specs.declared.request.Request.{Request}
-use Rattle.tm_types.specs.declared.verdict.Reason.{Reason}
-use Rattle.tm_types.specs.declared.verdict.Verdict.{Verdict}
+use Rattle.tm_rules.specs.Types.{Domain, Entry, EntryPlace, Logs, Mode, Namespace, Policy, Proc, Reason, Request, Verdict, function_of, mode_text}
 use Rattle.tm_rules.specs.Mode.{logs_of}
-use Rattle.tm_types.specs.Functions.{function_of}
 use Rattle.tm_rules.specs.Policy.{domain_at, namespace_of, profile_of}
 use Rattle.tm_rules.specs.Edit.{acl_group}
 use Rattle.tm_rules.specs.Grammar.{Grammar}

@@ -1,10 +1,7 @@
 -- Lists whose places are written as numbers below 2^32.
 use Rattle.std.specs.Prelude.{ℕ, ◌<◌, ◌^◌, List, length}
 use Rattle.std.specs.List.{AllByRecursion}
-use Rattle.tm_types.specs.declared.entry.Entry.{Entry}
-use Rattle.tm_types.specs.declared.policy.Namespace.{Namespace}
-use Rattle.tm_types.specs.declared.policy.Domain.{Domain}
-use Rattle.tm_types.specs.declared.policy.Policy.{Policy}
+use Rattle.tm_rules.specs.Types.{Domain, Entry, Namespace, Policy}
 
 -- each place of the list is below 2^32
 abbrev pub IsShort : {A : Type 0} → List A → Type 0

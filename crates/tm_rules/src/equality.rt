@@ -1,9 +1,8 @@
 //! The tests of equality of the definitions, as they are computed.
 ghost use Rattle.std.specs.Prelude.{◌≡◌, ◌↔◌, IsTrue};
-ghost use Rattle.tm_types.specs.declared.entry.Entry.{Entry};
-ghost use Rattle.tm_rules.specs.Equality.{args_equal, conds_equal};
+ghost use Rattle.tm_rules.specs.Types.{Entry};
+ghost use Rattle.tm_rules.specs.Prelude.{args_equal, conds_equal, same_line};
 ghost use Rattle.tm_types.specs.WordTexts.{texts_equal};
-ghost use Rattle.tm_rules.specs.Policy.{same_line};
 
 use tm_types::entry::{Args, Cond, Entry};
 use tm_types::list::Same;

@@ -1,6 +1,6 @@
 //! What kind of request it is.
 ghost use Rattle.std.specs.Prelude.{◌≡◌};
-ghost use Rattle.tm_rules.specs.Condition.{is_execute, is_manual};
+ghost use Rattle.tm_rules.specs.Prelude.{is_execute};
 
 use tm_types::entry::Args;
 use tm_types::request::Request;
@@ -20,23 +20,5 @@ pub fn is_execute(request: &Request) -> bool
         | Args::Unix(_, _)
         | Args::Env(_)
         | Args::Manual(_) => false,
-    }
-}
-
-/// Whether a request is a manual domain transition.
-pub fn is_manual(request: &Request) -> bool
-    ensures { result ≡ is_manual request.now }
-{
-    match request.args() {
-        Args::Manual(_) => true,
-        Args::Path(_)
-        | Args::Execute(_, _)
-        | Args::PathNumber(_, _)
-        | Args::Device(_, _, _, _)
-        | Args::Path2(_, _)
-        | Args::Mount(_, _, _, _)
-        | Args::Inet(_, _, _)
-        | Args::Unix(_, _)
-        | Args::Env(_) => false,
     }
 }

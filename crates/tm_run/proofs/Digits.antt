@@ -1,12 +1,7 @@
 -- The digits of a number: the last one and those before it, and how many they are at most.
 use Rattle.std.proofs.Common.{◌≡◌, ℕ, ◌+◌, ◌/◌, ◌<◌, ◌≤◌, ◌^◌, length, arith}
 use Rattle.std.specs.Fmt.{decimal}
-use Rattle.std.proofs.lemmas.Fmt.{decimal_step, length-decimal-le}
-use Rattle.std.proofs.lemmas.Grind.{common_steps}
-
--- a number from ten on has one digit more than without its last one
-pub more_digits : (n : ℕ) → 10 ≤ n → n < 2 ^ 64 → length (decimal n) ≡ length (decimal (n / 10)) + 1
-more_digits n h small = rw (decimal_step n h small) (grind (arith, common_steps))
+use Rattle.std.proofs.lemmas.Fmt.{length-decimal-le}
 
 pub digits_of_8_bits : (n : ℕ) → n < 2 ^ 8 → length (decimal n) ≤ 3
 digits_of_8_bits n h = length-decimal-le 3 n (omega arith) (omega arith) (omega arith)

@@ -7,20 +7,10 @@ use Rattle.std.proofs.lemmas.List.{append-nil}
 use Rattle.std.proofs.lemmas.Bool.{lt-ltb, ltb-true}
 use Rattle.std.proofs.lemmas.Bool.Decides.{nat_tests}
 use Rattle.std.proofs.lemmas.Fmt.{decimal_is_IsNumeral, decimal_nonempty}
-use Rattle.tm_word.specs.Words.{Text}
-use Rattle.tm_number.specs.declared.Base.{Base}
-use Rattle.tm_number.specs.declared.Range.{Range}
+use Rattle.tm_word.specs.Prelude.{Text, is_solid, is_word, pieces, row_of, texts_equal}
+use Rattle.tm_rules.specs.Types.{Answered, Base, EntryPlace, Heard, LearnReply, Mode, Move, NumberUnion, Range, Reason, learn_text}
 use Rattle.tm_number.specs.Numbers.{number}
 use Rattle.tm_addr.proofs.Free.{Free, free_digits, split_free, split_at}
-use Rattle.tm_types.specs.declared.unions.NumberUnion.{NumberUnion}
-use Rattle.tm_types.specs.declared.policy.Mode.{Mode}
-use Rattle.tm_types.specs.declared.verdict.EntryPlace.{EntryPlace}
-use Rattle.tm_types.specs.declared.verdict.Reason.{Reason}
-use Rattle.tm_types.specs.declared.verdict.Move.{Move}
-use Rattle.tm_types.specs.declared.step.Answered.{Answered}
-use Rattle.tm_types.specs.declared.step.Heard.{Heard}
-use Rattle.tm_types.specs.declared.step.LearnReply.{LearnReply}
-use Rattle.tm_word.specs.Texts.{texts_equal, is_solid, is_word, pieces}
 use Rattle.tm_domain.proofs.NameLaws.{same_texts}
 use Rattle.tm_number.specs.Numbers.{plain_of}
 use Rattle.tm_line.specs.Printing.{number_spelling}
@@ -28,8 +18,6 @@ use Rattle.tm_line.specs.Written.{is_number}
 use Rattle.tm_line.proofs.Steps.{both, all}
 use Rattle.tm_line.proofs.WholeLaws.{solid_append, word_from, number_is}
 use Rattle.tm_number.proofs.NumberLaws.{plain_again, plain_small}
-use Rattle.tm_types.specs.Texts.{learn_text}
-use Rattle.tm_word.specs.Closed.{row_of}
 use Rattle.tm_word.proofs.Named.{named_or}
 use Rattle.tm_run.specs.RunText.{mode_word, place_text, reason_text, move_text, numbers_text, answer_text, heard_text}
 use Rattle.tm_run.specs.Fields.{or_zero, number_of, u8_of, u32_of, u64_of, mode_of, reasons, case_of, reason_in, reason_of, way_of, move_in, move_of, numbers_of, answer_of, heard_in, heard_of, reply_of}

@@ -1,15 +1,8 @@
 -- How long the words of a run's lines are at most.
 use Rattle.std.proofs.Common.{◌≤◌, length, arith}
-use Rattle.tm_types.specs.declared.policy.Mode.{Mode}
-use Rattle.tm_types.specs.declared.entry.LineKind.{LineKind}
-use Rattle.tm_types.specs.declared.step.FileKind.{FileKind}
-use Rattle.tm_types.specs.declared.step.LearnReply.{LearnReply}
-use Rattle.tm_types.specs.declared.step.Answered.{Answered}
-use Rattle.tm_types.specs.declared.step.AnswerFault.{AnswerFault}
-use Rattle.tm_types.specs.declared.step.EditReply.{EditReply}
+use Rattle.tm_rules.specs.Types.{AnswerFault, Answered, EditReply, FileKind, LearnReply, LineKind, Mode, edit_text, learn_text, mode_text, policy_text}
 use Rattle.tm_run.specs.RunText.{answered_text}
 use Rattle.tm_run.specs.Steps.{fault_text}
-use Rattle.tm_types.specs.Texts.{mode_text, policy_text, learn_text, edit_text}
 
 pub mode_length : (mode : Mode) → length (mode_text mode) ≤ 10
 mode_length Mode.Disabled = omega arith

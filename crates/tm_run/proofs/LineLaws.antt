@@ -2,11 +2,8 @@
 use Rattle.std.proofs.Common.{◌≡◌, ℕ, ◌+◌, ◌/◌, ◌%◌, ◌==◌, nat_lt, Bool, true, false, ◌&&◌, not, List, [], ◌∷◌, ◌++◌, Option, Some, None, refl, sym, ap, ◌∙◌}
 use Rattle.std.specs.Prelude.{codes, decimal}
 use Rattle.std.specs.List.{list_all}
-use Rattle.tm_word.specs.Words.{Text}
-use Rattle.tm_word.specs.Spelling.{spelling_of, spell, spelled_word}
-use Rattle.tm_types.specs.declared.step.Look.{Look}
-use Rattle.tm_types.specs.declared.step.Take.{Take}
-use Rattle.tm_word.specs.Texts.{texts_equal, is_solid, is_word}
+use Rattle.tm_word.specs.Prelude.{Text, is_solid, is_word, spell, spelled_word, spelling_of, texts_equal}
+use Rattle.tm_rules.specs.Types.{Look, Take}
 use Rattle.tm_domain.proofs.NameLaws.{same_texts}
 use Rattle.tm_line.proofs.Steps.{both, not_true}
 use Rattle.tm_word.proofs.Spelled.{word_again}

@@ -2,26 +2,11 @@
 -- on.
 use Rattle.std.specs.Prelude.{◌≡◌, true, false, List, [], ◌∷◌, Some, None, Ok, Err, codes, refl}
 use Rattle.std.specs.Fmt.{digits}
-use Rattle.tm_word.specs.Spelling.{words_of, spelled_word, word_of, head_of}
+use Rattle.tm_word.specs.Prelude.{head_of, spelled_word, word_of, words_of}
 use Rattle.tm_number.specs.Numbers.{value_of, plain_of}
 use Rattle.tm_number.specs.Numbers.{number_of as numeral_of}
 use Rattle.tm_pattern.specs.Tokens.{token_at}
-use Rattle.tm_types.specs.declared.policy.Mode.{Mode}
-use Rattle.tm_types.specs.declared.verdict.EntryPlace.{EntryPlace}
-use Rattle.tm_types.specs.declared.verdict.Reason.{Reason}
-use Rattle.tm_types.specs.declared.verdict.Move.{Move}
-use Rattle.tm_types.specs.declared.entry.LineKind.{LineKind}
-use Rattle.tm_types.specs.declared.step.FileKind.{FileKind}
-use Rattle.tm_types.specs.declared.step.Step.{Step}
-use Rattle.tm_types.specs.declared.step.Held.{Held}
-use Rattle.tm_types.specs.declared.step.EditReply.{EditReply}
-use Rattle.tm_types.specs.declared.step.AnswerFault.{AnswerFault}
-use Rattle.tm_types.specs.declared.step.Reply.{Reply}
-use Rattle.tm_types.specs.declared.step.Answered.{Answered}
-use Rattle.tm_types.specs.declared.step.Heard.{Heard}
-use Rattle.tm_types.specs.declared.step.Look.{Look}
-use Rattle.tm_types.specs.declared.step.Take.{Take}
-use Rattle.tm_types.specs.declared.step.Run.{Run}
+use Rattle.tm_rules.specs.Types.{AnswerFault, Answered, EditReply, EntryPlace, FileKind, Heard, Held, LineKind, Look, Mode, Move, Reason, Reply, Run, Step, Take}
 use Rattle.tm_run.specs.Fields.{number_of, mode_of, reason_of, move_of, numbers_of, answer_of, heard_of, file_of}
 use Rattle.tm_run.specs.Replies.{held_of, fault_of, kind_of, edited_of, edit_of}
 use Rattle.tm_run.specs.StepWords.{step_in, step_of}

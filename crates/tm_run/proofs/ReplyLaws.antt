@@ -1,15 +1,8 @@
 -- The replies of steps: what is printed is a word, and is read again; what is read is in its range.
 use Rattle.std.proofs.Common.{◌≡◌, Bool, true, false, cond, List, [], ◌∷◌, ◌++◌, Option, Some, None, refl, ap, ◌∙◌, arith}
 use Rattle.std.specs.Prelude.{codes, decimal}
-use Rattle.tm_word.specs.Words.{Text}
-use Rattle.tm_word.specs.Texts.{texts_equal, is_word, pieces}
-use Rattle.tm_types.specs.declared.entry.LineKind.{LineKind}
-use Rattle.tm_types.specs.declared.step.FileKind.{FileKind}
-use Rattle.tm_types.specs.declared.step.MakeReply.{MakeReply}
-use Rattle.tm_types.specs.declared.step.EditReply.{EditReply}
-use Rattle.tm_types.specs.declared.step.Held.{Held}
-use Rattle.tm_types.specs.declared.step.AnswerFault.{AnswerFault}
-use Rattle.tm_types.specs.Texts.{policy_text, edit_text}
+use Rattle.tm_word.specs.Prelude.{Text, is_word, pieces, texts_equal}
+use Rattle.tm_rules.specs.Types.{AnswerFault, EditReply, FileKind, Held, LineKind, MakeReply, edit_text, policy_text}
 use Rattle.tm_run.specs.Steps.{make_text, fail_text, held_text, answer_reply_text, change_text}
 use Rattle.tm_run.specs.Fields.{u32_of, file_of}
 use Rattle.tm_run.specs.Replies.{made_in, make_of, held_in, held_of, fault_of, kind_of, edited_of, edit_of}

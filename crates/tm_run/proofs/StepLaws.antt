@@ -3,24 +3,10 @@ use Rattle.std.proofs.Common.{◌≡◌, ℕ, ◌&&◌, Bool, true, false, cond,
 use Rattle.std.specs.Prelude.{codes, decimal}
 use Rattle.std.specs.List.{list_all}
 use Rattle.std.proofs.lemmas.List.Splits.{join_with_byte-slice_split}
-use Rattle.tm_word.specs.Words.{Text}
-use Rattle.tm_word.specs.Spelling.{words_of, joined}
-use Rattle.tm_word.specs.Matching.{is_empty}
-use Rattle.tm_word.specs.Texts.{texts_equal, is_word}
+use Rattle.tm_word.specs.Prelude.{Text, is_empty, is_word, joined, texts_equal, words_of}
 use Rattle.tm_word.proofs.WordLaws.{words_are}
-use Rattle.tm_types.specs.declared.entry.Entry.{Entry}
-use Rattle.tm_types.specs.declared.entry.LineKind.{LineKind}
-use Rattle.tm_types.specs.declared.step.FileKind.{FileKind}
-use Rattle.tm_types.specs.declared.step.Step.{Step}
-use Rattle.tm_types.specs.declared.step.LearnReply.{LearnReply}
-use Rattle.tm_types.specs.declared.step.MakeReply.{MakeReply}
-use Rattle.tm_types.specs.declared.step.EditReply.{EditReply}
-use Rattle.tm_types.specs.declared.step.Held.{Held}
-use Rattle.tm_types.specs.declared.step.AnswerFault.{AnswerFault}
-use Rattle.tm_types.specs.declared.step.Reply.{Reply}
-use Rattle.tm_types.specs.Texts.{policy_text}
-use Rattle.tm_rules.specs.Words.{DomainName}
-use Rattle.tm_rules.specs.Transition.{is_domain_name}
+use Rattle.tm_rules.specs.Types.{AnswerFault, EditReply, Entry, FileKind, Held, LearnReply, LineKind, MakeReply, Reply, Step, policy_text}
+use Rattle.tm_rules.specs.Prelude.{DomainName, is_domain_name}
 use Rattle.tm_domain.specs.Names.{is_path}
 use Rattle.tm_domain.proofs.NameLaws.{same_texts, texts_same}
 use Rattle.tm_line.specs.Domains.{domain_to_end}

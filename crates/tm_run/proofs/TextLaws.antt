@@ -6,10 +6,8 @@ use Rattle.std.proofs.lemmas.Iterator.Adapters.{position_from-zero}
 use Rattle.std.proofs.lemmas.List.{append-nil}
 use Rattle.std.proofs.lemmas.List.Elements.{filter-append}
 use Rattle.std.proofs.lemmas.List.Splits.{slice_split-cons_no, slice_split-cons_yes, length-slice_split}
-use Rattle.tm_word.specs.Words.{Text}
-use Rattle.tm_word.specs.Spelling.{is_separator, words_of, joined}
+use Rattle.tm_word.specs.Prelude.{Text, is_separator, is_solid, is_word, joined, words_of}
 use Rattle.tm_addr.proofs.Free.{Free, free_append}
-use Rattle.tm_word.specs.Texts.{is_solid, is_word}
 use Rattle.tm_line.proofs.Steps.{both, not_true}
 use Rattle.tm_line.proofs.WholeLaws.{words_again}
 use Rattle.tm_run.specs.Reading.{onto_line, lines_of}
@@ -179,15 +177,6 @@ joined_inline (w ∷ v ∷ words) h =
 
 pub spells_joined : (words : List Text) → list_all is_word words ≡ true → Spells (joined words) words
 spells_joined words h = record { found = words_again words h; inline = joined_inline words h }
-
--- a word and the space after it
-pub spells_end : (w : Text) → is_word w ≡ true → Spells (w ++ 32 ∷ []) (w ∷ [])
-spells_end w h =
-    let s = one_word w h in
-    record {
-      found = words_cut w [] 32 refl ∙ ap (λ (ws : List Text). ws ++ words_of []) s.found ∙ ap (λ (ws : List Text). w ∷ ws) no_words;
-      inline = free_append 10 w (32 ∷ []) s.inline (refl, tt);
-    }
 
 -- a line with the byte that ends it, and its words
 pub record Line (line : Text) (words : List Text) : Type 0 where

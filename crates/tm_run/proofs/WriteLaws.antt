@@ -5,15 +5,9 @@ use Rattle.std.specs.List.{list_all, flat_map, concat}
 use Rattle.std.proofs.lemmas.List.{append-nil, length-append}
 use Rattle.std.proofs.lemmas.List.Folds.{list_all-append}
 use Rattle.std.proofs.lemmas.Grind.{flat_map-append}
-use Rattle.tm_word.specs.Words.{Text}
-use Rattle.tm_word.specs.Spelling.{words_of, spell, spelled_word}
+use Rattle.tm_word.specs.Prelude.{Text, is_word, spell, spelled_word, texts_equal, words_of}
 use Rattle.tm_word.proofs.Spelled.{word_found, word_small}
-use Rattle.tm_types.specs.declared.step.Step.{Step}
-use Rattle.tm_types.specs.declared.step.Reply.{Reply}
-use Rattle.tm_types.specs.declared.step.Look.{Look}
-use Rattle.tm_types.specs.declared.step.Take.{Take}
-use Rattle.tm_types.specs.declared.step.Run.{Run}
-use Rattle.tm_word.specs.Texts.{texts_equal, is_word}
+use Rattle.tm_rules.specs.Types.{Look, Reply, Run, Step, Take}
 use Rattle.tm_word.proofs.WordLaws.{words_are}
 use Rattle.tm_run.specs.StepWords.{step_of}
 use Rattle.tm_domain.proofs.NameLaws.{same_texts}

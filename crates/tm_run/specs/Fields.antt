@@ -1,18 +1,8 @@
 -- The fields of a line of a run, each one word. A word that a field can't have is read as some
 -- value all the same: what is read counts only where its printed line is the line that was read.
 use Rattle.std.specs.Prelude.{ℕ, ◌^◌, if◌then◌else◌, List, [], ◌∷◌, codes, map, Option, Some, None}
-use Rattle.tm_word.specs.Words.{Text}
-use Rattle.tm_types.specs.declared.policy.Mode.{Mode}
-use Rattle.tm_types.specs.declared.verdict.EntryPlace.{EntryPlace}
-use Rattle.tm_types.specs.declared.verdict.Reason.{Reason}
-use Rattle.tm_types.specs.declared.verdict.Move.{Move}
-use Rattle.tm_types.specs.declared.step.Answered.{Answered}
-use Rattle.tm_types.specs.declared.step.Heard.{Heard}
-use Rattle.tm_types.specs.declared.step.FileKind.{FileKind}
-use Rattle.tm_types.specs.declared.step.LearnReply.{LearnReply}
-use Rattle.tm_word.specs.Closed.{of_word, or_else}
-use Rattle.tm_word.specs.Texts.{texts_equal, pieces}
-use Rattle.tm_types.specs.Texts.{mode_text, modes, policy_text, policies, learn_text, learn_replies}
+use Rattle.tm_word.specs.Prelude.{Text, of_word, or_else, pieces, texts_equal}
+use Rattle.tm_rules.specs.Types.{Answered, EntryPlace, FileKind, Heard, LearnReply, Mode, Move, Reason, learn_replies, learn_text, mode_text, modes, policies, policy_text}
 use Rattle.tm_run.specs.RunText.{reason_text, answered_text}
 use Rattle.tm_number.specs.Numbers.{plain_of}
 

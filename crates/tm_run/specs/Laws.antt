@@ -1,7 +1,7 @@
 -- Reading and printing the text of a run, both ways.
 use Rattle.std.specs.Prelude.{◌≡◌, ℕ, ◌-◌, true, take, Ok, Err}
-use Rattle.tm_word.specs.Words.{Text}
-use Rattle.tm_types.specs.declared.step.Run.{Run}
+use Rattle.tm_word.specs.Prelude.{Text}
+use Rattle.tm_rules.specs.Types.{Run}
 use Rattle.tm_run.specs.RunText.{run_text}
 use Rattle.tm_run.specs.Reading.{lines_of, run_of}
 use Rattle.tm_run.specs.Written.{is_written}

@@ -1,14 +1,7 @@
 -- What reading the text of a run gives.
 use Rattle.std.specs.Prelude.{ℕ, ◌+◌, ◌^◌, ◌==◌, nat_lt, Bool, true, false, ◌||◌, ◌&&◌, if◌then◌else◌, List, [], ◌∷◌, ◌++◌, length, codes, Option, Some, None, Result, Ok, Err}
-use Rattle.tm_word.specs.Words.{Text}
-use Rattle.tm_word.specs.Spelling.{words_of, spelled_word}
-use Rattle.tm_types.specs.declared.step.Step.{Step}
-use Rattle.tm_types.specs.declared.step.Reply.{Reply}
-use Rattle.tm_types.specs.declared.step.Look.{Look}
-use Rattle.tm_types.specs.declared.step.Take.{Take}
-use Rattle.tm_types.specs.declared.step.Run.{Run}
-use Rattle.tm_types.specs.declared.step.RunFault.{RunFault}
-use Rattle.tm_word.specs.Texts.{texts_equal}
+use Rattle.tm_word.specs.Prelude.{Text, spelled_word, texts_equal, words_of}
+use Rattle.tm_rules.specs.Types.{Look, Reply, Run, RunFault, Step, Take}
 use Rattle.tm_run.specs.declared.reading.Reading.{Reading}
 use Rattle.tm_run.specs.Steps.{step_line}
 use Rattle.tm_run.specs.RunText.{take_line, look_text, audit_line}

@@ -1,15 +1,8 @@
 -- The reply in a step's line, one word. A word that a reply can't have is read as some reply all
 -- the same: what is read counts only where its printed line is the line that was read.
 use Rattle.std.specs.Prelude.{if◌then◌else◌, List, [], ◌∷◌, codes, Option}
-use Rattle.tm_word.specs.Words.{Text}
-use Rattle.tm_types.specs.declared.entry.LineKind.{LineKind}
-use Rattle.tm_types.specs.declared.step.MakeReply.{MakeReply}
-use Rattle.tm_types.specs.declared.step.EditReply.{EditReply}
-use Rattle.tm_types.specs.declared.step.Held.{Held}
-use Rattle.tm_types.specs.declared.step.AnswerFault.{AnswerFault}
-use Rattle.tm_word.specs.Closed.{of_word, or_else}
-use Rattle.tm_word.specs.Texts.{texts_equal, pieces}
-use Rattle.tm_types.specs.Texts.{kind_text, kinds, edit_text}
+use Rattle.tm_word.specs.Prelude.{Text, of_word, or_else, pieces, texts_equal}
+use Rattle.tm_rules.specs.Types.{AnswerFault, EditReply, Held, LineKind, MakeReply, edit_text, kind_text, kinds}
 use Rattle.tm_run.specs.Steps.{fault_text}
 use Rattle.tm_run.specs.Fields.{u32_of, u64_of}
 

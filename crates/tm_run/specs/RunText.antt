@@ -1,18 +1,8 @@
 -- The text of a run.
 use Rattle.std.specs.Prelude.{ℕ, ◌+◌, Bool, true, false, List, [], ◌∷◌, ◌++◌, Option, Some, None, decimal, codes}
 use Rattle.std.specs.List.{flat_map}
-use Rattle.tm_word.specs.Words.{Text}
-use Rattle.tm_word.specs.Spelling.{spell}
-use Rattle.tm_types.specs.declared.policy.Mode.{Mode}
-use Rattle.tm_types.specs.declared.verdict.EntryPlace.{EntryPlace}
-use Rattle.tm_types.specs.declared.verdict.Reason.{Reason}
-use Rattle.tm_types.specs.declared.verdict.Move.{Move}
-use Rattle.tm_types.specs.declared.step.Answered.{Answered}
-use Rattle.tm_types.specs.declared.step.Heard.{Heard}
-use Rattle.tm_types.specs.declared.step.Look.{Look}
-use Rattle.tm_types.specs.declared.step.Take.{Take}
-use Rattle.tm_types.specs.declared.step.Run.{Run}
-use Rattle.tm_types.specs.Texts.{mode_text}
+use Rattle.tm_word.specs.Prelude.{Text, spell}
+use Rattle.tm_rules.specs.Types.{Answered, EntryPlace, Heard, Look, Mode, Move, Reason, Run, Take, mode_text}
 use Rattle.tm_run.specs.Steps.{steps_text}
 
 -- a mode's word, and `none` for a manual transition

@@ -1,14 +1,9 @@
 -- What the words of a step's line say. Words that no step has are read as some step, or as none:
 -- what is read counts only where its printed line is the line that was read.
 use Rattle.std.specs.Prelude.{ℕ, if◌then◌else◌, List, [], ◌∷◌, codes, Option, Some, None, Result, Ok, Err}
-use Rattle.tm_word.specs.Words.{Text}
-use Rattle.tm_word.specs.Spelling.{joined}
-use Rattle.tm_types.specs.declared.entry.Entry.{Entry}
-use Rattle.tm_types.specs.declared.entry.LineKind.{LineKind}
-use Rattle.tm_types.specs.declared.step.Step.{Step}
-use Rattle.tm_types.specs.declared.step.Reply.{Reply}
-use Rattle.tm_word.specs.Texts.{texts_equal}
-use Rattle.tm_rules.specs.Words.{DomainName}
+use Rattle.tm_word.specs.Prelude.{Text, joined, texts_equal}
+use Rattle.tm_rules.specs.Types.{Entry, LineKind, Reply, Step}
+use Rattle.tm_rules.specs.Prelude.{DomainName}
 use Rattle.tm_line.specs.Domains.{domain_to_end}
 use Rattle.tm_entry.specs.Entries.{entry_of}
 use Rattle.tm_run.specs.Fields.{u32_of, u64_of, reply_of, file_of}

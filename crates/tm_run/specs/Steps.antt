@@ -1,13 +1,7 @@
 -- The lines of the steps of a run.
 use Rattle.std.specs.Prelude.{ℕ, ◌+◌, Bool, true, false, List, [], ◌∷◌, ◌++◌, Option, Some, None, decimal, codes}
-use Rattle.tm_word.specs.Words.{Text}
-use Rattle.tm_word.specs.Spelling.{joined}
-use Rattle.tm_types.specs.declared.step.Step.{Step}
-use Rattle.tm_types.specs.declared.step.MakeReply.{MakeReply}
-use Rattle.tm_types.specs.declared.step.Held.{Held}
-use Rattle.tm_types.specs.declared.step.AnswerFault.{AnswerFault}
-use Rattle.tm_types.specs.declared.step.Reply.{Reply}
-use Rattle.tm_types.specs.Texts.{policy_text, edit_text, learn_text}
+use Rattle.tm_word.specs.Prelude.{Text, joined}
+use Rattle.tm_rules.specs.Types.{AnswerFault, Held, MakeReply, Reply, Step, edit_text, learn_text, policy_text}
 use Rattle.tm_entry.specs.Entries.{entry_words}
 
 -- the number of the new domain, or of the live one of that name

@@ -1,10 +1,7 @@
 -- What the types of a run's fields give: each number in its range.
 use Rattle.std.specs.Prelude.{Bool, true, ◌&&◌, length}
 use Rattle.std.specs.List.{list_all}
-use Rattle.tm_types.specs.declared.step.Step.{Step}
-use Rattle.tm_types.specs.declared.step.Reply.{Reply}
-use Rattle.tm_types.specs.declared.step.Take.{Take}
-use Rattle.tm_types.specs.declared.step.Run.{Run}
+use Rattle.tm_rules.specs.Types.{Reply, Run, Step, Take}
 use Rattle.tm_run.specs.Written.{is_plain, is_wide, is_made, is_held, is_look}
 
 -- the numbers of a step: 64 bits for a serial and a code, 32 for a domain, a retry, an editor and a

@@ -1,22 +1,9 @@
 -- The runs that a text can write.
 use Rattle.std.specs.Prelude.{ℕ, ◌^◌, nat_lt, Bool, true, false, not, ◌&&◌, [], length, codes, Option, Some, None}
 use Rattle.std.specs.List.{list_all}
-use Rattle.tm_word.specs.Words.{Text}
-use Rattle.tm_types.specs.declared.verdict.EntryPlace.{EntryPlace}
-use Rattle.tm_types.specs.declared.verdict.Reason.{Reason}
-use Rattle.tm_types.specs.declared.verdict.Move.{Move}
-use Rattle.tm_types.specs.declared.step.Heard.{Heard}
-use Rattle.tm_types.specs.declared.step.Step.{Step}
-use Rattle.tm_types.specs.declared.step.MakeReply.{MakeReply}
-use Rattle.tm_types.specs.declared.step.Held.{Held}
-use Rattle.tm_types.specs.declared.step.Reply.{Reply}
-use Rattle.tm_types.specs.declared.step.Look.{Look}
-use Rattle.tm_types.specs.declared.step.Take.{Take}
-use Rattle.tm_types.specs.declared.step.Run.{Run}
-use Rattle.tm_word.specs.Spelling.{words_of, joined}
-use Rattle.tm_word.specs.Matching.{is_empty}
-use Rattle.tm_word.specs.Texts.{texts_equal}
-use Rattle.tm_rules.specs.Transition.{is_domain_name}
+use Rattle.tm_word.specs.Prelude.{Text, is_empty, joined, texts_equal, words_of}
+use Rattle.tm_rules.specs.Types.{EntryPlace, Heard, Held, Look, MakeReply, Move, Reason, Reply, Run, Step, Take}
+use Rattle.tm_rules.specs.Prelude.{is_domain_name}
 use Rattle.tm_domain.specs.Names.{is_path}
 use Rattle.tm_entry.specs.Entries.{is_entry}
 

@@ -1,6 +1,6 @@
 //! The fields of a line of a run, each one word.
 ghost use Rattle.std.specs.Prelude.{◌≡◌, map, IfOk};
-ghost use Rattle.tm_word.specs.Texts.{pieces};
+ghost use Rattle.tm_word.specs.Prelude.{pieces};
 ghost use Rattle.tm_run.specs.Fields.{u8_of, u32_of, u64_of, case_of, reason_of, way_of, move_of, numbers_of, answer_of, heard_of, file_of};
 
 use std::alloc::Global;

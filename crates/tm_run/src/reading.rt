@@ -2,8 +2,7 @@
 ghost use Rattle.std.specs.Prelude.{◌≡◌, ◌+◌, ◌∷◌, ◌++◌, ◌&&◌, ◌<◌, [], length, true, false, Some, IfOk, MatchOption};
 ghost use Rattle.tm_run.specs.RunText.{run_text, take_line, look_text, audit_line};
 ghost use Rattle.tm_run.specs.Steps.{step_line};
-ghost use Rattle.tm_word.specs.Gives.{Gives};
-ghost use Rattle.tm_word.specs.Texts.{texts_equal};
+ghost use Rattle.tm_word.specs.Prelude.{Gives, texts_equal};
 ghost use Rattle.tm_run.specs.Reading.{run_cause, fresh, has_number, with_step, with_take, with_look, with_audit, is_empty, starts, outside, within, line_read, lines_of, run_at, run_from, run_of};
 ghost use Rattle.tm_run.specs.Laws.{WrittenIsRead, ReadIsWritten, FaultIsFirst};
 

@@ -3,35 +3,18 @@ use Rattle.std.proofs.Common.{◌≡◌, ℕ, suc, ◌&&◌, Bool, true, false, 
 use Rattle.std.specs.Prelude.{Option, Some, None, if◌then◌else◌, slice_get, IfSome, flat_map}
 use Rattle.std.specs.List.{AllByRecursion}
 use Rattle.std.proofs.lemmas.Bool.{and_parts}
-use Rattle.tm_word.specs.Words.{Text}
-use Rattle.tm_word.specs.Spelling.{joined}
-use Rattle.tm_word.specs.Texts.{texts_equal}
-use Rattle.tm_word.specs.Matching.{is_empty}
-use Rattle.tm_rules.specs.Words.{DomainName}
-use Rattle.tm_types.specs.declared.unions.NamePlace.{NamePlace}
-use Rattle.tm_types.specs.declared.entry.Entry.{Entry}
-use Rattle.tm_types.specs.declared.policy.Mode.{Mode}
-use Rattle.tm_types.specs.declared.step.Step.{Step}
-use Rattle.tm_types.specs.declared.step.Reply.{Reply}
-use Rattle.tm_types.specs.declared.step.Look.{Look}
-use Rattle.tm_types.specs.declared.step.Take.{Take}
-use Rattle.tm_types.specs.declared.step.Run.{Run}
-use Rattle.tm_types.specs.declared.verdict.Move.{Move}
-use Rattle.tm_types.specs.declared.verdict.Reason.{Reason}
-use Rattle.tm_types.specs.declared.verdict.Verdict.{Verdict}
+use Rattle.tm_word.specs.Prelude.{Text, is_empty, joined, texts_equal}
+use Rattle.tm_rules.specs.Prelude.{DomainName, Grammar, is_request}
+use Rattle.tm_rules.specs.Types.{Entry, Look, Mode, Move, NamePlace, Reason, Reply, Run, Step, Take, Verdict}
 use Rattle.tm_domain.specs.Names.{is_path}
 use Rattle.tm_domain.proofs.NameLaws.{texts_same}
 use Rattle.tm_line.proofs.WholeLaws.{words_again}
 use Rattle.tm_trace.specs.Entries.{entry_words, entry_of, acl_line, is_entry}
 use Rattle.tm_trace.proofs.EntryLaws.{entry_again}
 use Rattle.tm_trace.proofs.EntryText.{entry_are}
-use Rattle.tm_rules.specs.Grammar.{Grammar}
-use Rattle.tm_rules.specs.Requests.{is_request}
 use Rattle.tm_trace.specs.Written.{is_trace_request}
 use Rattle.tm_grammar.specs.Tomoyo.{tomoyo_grammar}
-use Rattle.tm_legal.specs.Run.{Case, steps_of, step_at}
-use Rattle.tm_legal.specs.Legal.{Scene, Subject, opening_of, state_at, cases_of, subject_of, LookHolds, TakeHolds, Legal, steps_of_line, steps_of_move, steps_asked, look_grants, retry_written, OwnSteps, own_numbers, times}
-use Rattle.tm_legal.specs.Play.{IsOpened, CanPlay}
+use Rattle.tm_legal.specs.Prelude.{CanPlay, Case, IsOpened, Legal, LookHolds, OwnSteps, Scene, Subject, TakeHolds, cases_of, look_grants, opening_of, own_numbers, retry_written, state_at, step_at, steps_asked, steps_of, steps_of_line, steps_of_move, subject_of, times}
 use Rattle.tm_legal.proofs.Asked.{All-append}
 use Rattle.tm_legal.proofs.Opened.{steps_keep_opened}
 use Rattle.tm_run.specs.Written.{is_line}

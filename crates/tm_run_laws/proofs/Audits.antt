@@ -5,28 +5,10 @@ use Rattle.std.specs.Prelude.{Option, Some, None, codes, decimal, IfSome}
 use Rattle.std.specs.Option.{option_and_then}
 use Rattle.std.specs.List.{AllByRecursion}
 use Rattle.std.proofs.lemmas.List.Splits.{join_with_byte-slice_split}
-use Rattle.tm_word.specs.Words.{Text}
-use Rattle.tm_word.specs.Spelling.{are_bytes}
-use Rattle.tm_rules.specs.Words.{DomainName}
-use Rattle.tm_types.specs.declared.policy.Logs.{Logs}
-use Rattle.tm_types.specs.declared.policy.Mode.{Mode}
-use Rattle.tm_types.specs.declared.policy.Domain.{Domain}
-use Rattle.tm_types.specs.declared.policy.Policy.{Policy}
-use Rattle.tm_types.specs.declared.request.Proc.{Proc}
-use Rattle.tm_types.specs.declared.request.Request.{Request}
-use Rattle.tm_types.specs.declared.step.Look.{Look}
-use Rattle.tm_types.specs.declared.step.Take.{Take}
-use Rattle.tm_types.specs.declared.step.Run.{Run}
-use Rattle.tm_types.specs.declared.verdict.Reason.{Reason}
-use Rattle.tm_types.specs.declared.verdict.Verdict.{Verdict}
-use Rattle.tm_types.specs.Texts.{mode_text}
-use Rattle.tm_types.specs.Functions.{function_of}
+use Rattle.tm_word.specs.Prelude.{Text, are_bytes}
+use Rattle.tm_rules.specs.Prelude.{DomainName, Grammar, audit_in, audit_lines, audit_text, domain_at, granted_text, ids_text, is_domain_name, is_logged, logs_of, namespace_of, profile_of, reason_text}
+use Rattle.tm_rules.specs.Types.{Domain, Logs, Look, Mode, Policy, Proc, Reason, Request, Run, Take, Verdict, function_of, mode_text}
 use Rattle.tm_domain.specs.Names.{is_path}
-use Rattle.tm_rules.specs.Transition.{is_domain_name}
-use Rattle.tm_rules.specs.Grammar.{Grammar}
-use Rattle.tm_rules.specs.Mode.{logs_of}
-use Rattle.tm_rules.specs.Policy.{domain_at, namespace_of, profile_of}
-use Rattle.tm_rules.specs.Audit.{is_logged, granted_text, reason_text, ids_text, audit_lines, audit_in, audit_text}
 use Rattle.tm_line.specs.DomainWords.{domain_parts}
 use Rattle.tm_line.proofs.WholeLaws.{parts_are}
 use Rattle.tm_line.proofs.Steps.{all}
@@ -35,9 +17,7 @@ use Rattle.tm_trace.specs.Written.{is_trace_request}
 use Rattle.tm_trace.proofs.WordLaws.{request_are}
 use Rattle.tm_trace.proofs.TextLaws.{request_joined}
 use Rattle.tm_grammar.specs.Tomoyo.{tomoyo_grammar}
-use Rattle.tm_legal.specs.Run.{Case, steps_of}
-use Rattle.tm_legal.specs.Legal.{Scene, opening_of, state_at, cases_of, subject_of, LookHolds, TakeHolds, Legal, last_look, EndsWith}
-use Rattle.tm_legal.specs.Play.{IsNamed}
+use Rattle.tm_legal.specs.Prelude.{Case, EndsWith, IsNamed, Legal, LookHolds, Scene, TakeHolds, cases_of, last_look, opening_of, state_at, steps_of, subject_of}
 use Rattle.tm_legal.proofs.Named.{steps_keep_names}
 use Rattle.tm_run.specs.Written.{is_audit}
 use Rattle.tm_run_laws.specs.Scenes.{IsReadScene}

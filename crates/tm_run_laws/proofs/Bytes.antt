@@ -6,9 +6,7 @@ use Rattle.std.specs.List.{list_all}
 use Rattle.std.proofs.Math.Nat.{mod-lt}
 use Rattle.std.proofs.lemmas.Bool.{lt-ltb, leb-false}
 use Rattle.std.proofs.lemmas.List.Folds.{list_all-append}
-use Rattle.tm_word.specs.Words.{Text}
-use Rattle.tm_word.specs.Spelling.{are_bytes, is_separator, joined}
-use Rattle.tm_word.specs.Texts.{is_solid, is_word}
+use Rattle.tm_word.specs.Prelude.{Text, are_bytes, is_separator, is_solid, is_word, joined}
 use Rattle.tm_line.proofs.Steps.{both, all}
 
 pub bytes-append : (xs ys : Text) → are_bytes xs ≡ true → are_bytes ys ≡ true → are_bytes (xs ++ ys) ≡ true

@@ -1,20 +1,14 @@
 -- The `do` lines of a read trace with their takes: each asks a request that a trace can hold.
 use Rattle.std.proofs.Common.{◌≡◌, ℕ, suc, true, ◌&&◌, List, [], ◌∷◌, ◌++◌, length, take, drop}
 use Rattle.std.specs.List.{AllByRecursion, list_all}
-use Rattle.tm_rules.specs.Words.{Trace}
-use Rattle.tm_types.specs.declared.policy.Policy.{Policy}
-use Rattle.tm_types.specs.declared.request.Item.{Item}
-use Rattle.tm_types.specs.declared.request.Tree.{Tree}
-use Rattle.tm_types.specs.declared.step.Take.{Take}
-use Rattle.tm_types.specs.declared.step.Run.{Run}
+use Rattle.tm_rules.specs.Prelude.{Trace, is_domain_name}
+use Rattle.tm_rules.specs.Types.{Item, Policy, Run, Take, Tree}
 use Rattle.tm_trace.specs.Trees.{made_by}
 use Rattle.tm_trace.specs.Written.{is_trace_request, is_item, are_items, is_tree}
 use Rattle.tm_domain.specs.Names.{is_path}
-use Rattle.tm_rules.specs.Transition.{is_domain_name}
 use Rattle.tm_trace.specs.Written.{is_pid}
 use Rattle.tm_line.proofs.Steps.{both}
-use Rattle.tm_legal.specs.Run.{Situations, with_situation, with_ids, forked, after_take, at_start, Case, tree_cases, cases_from, do_pids}
-use Rattle.tm_legal.specs.Legal.{Scene, cases_of}
+use Rattle.tm_legal.specs.Prelude.{Case, Scene, Situations, after_take, at_start, cases_from, cases_of, do_pids, forked, tree_cases, with_ids, with_situation}
 use Rattle.tm_legal.proofs.Asked.{All-append}
 
 -- a `do` line asks a request that a trace can hold

@@ -4,7 +4,7 @@ use Rattle.std.specs.Prelude.{Option, Some, slice_get, IfSome, flat_map}
 use Rattle.std.specs.List.{AllByRecursion, list_all}
 use Rattle.std.proofs.lemmas.Bool.{eqb-true}
 use Rattle.tm_line.proofs.Steps.{both, all}
-use Rattle.tm_legal.specs.Legal.{times}
+use Rattle.tm_legal.specs.Prelude.{times}
 use Rattle.tm_legal.proofs.Asked.{All-append}
 
 pub All-map : {A : Type 0} (P Q : A → Type 0) (xs : List A) → ((x : A) → P x → Q x) → AllByRecursion P xs → AllByRecursion Q xs

@@ -5,25 +5,10 @@ use Rattle.std.specs.Prelude.{Option, Some, None, slice_get, unwrap_or, nat_lt, 
 use Rattle.std.specs.Option.{option_map_or}
 use Rattle.std.specs.List.{list_all, cons_option}
 use Rattle.std.proofs.lemmas.Bool.{and_parts}
-use Rattle.tm_word.specs.Words.{Text}
-use Rattle.tm_word.specs.Texts.{texts_equal}
-use Rattle.tm_rules.specs.Words.{DomainName}
-use Rattle.tm_types.specs.declared.entry.Entry.{Entry}
-use Rattle.tm_types.specs.declared.policy.Domain.{Domain}
-use Rattle.tm_types.specs.declared.policy.Policy.{Policy}
-use Rattle.tm_types.specs.declared.step.FileKind.{FileKind}
-use Rattle.tm_types.specs.declared.step.Editor.{Editor}
-use Rattle.tm_types.specs.declared.step.EditReply.{EditReply}
-use Rattle.tm_types.specs.declared.step.Step.{Step}
-use Rattle.tm_types.specs.declared.step.Reply.{Reply}
-use Rattle.tm_rules.specs.Grammar.{Grammar}
-use Rattle.tm_rules.specs.Policy.{domain_at, namespace_word}
-use Rattle.tm_rules.specs.Transition.{is_domain_name}
-use Rattle.tm_rules.specs.Changes.{in_domain, learn, make, fail, is_task, is_manager}
-use Rattle.tm_rules.specs.Queries.{numbered, ask}
-use Rattle.tm_legal.specs.Run.{History}
-use Rattle.tm_legal.specs.Steps.{State, Applied, unfit, on_policy, on_queries, fits_entry, fits_name, edit_step, apply}
-use Rattle.tm_legal.specs.Legal.{Replies, edit_line, lines_of_editor}
+use Rattle.tm_word.specs.Prelude.{Text, texts_equal}
+use Rattle.tm_rules.specs.Prelude.{DomainName, Grammar, ask, domain_at, fail, in_domain, is_domain_name, is_manager, is_task, learn, make, namespace_word, numbered}
+use Rattle.tm_rules.specs.Types.{Domain, EditReply, Editor, Entry, FileKind, Policy, Reply, Step}
+use Rattle.tm_legal.specs.Prelude.{Applied, History, Replies, State, apply, edit_line, edit_step, fits_entry, fits_name, lines_of_editor, on_policy, on_queries, unfit}
 use Rattle.tm_run.specs.Written.{is_learn_reply, is_make_reply, is_fail_reply, is_ask_reply, is_edit_reply, is_end_reply, is_reply_of}
 use Rattle.tm_run.specs.Typed.{replies_number}
 

@@ -3,23 +3,14 @@ use Rattle.std.proofs.Common.{◌≡◌, ℕ, zero, suc, true, ◌&&◌, List, [
 use Rattle.std.specs.Prelude.{Some, slice_get}
 use Rattle.std.specs.List.{AllByRecursion, list_all}
 use Rattle.std.proofs.lemmas.Bool.{and_parts}
-use Rattle.tm_word.specs.Words.{Text}
-use Rattle.tm_rules.specs.Grammar.{Grammar}
-use Rattle.tm_rules.specs.Transition.{is_domain_name}
+use Rattle.tm_word.specs.Prelude.{Text}
+use Rattle.tm_rules.specs.Prelude.{Grammar, is_domain_name, numbered}
 use Rattle.tm_domain.specs.Names.{is_path}
 use Rattle.tm_trace.specs.Entries.{is_entry}
-use Rattle.tm_types.specs.declared.step.FileKind.{FileKind}
-use Rattle.tm_types.specs.declared.step.Editor.{Editor}
-use Rattle.tm_types.specs.declared.step.Step.{Step}
-use Rattle.tm_types.specs.declared.step.Reply.{Reply}
-use Rattle.tm_types.specs.declared.step.Take.{Take}
-use Rattle.tm_types.specs.declared.step.Run.{Run}
-use Rattle.tm_types.specs.declared.step.Turn.{Turn}
-use Rattle.tm_rules.specs.Queries.{numbered}
+use Rattle.tm_rules.specs.Types.{Editor, FileKind, Reply, Run, Step, Take, Turn}
 use Rattle.tm_script.specs.Written.{is_who, is_editor}
 use Rattle.tm_script.specs.Written.{is_line as is_script_line}
-use Rattle.tm_legal.specs.Legal.{Scene, Legal, opening_of, lines_of_editor}
-use Rattle.tm_legal.specs.Play.{Plays}
+use Rattle.tm_legal.specs.Prelude.{Legal, Plays, Scene, lines_of_editor, opening_of}
 use Rattle.tm_legal.proofs.PlayLaws.{every_play_is_legal}
 use Rattle.tm_line.proofs.Steps.{all}
 use Rattle.tm_run.specs.RunText.{run_text}

@@ -3,8 +3,7 @@ use Rattle.std.specs.Prelude.{◌≡◌, true}
 use Rattle.std.specs.List.{list_all}
 use Rattle.tm_trace.specs.Written.{IsTrace}
 use Rattle.tm_script.specs.Written.{is_editor}
-use Rattle.tm_legal.specs.Legal.{Scene}
-use Rattle.tm_legal.specs.Play.{CanPlay}
+use Rattle.tm_legal.specs.Prelude.{CanPlay, Scene}
 use Rattle.tm_grammar.specs.Tomoyo.{tomoyo_grammar}
 
 -- the grammar is this language's, the scene can be played, and its trace and its editors are such

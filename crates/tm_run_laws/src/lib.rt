@@ -1,16 +1,15 @@
 //! Runs of this language and their texts: whatever is played can be written and is read back.
 //! Stands on tm_legal, tm_grammar, tm_trace, tm_script and tm_run; no code but for functions
 //! without a body, on which the laws stand.
+//! Of its own, so that tm_run stands on no meaning of a run, and tm_legal on no text.
 //! Promises that every legal run of a scene that was read is one that a text can write, so that its
 //! text is read back as that run and determines it.
 #![tactic(auto)]
 
 ghost use Rattle.std.specs.Prelude.{◌≡◌, true, List, Ok};
-ghost use Rattle.tm_word.specs.Words.{Text};
-ghost use Rattle.tm_types.specs.declared.step.Run.{Run};
-ghost use Rattle.tm_types.specs.declared.step.Turn.{Turn};
-ghost use Rattle.tm_legal.specs.Legal.{Scene, Legal};
-ghost use Rattle.tm_legal.specs.Play.{Plays, CanPlay};
+ghost use Rattle.tm_word.specs.Prelude.{Text};
+ghost use Rattle.tm_rules.specs.Types.{Run, Turn};
+ghost use Rattle.tm_legal.specs.Prelude.{CanPlay, Legal, Plays, Scene};
 ghost use Rattle.tm_grammar.specs.Tomoyo.{tomoyo_grammar};
 ghost use Rattle.tm_trace.specs.Reading.{trace_of};
 ghost use Rattle.tm_script.specs.Edits.{edits_of};

@@ -4,14 +4,8 @@ use Rattle.std.specs.Prelude.{codes}
 use Rattle.std.specs.List.{slice_split, onto_first}
 use Rattle.std.proofs.lemmas.List.{length-append}
 use Rattle.std.proofs.lemmas.List.Splits.{slice_split-cons_no, slice_split-cons_yes}
-use Rattle.tm_word.specs.Words.{Text}
-use Rattle.tm_word.specs.Spelling.{words_of}
-use Rattle.tm_types.specs.declared.request.ScriptKind.{ScriptKind}
-use Rattle.tm_types.specs.declared.step.Editor.{Editor}
-use Rattle.tm_types.specs.declared.step.FileKind.{FileKind}
-use Rattle.tm_types.specs.declared.step.Turn.{Turn}
-use Rattle.tm_word.specs.Texts.{texts_equal, lines_of}
-use Rattle.tm_word.specs.Gives.{◌>>=◌}
+use Rattle.tm_word.specs.Prelude.{Text, lines_of, texts_equal, words_of, ◌>>=◌}
+use Rattle.tm_rules.specs.Types.{Editor, FileKind, ScriptKind, Turn}
 use Rattle.tm_script.specs.Steps.{word_at, number_at}
 use Rattle.tm_script.specs.Lines.{line_read, numbered, script_lines, script_of}
 use Rattle.tm_script.specs.Edits.{exe_word, domain_rest, editor_of, file_of, line_text, with_line, no_edits, all_editors, edit_by, edits_line, edits_of}

@@ -1,11 +1,8 @@
 -- A fault is the first wrong line's: those before it are read, and it is wrong in its kind.
 use Rattle.std.proofs.Common.{◌≡◌, ℕ, suc, ◌+◌, List, [], ◌∷◌, take, Some, Result, Ok, Err, refl, ap, ◌∙◌, arith}
 use Rattle.std.specs.Prelude.{slice_get}
-use Rattle.tm_word.specs.Words.{Text}
-use Rattle.tm_word.specs.Spelling.{words_of}
-use Rattle.tm_types.specs.declared.request.ScriptKind.{ScriptKind}
-use Rattle.tm_word.specs.Texts.{lines_of}
-use Rattle.tm_word.specs.Gives.{◌>>=◌}
+use Rattle.tm_word.specs.Prelude.{Text, lines_of, words_of, ◌>>=◌}
+use Rattle.tm_rules.specs.Types.{ScriptKind}
 use Rattle.tm_script.specs.Lines.{line_read, numbered, script_lines, script_of, FirstWrong}
 use Rattle.tm_script.specs.Edits.{no_edits, all_editors, edits_line, edits_of}
 use Rattle.tm_script.specs.Answers.{no_rules, answers_line, answers_of}

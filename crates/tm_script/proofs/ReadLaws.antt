@@ -4,34 +4,20 @@ use Rattle.std.specs.Prelude.{codes, is_some, option_to_list, if◌then◌else�
 use Rattle.std.specs.Option.{option_map_or}
 use Rattle.std.specs.List.{list_all}
 use Rattle.std.proofs.lemmas.Bool.{lt-ltb, ltb-false, le-leb}
-use Rattle.tm_word.specs.Words.{Text, Word, Pattern}
-use Rattle.tm_word.specs.Spelling.{are_bytes, spell, words_of, joined, spelled_word}
-use Rattle.tm_word.specs.Matching.{is_empty}
+use Rattle.tm_word.specs.Prelude.{Pattern, Text, Word, are_bytes, begins_with_byte, is_empty, is_word, joined, lines_of, spell, spelled_word, texts_equal, words_of, ◌>>=◌}
 use Rattle.tm_pattern.specs.Grammar.{is_right}
 use Rattle.tm_pattern.specs.Reading.{pattern_of}
 use Rattle.tm_word.proofs.Spelled.{word_found, word_small}
 use Rattle.tm_word.proofs.TextLaws.{texts_full}
 use Rattle.tm_pattern.proofs.RightLaws.{read-right}
-use Rattle.tm_types.specs.declared.request.ScriptKind.{ScriptKind}
-use Rattle.tm_types.specs.declared.step.Answer.{Answer}
-use Rattle.tm_types.specs.declared.step.Book.{Book}
-use Rattle.tm_types.specs.declared.step.BookRule.{BookRule}
-use Rattle.tm_types.specs.declared.step.Editor.{Editor}
-use Rattle.tm_types.specs.declared.step.FileKind.{FileKind}
-use Rattle.tm_types.specs.declared.step.ListWords.{ListWords}
-use Rattle.tm_types.specs.declared.step.Turn.{Turn}
-use Rattle.tm_rules.specs.Book.{code_of}
-use Rattle.tm_word.specs.Texts.{texts_equal, begins_with_byte, lines_of, is_word}
-use Rattle.tm_rules.specs.Requests.{is_path_word}
-use Rattle.tm_rules.specs.Transition.{is_domain_name}
-use Rattle.tm_rules.specs.Words.{DomainName}
+use Rattle.tm_rules.specs.Types.{Answer, Book, BookRule, Editor, FileKind, ListWords, ScriptKind, Turn}
+use Rattle.tm_rules.specs.Prelude.{DomainName, code_of, is_domain_name, is_path_word}
 use Rattle.tm_line.specs.Names.{is_path}
 use Rattle.tm_line.specs.Domains.{domain_words}
 use Rattle.tm_line.specs.Lines.{is_last}
 use Rattle.tm_line.proofs.Steps.{both, all}
 use Rattle.tm_line.proofs.DomainLaws.{words_right}
 use Rattle.tm_line.proofs.WholeLaws.{words_again}
-use Rattle.tm_word.specs.Gives.{◌>>=◌}
 use Rattle.tm_script.specs.Steps.{kinded, or_kind, word_at, number_at, ended}
 use Rattle.tm_script.specs.Lines.{line_read, numbered, script_lines, script_of}
 use Rattle.tm_script.specs.Edits.{exe_word, domain_rest, new_editor, editor_of, file_of, line_text, with_line, no_edits, all_editors, edit_by, edits_line, edits_of}

@@ -3,12 +3,9 @@ use Rattle.std.proofs.Common.{◌≡◌, ℕ, ◌+◌, ◌<◌, Bool, true, fals
 use Rattle.std.specs.Prelude.{⊤, if◌then◌else◌}
 use Rattle.std.specs.List.{list_all}
 use Rattle.std.proofs.lemmas.List.Folds.{list_all-append}
-use Rattle.tm_word.specs.Words.{Text}
-use Rattle.tm_word.specs.Spelling.{words_of}
-use Rattle.tm_types.specs.declared.request.ScriptKind.{ScriptKind}
+use Rattle.tm_word.specs.Prelude.{Text, is_word, words_of, ◌>>=◌}
+use Rattle.tm_rules.specs.Types.{ScriptKind}
 use Rattle.tm_number.specs.Numbers.{plain_of}
-use Rattle.tm_word.specs.Texts.{is_word}
-use Rattle.tm_word.specs.Gives.{◌>>=◌}
 use Rattle.tm_line.proofs.Steps.{both, all}
 use Rattle.tm_number.proofs.NumberLaws.{plain_small}
 use Rattle.tm_script.specs.Steps.{kinded, or_kind, word_at, number_at, ended}

@@ -1,26 +1,13 @@
 -- Worked scripts: what each form gives, and the first wrong line with the kind of each wrong one.
 use Rattle.std.proofs.Common.{◌≡◌, ℕ, Bool, true, false, List, [], ◌∷◌, Option, Some, None, Result, Ok, Err, refl}
 use Rattle.std.specs.Prelude.{codes, map}
-use Rattle.tm_word.specs.Words.{Text, Pattern}
-use Rattle.tm_word.specs.Spelling.{words_of, spelled_word, word_of, head_of}
-use Rattle.tm_word.specs.Matching.{left_by, part_matches, component_matches, components_match, matches}
-use Rattle.tm_word.specs.Printing.{literal}
-use Rattle.tm_word.specs.declared.Element.{Element}
-use Rattle.tm_word.specs.declared.Repeat.{Repeat}
+use Rattle.tm_word.specs.Prelude.{Pattern, Text, component_matches, components_match, head_of, left_by, literal, matches, part_matches, spelled_word, word_of, words_of}
+use Rattle.tm_rules.specs.Types.{Answer, Book, BookRule, Editor, Element, FileKind, ListWords, Query, Repeat, ScriptKind, Turn}
 use Rattle.tm_number.specs.Numbers.{number_of, value_of, plain_of}
 use Rattle.tm_pattern.specs.Tokens.{token_at}
 use Rattle.tm_pattern.specs.Reading.{step, ended, parsed, pattern_of}
 use Rattle.tm_line.specs.Names.{is_path, domain_of}
-use Rattle.tm_types.specs.declared.request.ScriptKind.{ScriptKind}
-use Rattle.tm_types.specs.declared.step.Answer.{Answer}
-use Rattle.tm_types.specs.declared.step.Book.{Book}
-use Rattle.tm_types.specs.declared.step.BookRule.{BookRule}
-use Rattle.tm_types.specs.declared.step.Editor.{Editor}
-use Rattle.tm_types.specs.declared.step.FileKind.{FileKind}
-use Rattle.tm_types.specs.declared.step.ListWords.{ListWords}
-use Rattle.tm_types.specs.declared.step.Query.{Query}
-use Rattle.tm_types.specs.declared.step.Turn.{Turn}
-use Rattle.tm_rules.specs.Book.{book_answer}
+use Rattle.tm_rules.specs.Prelude.{book_answer}
 use Rattle.tm_line.specs.Domains.{domain_words}
 use Rattle.tm_script.specs.Steps.{number_at}
 use Rattle.tm_script.specs.Lines.{script_lines}

@@ -1,16 +1,10 @@
 -- Answers: the book of rules by which a supervisor answers, and after how many answers it leaves.
 use Rattle.std.specs.Prelude.{ℕ, ◌^◌, ◌&&◌, not, Bool, true, false, List, [], ◌∷◌, ◌++◌, take, drop, Some, None, Result, Ok, Err, if◌then◌else◌, codes, is_some}
 use Rattle.std.specs.List.{prefix_len}
-use Rattle.tm_word.specs.Words.{Text, Pattern}
+use Rattle.tm_word.specs.Prelude.{Pattern, Text, texts_equal, ◌>>=◌}
 use Rattle.tm_pattern.specs.Reading.{pattern_of}
-use Rattle.tm_types.specs.declared.request.ScriptKind.{ScriptKind}
-use Rattle.tm_types.specs.declared.step.Answer.{Answer}
-use Rattle.tm_types.specs.declared.step.ListWords.{ListWords}
-use Rattle.tm_types.specs.declared.step.BookRule.{BookRule}
-use Rattle.tm_types.specs.declared.step.Book.{Book}
-use Rattle.tm_word.specs.Texts.{texts_equal}
+use Rattle.tm_rules.specs.Types.{Answer, Book, BookRule, ListWords, ScriptKind}
 use Rattle.tm_line.specs.Lines.{is_last}
-use Rattle.tm_word.specs.Gives.{◌>>=◌}
 use Rattle.tm_script.specs.Steps.{kinded, word_at, number_at, ended}
 use Rattle.tm_script.specs.Lines.{script_of}
 

@@ -1,16 +1,9 @@
 -- Edits: editors, and the policy lines that each of them writes.
 use Rattle.std.specs.Prelude.{ℕ, ◌^◌, List, [], ◌∷◌, ◌++◌, Option, Some, None, Result, Ok, Err, if◌then◌else◌, codes, option_to_list}
-use Rattle.tm_word.specs.Words.{Text, Word}
-use Rattle.tm_word.specs.Spelling.{joined, spelled_word}
-use Rattle.tm_types.specs.declared.request.ScriptKind.{ScriptKind}
-use Rattle.tm_types.specs.declared.step.FileKind.{FileKind}
-use Rattle.tm_types.specs.declared.step.Editor.{Editor}
-use Rattle.tm_rules.specs.Words.{DomainName}
-use Rattle.tm_types.specs.Texts.{policy_text, policies}
-use Rattle.tm_word.specs.Closed.{of_word}
-use Rattle.tm_word.specs.Texts.{texts_equal, begins_with_byte}
+use Rattle.tm_word.specs.Prelude.{Text, Word, begins_with_byte, joined, of_word, spelled_word, texts_equal, ◌>>=◌}
+use Rattle.tm_rules.specs.Types.{Editor, FileKind, ScriptKind, policies, policy_text}
+use Rattle.tm_rules.specs.Prelude.{DomainName}
 use Rattle.tm_line.specs.Domains.{domain_words}
-use Rattle.tm_word.specs.Gives.{◌>>=◌}
 use Rattle.tm_script.specs.Steps.{kinded, or_kind, word_at, number_at}
 use Rattle.tm_script.specs.Lines.{script_of}
 use Rattle.tm_script.specs.declared.edits.Edits.{Edits}

@@ -1,12 +1,8 @@
 -- Reading a script, line by line, up to the first wrong line: its number, from 1, and its kind are
 -- the script's.
 use Rattle.std.specs.Prelude.{◌≡◌, ℕ, ◌+◌, List, [], ◌∷◌, take, slice_get, Option, Some, None, Result, Ok, Err}
-use Rattle.tm_word.specs.Words.{Text}
-use Rattle.tm_word.specs.Spelling.{words_of}
-use Rattle.tm_types.specs.declared.request.ScriptKind.{ScriptKind}
-use Rattle.tm_types.specs.declared.request.ScriptFault.{ScriptFault}
-use Rattle.tm_word.specs.Texts.{lines_of}
-use Rattle.tm_word.specs.Gives.{◌>>=◌}
+use Rattle.tm_word.specs.Prelude.{Text, lines_of, words_of, ◌>>=◌}
+use Rattle.tm_rules.specs.Types.{ScriptFault, ScriptKind}
 
 -- the line of a fault, from 1, and its kind; want of memory has none
 abbrev pub script_cause : ScriptFault → Option (ℕ × ScriptKind)

@@ -1,10 +1,7 @@
 -- Schedules: whose turn it is, one activity a line.
 use Rattle.std.specs.Prelude.{ℕ, ◌^◌, ◌==◌, ◌||◌, nat_lt, List, [], ◌∷◌, ◌++◌, Result, Ok, Err, if◌then◌else◌, codes}
-use Rattle.tm_word.specs.Words.{Text}
-use Rattle.tm_types.specs.declared.request.ScriptKind.{ScriptKind}
-use Rattle.tm_types.specs.declared.step.Turn.{Turn}
-use Rattle.tm_word.specs.Texts.{texts_equal}
-use Rattle.tm_word.specs.Gives.{◌>>=◌}
+use Rattle.tm_word.specs.Prelude.{Text, texts_equal, ◌>>=◌}
+use Rattle.tm_rules.specs.Types.{ScriptKind, Turn}
 use Rattle.tm_script.specs.Steps.{number_at, ended}
 use Rattle.tm_script.specs.Lines.{script_of}
 use Rattle.tm_script.specs.declared.schedule.Schedule.{Schedule}

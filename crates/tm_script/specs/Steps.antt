@@ -1,10 +1,9 @@
 -- Reading a line of a script, word by word, up to the first wrong word: the kind that stands there
 -- is the line's.
 use Rattle.std.specs.Prelude.{ℕ, List, [], ◌∷◌, Option, Some, None, Result, Ok, Err}
-use Rattle.tm_word.specs.Words.{Text}
-use Rattle.tm_word.specs.Gives.{◌>>=◌}
+use Rattle.tm_word.specs.Prelude.{Text, ◌>>=◌}
 use Rattle.tm_number.specs.Numbers.{plain_of}
-use Rattle.tm_types.specs.declared.request.ScriptKind.{ScriptKind}
+use Rattle.tm_rules.specs.Types.{ScriptKind}
 use Rattle.tm_script.specs.declared.steps.KindFault.{KindFault}
 
 -- the kind of a fault; want of memory has none

@@ -2,22 +2,11 @@
 use Rattle.std.specs.Prelude.{◌≡◌, ℕ, ◌+◌, ◌^◌, ◌==◌, ◌&&◌, ◌||◌, ◌≤◌, nat_le, nat_lt, not, Bool, true, false, List, [], ◌∷◌, length, Ok, Err, is_some}
 use Rattle.std.specs.List.{list_all, list_any}
 use Rattle.std.specs.Option.{option_map_or}
-use Rattle.tm_word.specs.Words.{Text}
-use Rattle.tm_word.specs.Spelling.{words_of, joined}
-use Rattle.tm_word.specs.Matching.{is_empty}
+use Rattle.tm_word.specs.Prelude.{Text, is_empty, joined, lines_of, texts_equal, words_of}
 use Rattle.tm_pattern.specs.Grammar.{is_right}
-use Rattle.tm_types.specs.declared.step.FileKind.{FileKind}
-use Rattle.tm_types.specs.declared.step.Editor.{Editor}
-use Rattle.tm_types.specs.declared.step.ListWords.{ListWords}
-use Rattle.tm_types.specs.declared.step.BookRule.{BookRule}
-use Rattle.tm_types.specs.declared.step.Book.{Book}
-use Rattle.tm_types.specs.declared.step.Turn.{Turn}
-use Rattle.tm_rules.specs.Book.{code_of}
-use Rattle.tm_word.specs.Texts.{texts_equal, lines_of}
-use Rattle.tm_rules.specs.Requests.{is_path_word}
-use Rattle.tm_rules.specs.Transition.{is_domain_name}
+use Rattle.tm_rules.specs.Types.{Book, BookRule, Editor, FileKind, ListWords, ScriptKind, Turn}
+use Rattle.tm_rules.specs.Prelude.{code_of, is_domain_name, is_path_word}
 use Rattle.tm_line.specs.Names.{is_path}
-use Rattle.tm_types.specs.declared.request.ScriptKind.{ScriptKind}
 use Rattle.tm_script.specs.Lines.{FirstWrong}
 use Rattle.tm_script.specs.Edits.{no_edits, edits_line, edits_of}
 use Rattle.tm_script.specs.Answers.{no_rules, answers_line, answers_of}

@@ -1,6 +1,6 @@
 //! Answers: a supervisor's book.
 ghost use Rattle.std.specs.Prelude.{◌≡◌, ◌≤◌, [], length};
-ghost use Rattle.tm_word.specs.Gives.{Gives, GivesNow};
+ghost use Rattle.tm_word.specs.Prelude.{Gives, GivesNow};
 ghost use Rattle.tm_script.specs.Steps.{kind_cause, word_at};
 ghost use Rattle.tm_script.specs.Lines.{script_cause};
 ghost use Rattle.tm_script.specs.Answers.{last_answer, retries_at, answer_at, is_colon, colon_at, list_word, list_after, list_of, colon_place, list_at, rule_of, detach_line, answers_of};

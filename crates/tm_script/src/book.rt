@@ -2,9 +2,9 @@
 ghost use Rattle.std.specs.Prelude.{◌≡◌};
 ghost use Rattle.std.specs.List.{find};
 ghost use Rattle.std.specs.Option.{option_copied};
-ghost use Rattle.tm_word.specs.Spelling.{words_of};
+ghost use Rattle.tm_word.specs.Prelude.{words_of};
 ghost use Rattle.tm_script.specs.Written.{has_supervisor};
-ghost use Rattle.tm_rules.specs.Book.{each_matches, list_matches, rule_matches, rule_answer, book_answer, code_of};
+ghost use Rattle.tm_rules.specs.Prelude.{book_answer, code_of, each_matches, list_matches, rule_answer, rule_matches};
 
 use tm_pattern::matches_bytes;
 use tm_types::step::{Answer, Book, BookRule, ListWords, Query};

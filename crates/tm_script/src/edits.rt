@@ -1,6 +1,6 @@
 //! Edits: editors and the policy lines that they write.
 ghost use Rattle.std.specs.Prelude.{◌≡◌, ◌+◌, ◌≤◌, length, IfOk};
-ghost use Rattle.tm_word.specs.Gives.{Gives, GivesNow};
+ghost use Rattle.tm_word.specs.Prelude.{Gives, GivesNow};
 ghost use Rattle.tm_script.specs.Steps.{kind_cause, word_at};
 ghost use Rattle.tm_script.specs.Lines.{script_cause};
 ghost use Rattle.tm_script.specs.Written.{edit_count};

@@ -1,6 +1,7 @@
 //! Scripts: edits of policies, a supervisor's answers and schedules, read; what a book answers.
-//! It stands on the words of lines of `tm_line`, on `tm_pattern` and on the rules of `tm_rules`.
-//! It promises what the definitions give, the first wrong line, and the first rule that matches.
+//! Stands on the words of lines of `tm_line`, on `tm_pattern` and on the rules of `tm_rules`.
+//! Of its own, so that the desk (tm_desk) and the audit sorter (tm_sort) stand on no trace.
+//! Promises what the definitions give, the first wrong line, and the first rule that matches.
 #![tactic(auto)]
 
 mod answers;

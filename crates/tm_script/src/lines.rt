@@ -1,6 +1,5 @@
 //! Scripts, read line by line.
-ghost use Rattle.tm_word.specs.Spelling.{words_of};
-ghost use Rattle.tm_word.specs.Gives.{Gives};
+ghost use Rattle.tm_word.specs.Prelude.{Gives, words_of};
 ghost use Rattle.tm_script.specs.Steps.{kind_cause};
 ghost use Rattle.tm_script.specs.Lines.{script_cause, line_read, numbered, script_of};
 
@@ -12,8 +11,8 @@ use tm_word::{Text, cut_at, normal_words};
 /// What has been read of a script: editors, a book, or turns.
 pub trait Script: Drop {
     ghost use Rattle.std.specs.Prelude.{ℕ, List, Result};
-    ghost use Rattle.tm_types.specs.declared.request.ScriptKind.{ScriptKind};
-    ghost use Rattle.tm_word.specs.Gives.{Gives};
+    ghost use Rattle.tm_rules.specs.Types.{ScriptKind};
+    ghost use Rattle.tm_word.specs.Prelude.{Gives};
     ghost use Rattle.tm_script.specs.Steps.{kind_cause};
 
     // What a line of words makes of what has been read so far.

@@ -1,6 +1,6 @@
 //! Schedules: whose turn it is.
 ghost use Rattle.std.specs.Prelude.{◌≡◌};
-ghost use Rattle.tm_word.specs.Gives.{Gives, GivesNow};
+ghost use Rattle.tm_word.specs.Prelude.{Gives, GivesNow};
 ghost use Rattle.tm_script.specs.Steps.{kind_cause};
 ghost use Rattle.tm_script.specs.Lines.{script_cause};
 ghost use Rattle.tm_script.specs.Schedule.{one_of, activity_of, turn_of, schedule_of};

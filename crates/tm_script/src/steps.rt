@@ -1,6 +1,6 @@
 //! Steps of lines: what stands at their front.
 ghost use Rattle.std.specs.Prelude.{◌≡◌, ◌<◌, IfOk};
-ghost use Rattle.tm_word.specs.Gives.{GivesNow};
+ghost use Rattle.tm_word.specs.Prelude.{GivesNow};
 ghost use Rattle.tm_script.specs.Steps.{kind_cause, number_at, ended};
 ghost use Rattle.tm_script.specs.declared.steps.KindFault.TheVariants.{NoMemory};
 

@@ -3,12 +3,7 @@ use Rattle.std.proofs.Common.{◌≡◌, ◌≤◌, ℕ, suc, List, [], ◌∷�
 use Rattle.std.specs.Prelude.{Some}
 use Rattle.std.specs.List.{AllByRecursion}
 use Rattle.std.proofs.lemmas.List.{length-append}
-use Rattle.tm_types.specs.declared.step.Look.{Look}
-use Rattle.tm_types.specs.declared.step.Made.{Made}
-use Rattle.tm_types.specs.declared.step.Maker.{Maker}
-use Rattle.tm_types.specs.declared.step.Reply.{Reply}
-use Rattle.tm_types.specs.declared.step.Start.{Start}
-use Rattle.tm_types.specs.declared.step.Take.{Take}
+use Rattle.tm_rules.specs.Types.{Look, Made, Maker, Reply, Start, Take}
 use Rattle.tm_legal.proofs.Walks.{All-map}
 use Rattle.tm_joint.proofs.Later.{claims-later, claims-push}
 use Rattle.tm_joint.proofs.Rows.{All-left, All-right}

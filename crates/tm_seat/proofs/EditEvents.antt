@@ -1,26 +1,19 @@
 -- The lines of an editor from a seat.
-use Rattle.std.proofs.Common.{◌≡◌, ◌≤◌, ◌<◌, ℕ, zero, suc, List, [], ◌∷◌, ◌++◌, length, Bool, true, false, refl, sym, ap, ◌∙◌, subst, arith, append_assoc, append-nil}
+use Rattle.std.proofs.Common.{◌≡◌, ◌≤◌, ◌<◌, ℕ, zero, suc, List, [], ◌∷◌, ◌++◌, length, Bool, true, false, refl, sym, ap, ◌∙◌, subst, arith, append_assoc}
 use Rattle.std.specs.Prelude.{Option, Some, None, IsSome, is_some, slice_get, not, if◌then◌else◌, unwrap_or}
 use Rattle.std.specs.Option.{option_map_or}
-use Rattle.tm_word.specs.Words.{Text}
-use Rattle.tm_types.specs.declared.step.Editor.{Editor}
-use Rattle.tm_types.specs.declared.step.EditReply.{EditReply}
-use Rattle.tm_types.specs.declared.step.FileKind.{FileKind}
-use Rattle.tm_types.specs.declared.step.Made.{Made}
-use Rattle.tm_types.specs.declared.step.Maker.{Maker}
-use Rattle.tm_types.specs.declared.step.Reply.{Reply}
-use Rattle.tm_types.specs.declared.step.Start.{Start}
-use Rattle.tm_types.specs.declared.step.Step.{Step}
-use Rattle.tm_rules.specs.Changes.{is_manager}
+use Rattle.tm_word.specs.Prelude.{Text}
+use Rattle.tm_rules.specs.Types.{EditReply, Editor, FileKind, Made, Maker, Reply, Start, Step}
+use Rattle.tm_rules.specs.Prelude.{is_manager}
 use Rattle.tm_take.specs.Tomoyo.{tomoyo_grammar}
-use Rattle.tm_legal.specs.Steps.{State, Applied, apply, opening, edit_step, unfit}
+use Rattle.tm_legal.specs.Prelude.{Applied, State, apply, edit_step, opening, unfit}
 use Rattle.tm_made.specs.Made.{steps_made}
 use Rattle.tm_made.proofs.Fits.{steps-last}
 use Rattle.tm_joint.proofs.Later.{lines-push}
 use Rattle.tm_seat.specs.Seats.{state_of, FitsFrom, IsMade}
-use Rattle.tm_seat.specs.Editing.{IsEditing, EditsOn}
+use Rattle.tm_seat.specs.Editing.{EditsOn}
 use Rattle.tm_seat.proofs.Opening.{begins-further}
-use Rattle.tm_seat.proofs.Claiming.{by-nobody, by-step, last-number}
+use Rattle.tm_seat.proofs.Claiming.{by-step, last-number}
 
 get-inside : {A : Type 0} (xs : List A) (n : ℕ) → suc n ≤ length xs → is_some (slice_get xs n) ≡ true
 get-inside [] n le = absurd (omega (arith, le))
@@ -44,29 +37,17 @@ edit-fits start list (suc e) file text above inside =
     by_editor s None has = has
     by_editor s (Some editor) has = by_manager s (not (is_manager s.policy editor)) _ refl
 
--- an editor at its beginning
-pub editor-starts : (start : Start) (editor : ℕ) (list : List Made) (own : List ℕ) → FitsFrom start list → IsEditing start (record { known = list; before = own }) editor list own []
-editor-starts start editor list own fitted =
-    record {
-      fitted = fitted;
-      begins = ([], sym (append-nil list));
-      numbers = [];
-      made = sym (append-nil own);
-      lines = (tt, refl);
-      makers = by-nobody (Maker.Editor editor ∷ []) list list own own ([], sym (append-nil list)) refl;
-    }
-
 -- a line more
 pub edits-on : (start start' : Start) (editor : ℕ) (old new : List Made) (before own : List ℕ) (file : FileKind) (text : Text) (made : Made) (number : ℕ) (reply : Reply) → start' ≡ start → made ≡ (record { maker = Maker.Editor editor; step = Step.Edit editor file text }) → IsMade start old made new reply → FitsFrom start' new → number ≡ length new → own ≡ before ++ number ∷ [] → EditsOn start editor old before new own (file, text)
-edits-on start start' editor old new before own file text made number reply same is_made (others, is, replied) fitted numbered noted script done h =
+edits-on start start' editor old new before own file text made number reply same is_made (others, is, replied) fitted numbered noted shift done h =
     let last : number ≡ suc (length (old ++ others)) = numbered ∙ ap (λ (l : List Made). length l) is ∙ last-number old others made in
     record {
       fitted = subst (λ (s : Start). FitsFrom s new) same fitted;
-      begins = begins-further script.known old new h.begins (others ++ made ∷ [], is ∙ append_assoc old others (made ∷ []));
+      begins = begins-further shift.known old new h.begins (others ++ made ∷ [], is ∙ append_assoc old others (made ∷ []));
       numbers = h.numbers ++ number ∷ [];
-      made = noted ∙ ap (λ (ns : List ℕ). ns ++ number ∷ []) h.made ∙ append_assoc script.before h.numbers (number ∷ []);
+      made = noted ∙ ap (λ (ns : List ℕ). ns ++ number ∷ []) h.made ∙ append_assoc shift.before h.numbers (number ∷ []);
       lines = rw (is, last) (lines-push old others made editor done (file, text) h.numbers (ap (λ (m : Made). m.step) is_made) h.lines);
-      makers = by-step (Maker.Editor editor ∷ []) start script.known old new script.before before own made number reply (λ P all. subst (λ (m : Made). P m.maker) (sym is_made) all.0) (others, is, replied) numbered noted h.makers;
+      makers = by-step (Maker.Editor editor ∷ []) start shift.known old new shift.before before own made number reply (λ P all. subst (λ (m : Made). P m.maker) (sym is_made) all.0) (others, is, replied) numbered noted h.makers;
     }
 
 -- the same after a call that changes nothing

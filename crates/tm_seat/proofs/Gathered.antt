@@ -2,15 +2,9 @@
 use Rattle.std.proofs.Common.{◌≡◌, ◌≤◌, ◌<◌, ℕ, zero, suc, ◌+◌, List, [], ◌∷◌, ◌++◌, length, map, Bool, true, refl, sym, ap, ◌∙◌, subst, arith}
 use Rattle.std.specs.Prelude.{Option, Some, None, IsSome, is_some, slice_get, unwrap_or, flat_map, take, ◌==◌}
 use Rattle.std.specs.List.{AllByRecursion}
-use Rattle.tm_types.specs.declared.request.Tree.{Tree}
-use Rattle.tm_types.specs.declared.step.Book.{Book}
-use Rattle.tm_types.specs.declared.step.Look.{Look}
-use Rattle.tm_types.specs.declared.step.Made.{Made}
-use Rattle.tm_types.specs.declared.step.Start.{Start}
-use Rattle.tm_types.specs.declared.step.Take.{Take}
-use Rattle.tm_rules.specs.Policy.{live_domain}
-use Rattle.tm_rules.specs.Words.{Trace}
-use Rattle.tm_legal.specs.Legal.{times}
+use Rattle.tm_rules.specs.Types.{Book, Look, Made, Start, Take, Tree}
+use Rattle.tm_rules.specs.Prelude.{Trace, live_domain}
+use Rattle.tm_legal.specs.Prelude.{times}
 use Rattle.tm_joint.specs.Joint.{takes_in}
 use Rattle.tm_joint.specs.Played.{Row, row_own, RowHolds, EachRow}
 use Rattle.tm_joint.proofs.Rows.{All-flat}
@@ -21,7 +15,8 @@ use Rattle.tm_seat.specs.Playing.{LooksSince}
 use Rattle.tm_seat.specs.Rows.{RowIsPlayed, EachIsPlayed, RowSince, row_seen, rows_own, row_of}
 use Rattle.tm_seat.proofs.Rising.{row-since-lower, rises-since}
 use Rattle.tm_seat.specs.Dealing.{dealt_to, hand_of, queues_own, IsAmong, IsGathered}
-use Rattle.tm_seat.specs.Parts.{trees_from, Deed, deed, EachPart, WorkerDid}
+use Rattle.tm_take.specs.Each.{EachWith}
+use Rattle.tm_seat.specs.Parts.{trees_from, Deed, deed, WorkerDid}
 use Rattle.tm_seat.specs.Replayed.{AreDealt}
 use Rattle.tm_seat.proofs.Lists.{All-at, All-of, All-filter, All-mapped, get-mapped, length-mapped, length-to, number-to, get-map}
 use Rattle.tm_seat.proofs.Plans.{IsOfTrace, trees-of-trace}
@@ -36,7 +31,7 @@ played-at start supervised list (tree ∷ trees) [] p row h at = absurd h
 played-at start supervised list (tree ∷ trees) (r ∷ rows) zero row h at = let same : r ≡ row = cc in (tree, refl, subst (λ (x : PlayedTree). x.number ≡ tree.number) same h.0, subst (λ (x : PlayedTree). RowIsPlayed start tree supervised list (row_of x)) same h.1)
 played-at start supervised list (tree ∷ trees) (r ∷ rows) (suc p) row h at = played-at start supervised list trees rows p row h.2 at
 
-module _ (start : Start) (trace : Trace) (book : Option Book) (stands : is_some book ≡ start.desk) (trees : length trace ≡ start.trees) (homes : AllByRecursion (λ (tree : Tree). IsSome (live_domain start.policy tree.start)) trace) (workers floor : ℕ) (list : List Made) (hands : List (List TreeToPlay)) (dealt : AreDealt start trace workers hands) (deeds : List (Deed PlayedTree)) (each : EachPart (λ hand done. WorkerDid start floor hand (deed_at list done)) hands deeds) (rows : List PlayedTree) (gathered : IsGathered (length trace) (map (λ (done : Deed PlayedTree). done.rows) deeds) rows) where
+module _ (start : Start) (trace : Trace) (book : Option Book) (stands : is_some book ≡ start.desk) (trees : length trace ≡ start.trees) (homes : AllByRecursion (λ (tree : Tree). IsSome (live_domain start.policy tree.start)) trace) (workers floor : ℕ) (list : List Made) (hands : List (List TreeToPlay)) (dealt : AreDealt start trace workers hands) (deeds : List (Deed PlayedTree)) (each : EachWith (λ hand done. WorkerDid start floor hand (deed_at list done)) hands deeds) (rows : List PlayedTree) (gathered : IsGathered (length trace) (map (λ (done : Deed PlayedTree). done.rows) deeds) rows) where
   inside : {A : Type 0} (xs : List A) (k : ℕ) (x : A) → slice_get xs k ≡ Some x → k < length xs
   inside [] k x at = absurd cc
   inside (y ∷ xs) zero x at = omega arith
@@ -125,7 +120,7 @@ module _ (start : Start) (trace : Trace) (book : Option Book) (stands : is_some 
   flat-own [] = refl
   flat-own (row ∷ those) = ap (λ (ns : List ℕ). row_own (row_of row) ++ ns) (flat-own those)
 
-  own-queues : (hs : List (List TreeToPlay)) (ds : List (Deed PlayedTree)) → EachPart (λ hand done. WorkerDid start floor hand (deed_at list done)) hs ds → flat_map (λ (ns : List ℕ). ns) (map (λ (done : Deed PlayedTree). done.own) ds) ≡ queues_own (map (λ (done : Deed PlayedTree). done.rows) ds)
+  own-queues : (hs : List (List TreeToPlay)) (ds : List (Deed PlayedTree)) → EachWith (λ hand done. WorkerDid start floor hand (deed_at list done)) hs ds → flat_map (λ (ns : List ℕ). ns) (map (λ (done : Deed PlayedTree). done.own) ds) ≡ queues_own (map (λ (done : Deed PlayedTree). done.rows) ds)
   own-queues [] [] h = refl
   own-queues [] (d ∷ ds) h = absurd h
   own-queues (hand ∷ hs) [] h = absurd h

@@ -1,6 +1,6 @@
 -- Hands that trees are dealt to, one after another.
-use Rattle.std.proofs.Common.{◌≡◌, ◌<◌, ℕ, zero, suc, List, [], ◌∷◌, ◌++◌, length, Bool, true, false, true≢false, refl, sym, ap, ◌∙◌, arith, append-nil}
-use Rattle.std.specs.Prelude.{Some, slice_get, slice_set, replicate, if◌then◌else◌, ◌==◌}
+use Rattle.std.proofs.Common.{◌≡◌, ◌<◌, ℕ, zero, suc, List, [], ◌∷◌, ◌++◌, length, Bool, true, false, true≢false, refl, sym, ap, ◌∙◌, append-nil}
+use Rattle.std.specs.Prelude.{Some, slice_get, slice_set, if◌then◌else◌, ◌==◌}
 use Rattle.std.proofs.lemmas.Bool.{eqb-true, eq-eqb}
 use Rattle.std.proofs.lemmas.List.Elements.{filter-append}
 use Rattle.tm_seat.specs.declared.tree.TreeToPlay.{TreeToPlay}
@@ -10,22 +10,6 @@ use Rattle.tm_seat.specs.Dealing.{dealt_to, hand_of, Gives}
 pub record AreDealt (workers : ℕ) (trees : List TreeToPlay) (hands : List (List TreeToPlay)) : Type 0 where
   pub count : length hands ≡ workers
   pub each : (worker : ℕ) → worker < workers → slice_get hands worker ≡ Some (hand_of workers worker trees)
-
-get-replicate : {A : Type 0} (n k : ℕ) (x : A) → k < n → slice_get (replicate n x) k ≡ Some x
-get-replicate zero k x lt = absurd (omega (arith, lt))
-get-replicate (suc n) zero x lt = refl
-get-replicate (suc n) (suc k) x lt = get-replicate n k x (omega (arith, lt))
-
-length-replicate : {A : Type 0} (n : ℕ) (x : A) → length (replicate n x) ≡ n
-length-replicate zero x = refl
-length-replicate (suc n) x = ap suc (length-replicate n x)
-
-pub hands-empty : (workers : ℕ) (hands : List (List TreeToPlay)) → hands ≡ replicate workers [] → AreDealt workers [] hands
-hands-empty workers hands is =
-    record {
-      count = rw is (length-replicate workers []);
-      each = λ worker lt. rw is (get-replicate workers worker [] lt);
-    }
 
 pub get-set-same : {A : Type 0} (xs : List A) (k : ℕ) (x y : A) → slice_get xs k ≡ Some x → slice_get (slice_set xs k y) k ≡ Some y
 get-set-same [] k x y at = absurd cc

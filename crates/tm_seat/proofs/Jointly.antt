@@ -1,14 +1,10 @@
 -- What was replayed is a legal run.
 use Rattle.std.proofs.Common.{◌≡◌, ℕ, List, length, map, Bool, true, false, refl, sym, subst}
 use Rattle.std.specs.Prelude.{Option, Some, None, is_some, if◌then◌else◌}
-use Rattle.tm_types.specs.declared.step.Book.{Book}
-use Rattle.tm_types.specs.declared.step.Made.{Made}
-use Rattle.tm_types.specs.declared.step.Maker.{Maker}
-use Rattle.tm_types.specs.declared.step.Start.{Start}
-use Rattle.tm_rules.specs.Words.{Trace}
+use Rattle.tm_rules.specs.Types.{Book, Made, Maker, Start}
+use Rattle.tm_rules.specs.Prelude.{Trace}
 use Rattle.tm_take.specs.Written.{IsTrace}
-use Rattle.tm_legal.specs.Legal.{Legal, NoLookBeforeAttach}
-use Rattle.tm_legal.specs.Play.{CanPlay}
+use Rattle.tm_legal.specs.Prelude.{CanPlay, Legal, NoLookBeforeAttach}
 use Rattle.tm_joint.specs.Makers.{EachClaims}
 use Rattle.tm_seat.specs.declared.tree.PlayedTree.{PlayedTree}
 use Rattle.tm_seat.specs.Rows.{row_of}

@@ -2,7 +2,7 @@
 use Rattle.std.proofs.Common.{◌≡◌, ◌<◌, ℕ, zero, suc, ◌+◌, List, [], ◌∷◌, ◌++◌, length, Bool, true, false, refl, sym, ap, ◌∙◌, subst, arith}
 use Rattle.std.specs.Prelude.{Option, Some, None, IsSome, slice_get, slice_index_or, filter, map, flat_map, take, if◌then◌else◌}
 use Rattle.std.specs.List.{AllByRecursion}
-use Rattle.tm_legal.specs.Play.{numbers_to}
+use Rattle.tm_legal.specs.Prelude.{numbers_to}
 
 pub All-at : {A : Type 0} (P : A → Type 0) (xs : List A) (n : ℕ) (x : A) → AllByRecursion P xs → slice_get xs n ≡ Some x → P x
 All-at P [] n x h at = absurd cc
@@ -25,12 +25,6 @@ All-filter P test (x ∷ xs) h = go (test x) refl (All-filter P test xs h.1)
 pub All-mapped : {A B : Type 0} (P : B → Type 0) (f : A → B) (xs : List A) → AllByRecursion (λ x. P (f x)) xs → AllByRecursion P (map f xs)
 All-mapped P f [] h = tt
 All-mapped P f (x ∷ xs) h = (h.0, All-mapped P f xs h.1)
-
-pub get-take : {A : Type 0} (n k : ℕ) (xs : List A) (x : A) → slice_get (take n xs) k ≡ Some x → slice_get xs k ≡ Some x
-get-take zero k xs x at = absurd cc
-get-take (suc n) k [] x at = absurd cc
-get-take (suc n) zero (y ∷ xs) x at = at
-get-take (suc n) (suc k) (y ∷ xs) x at = get-take n k xs x at
 
 -- the first of two lists, where it has so many elements
 pub take-front : {A : Type 0} (n : ℕ) (xs ys : List A) → length xs ≡ n → take n (xs ++ ys) ≡ xs

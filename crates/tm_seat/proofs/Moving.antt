@@ -1,10 +1,7 @@
 -- What a part has come to stays so when others' steps follow.
 use Rattle.std.proofs.Common.{◌≡◌, ℕ, List, [], ◌∷◌, sym, subst}
 use Rattle.std.specs.List.{AllByRecursion}
-use Rattle.tm_types.specs.declared.step.Book.{Book}
-use Rattle.tm_types.specs.declared.step.Made.{Made}
-use Rattle.tm_types.specs.declared.step.Maker.{Maker}
-use Rattle.tm_types.specs.declared.step.Start.{Start}
+use Rattle.tm_rules.specs.Types.{Book, Made, Maker, Start}
 use Rattle.tm_joint.specs.Makers.{Claims}
 use Rattle.tm_joint.specs.Played.{LinesMade}
 use Rattle.tm_joint.proofs.Later.{claims-later, lines-later}
@@ -13,7 +10,8 @@ use Rattle.tm_seat.proofs.Opening.{begins-further}
 use Rattle.tm_seat.proofs.WorkerEvents.{rows-stay}
 use Rattle.tm_seat.specs.Rows.{makers_all}
 use Rattle.tm_seat.specs.declared.part.Part.{Part}
-use Rattle.tm_seat.specs.Parts.{Deed, deed, ClaimedBy, WorkerDid, PartIsDone, EachPart}
+use Rattle.tm_take.specs.Each.{EachWith}
+use Rattle.tm_seat.specs.Parts.{Deed, deed, ClaimedBy, WorkerDid, PartIsDone}
 
 pub claimed-later : (makers : List Maker) (xs ys : List Made) (own : List ℕ) → Begins xs ys → ClaimedBy makers xs own → ClaimedBy makers ys own
 claimed-later makers xs ys own begins h who i all = subst (λ (l : List Made). Claims who i l own) (sym begins.1) (claims-later who i xs begins.0 own (h who i all))
@@ -53,7 +51,7 @@ module _ {H D : Type 0} (Did : Start → ℕ → H → Deed D → Type 0) (stays
       }
 
   -- all deeds by one list
-  pub parts-later : (parts : List (Part H)) (deeds : List (Deed D)) (list : List Made) → AllByRecursion (λ (done : Deed D). Begins done.known list) deeds → EachPart (PartIsDone Did start book floor) parts deeds → EachPart (λ part done. PartIsDone Did start book floor part (deed_at list done)) parts deeds
+  pub parts-later : (parts : List (Part H)) (deeds : List (Deed D)) (list : List Made) → AllByRecursion (λ (done : Deed D). Begins done.known list) deeds → EachWith (PartIsDone Did start book floor) parts deeds → EachWith (λ part done. PartIsDone Did start book floor part (deed_at list done)) parts deeds
   parts-later [] [] list seen h = tt
   parts-later [] (done ∷ deeds) list seen h = h
   parts-later (part ∷ parts) [] list seen h = h

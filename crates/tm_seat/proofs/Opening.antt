@@ -2,25 +2,11 @@
 use Rattle.std.proofs.Common.{◌≡◌, ◌≤◌, ℕ, suc, List, [], ◌∷◌, ◌++◌, length, true, refl, sym, ap, ◌∙◌, subst, append_assoc}
 use Rattle.std.specs.Prelude.{Option, Some, IsSome, replicate}
 use Rattle.std.proofs.lemmas.List.{length-replicate}
-use Rattle.tm_types.specs.declared.request.Tree.{Tree}
-use Rattle.tm_rules.specs.Words.{Trace}
-use Rattle.tm_rules.specs.Queries.{answer_of}
-use Rattle.tm_rules.specs.Requests.{is_request}
-use Rattle.tm_types.specs.declared.request.Request.{Request}
-use Rattle.tm_types.specs.declared.verdict.Verdict.{Verdict}
-use Rattle.tm_types.specs.declared.step.Answered.{Answered}
-use Rattle.tm_types.specs.declared.step.Book.{Book}
-use Rattle.tm_types.specs.declared.step.Made.{Made}
-use Rattle.tm_types.specs.declared.step.Reply.{Reply}
-use Rattle.tm_types.specs.declared.step.Start.{Start}
-use Rattle.tm_types.specs.declared.step.Step.{Step}
+use Rattle.tm_rules.specs.Types.{Answered, Book, Made, Reply, Request, Start, Step, Tree, Verdict}
+use Rattle.tm_rules.specs.Prelude.{Trace, answer_of, is_request}
 use Rattle.tm_take.specs.Tomoyo.{tomoyo_grammar}
 use Rattle.tm_take.proofs.IsOne.{is_one}
-use Rattle.tm_legal.specs.Steps.{State, apply, after, opening}
-use Rattle.tm_legal.specs.Run.{Situation}
-use Rattle.tm_legal.specs.Legal.{Replies, opening_of}
-use Rattle.tm_legal.specs.Play.{InProgress, Stage, IsOpened, after_step, after_answer, taken}
-use Rattle.tm_legal.specs.Stages.{DomainIn}
+use Rattle.tm_legal.specs.Prelude.{DomainIn, InProgress, IsOpened, Replies, Situation, Stage, State, after, after_answer, after_step, apply, opening, opening_of, taken}
 use Rattle.tm_made.specs.Made.{steps_made, told_from, IsFitted}
 use Rattle.tm_joint.specs.UnderWay.{JudgedBy, begun_at}
 use Rattle.tm_joint.specs.AtLists.{state_after, UnderWayAt, EndsLegally}

@@ -3,14 +3,11 @@ use Rattle.std.proofs.Common.{◌≡◌, ◌<◌, ℕ, zero, suc, ◌+◌, List,
 use Rattle.std.specs.Prelude.{Option, Some, slice_get, ◌==◌}
 use Rattle.std.specs.List.{AllByRecursion}
 use Rattle.std.proofs.lemmas.Bool.{eqb-true}
-use Rattle.tm_types.specs.declared.policy.Policy.{Policy}
-use Rattle.tm_types.specs.declared.step.Made.{Made}
-use Rattle.tm_types.specs.declared.step.Maker.{Maker}
-use Rattle.tm_types.specs.declared.step.Start.{Start}
-use Rattle.tm_rules.specs.Words.{Trace}
+use Rattle.tm_rules.specs.Types.{Made, Maker, Policy, Start}
+use Rattle.tm_rules.specs.Prelude.{Trace}
 use Rattle.tm_take.specs.Trees.{tree_pids}
 use Rattle.tm_take.specs.Written.{IsTrace}
-use Rattle.tm_legal.specs.Run.{do_pids}
+use Rattle.tm_legal.specs.Prelude.{do_pids}
 use Rattle.tm_legal.proofs.Walks.{All-map}
 use Rattle.tm_joint.specs.Makers.{EachClaims}
 use Rattle.tm_joint.specs.Workers.{pass_of}
@@ -19,7 +16,8 @@ use Rattle.tm_seat.specs.declared.tree.PlayedTree.{PlayedTree}
 use Rattle.tm_seat.specs.declared.tree.TreeToPlay.{TreeToPlay}
 use Rattle.tm_seat.specs.Rows.{tree_makers, makers_all}
 use Rattle.tm_seat.specs.Dealing.{dealt_to, hand_of}
-use Rattle.tm_seat.specs.Parts.{trees_from, Deed, WorkerDid, EachPart}
+use Rattle.tm_take.specs.Each.{EachWith}
+use Rattle.tm_seat.specs.Parts.{trees_from, Deed, WorkerDid}
 use Rattle.tm_seat.specs.Replayed.{AreDealt}
 use Rattle.tm_seat.proofs.Lists.{All-filter, All-mapped}
 use Rattle.tm_seat.proofs.Plans.{IsOfTrace, trees-of-trace}
@@ -60,7 +58,7 @@ module _ (trace : Trace) (written : IsTrace trace) (workers editors : ℕ) where
 
   module _ (start : Start) (floor : ℕ) (list : List Made) where
     -- workers from worker i on
-    claims-from : (i : ℕ) (hands : List (List TreeToPlay)) (deeds : List (Deed PlayedTree)) → ((k : ℕ) (hand : List TreeToPlay) → slice_get hands k ≡ Some hand → AllByRecursion (λ maker. who maker ≡ Some (i + k)) (makers_all hand)) → EachPart (λ hand done. WorkerDid start floor hand (deed_at list done)) hands deeds → EachClaims who i list (owns deeds)
+    claims-from : (i : ℕ) (hands : List (List TreeToPlay)) (deeds : List (Deed PlayedTree)) → ((k : ℕ) (hand : List TreeToPlay) → slice_get hands k ≡ Some hand → AllByRecursion (λ maker. who maker ≡ Some (i + k)) (makers_all hand)) → EachWith (λ hand done. WorkerDid start floor hand (deed_at list done)) hands deeds → EachClaims who i list (owns deeds)
     claims-from i [] [] makers h = tt
     claims-from i [] (done ∷ deeds) makers h = absurd h
     claims-from i (hand ∷ hands) [] makers h = absurd h
@@ -70,7 +68,7 @@ module _ (trace : Trace) (written : IsTrace trace) (workers editors : ℕ) where
     )
 
     -- all of them
-    pub claims-workers : (hands : List (List TreeToPlay)) (deeds : List (Deed PlayedTree)) → AreDealt start trace workers hands → EachPart (λ hand done. WorkerDid start floor hand (deed_at list done)) hands deeds → EachClaims who 0 list (owns deeds)
+    pub claims-workers : (hands : List (List TreeToPlay)) (deeds : List (Deed PlayedTree)) → AreDealt start trace workers hands → EachWith (λ hand done. WorkerDid start floor hand (deed_at list done)) hands deeds → EachClaims who 0 list (owns deeds)
     claims-workers hands deeds dealt each = claims-from 0 hands deeds (λ k hand at. subst (λ n. AllByRecursion (λ maker. who maker ≡ Some n) (makers_all hand)) (omega arith) (hands-makers k hand at)) each
       where
         inside : {A : Type 0} (xs : List A) (k : ℕ) (x : A) → slice_get xs k ≡ Some x → k < length xs

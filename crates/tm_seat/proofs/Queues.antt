@@ -4,14 +4,13 @@ use Rattle.std.specs.Prelude.{Some, slice_get, slice_set, ◌==◌}
 use Rattle.std.proofs.lemmas.Bool.{eqb-true}
 use Rattle.std.proofs.lemmas.List.{map-append}
 use Rattle.std.proofs.lemmas.Grind.{flat_map-append}
-use Rattle.tm_legal.specs.Legal.{times}
-use Rattle.tm_legal.specs.Play.{numbers_to}
+use Rattle.tm_legal.specs.Prelude.{numbers_to, times}
 use Rattle.tm_legal.proofs.Laws.{times-append}
-use Rattle.tm_seat.specs.Played.{row_own}
-use Rattle.tm_seat.proofs.Gathering.{queued-take}
+use Rattle.tm_joint.specs.Played.{row_own}
+use Rattle.tm_joint.proofs.Gathering.{queued-take}
 use Rattle.tm_seat.specs.declared.tree.PlayedTree.{PlayedTree}
 use Rattle.tm_seat.specs.Rows.{row_of, rows_own}
-use Rattle.tm_seat.specs.Dealing.{TakesFirst, queues_own, IsAmong, IsGathered}
+use Rattle.tm_seat.specs.Dealing.{TakesFirst, queues_own, IsAmong}
 use Rattle.tm_seat.proofs.Hands.{get-set-same, get-set-other, length-set}
 
 -- so many rows have been gathered from queues that are these by now
@@ -21,19 +20,6 @@ pub record Gathering (queues : List (List PlayedTree)) (count : ℕ) (left : Lis
   pub fronts : (worker : ℕ) (queue : List PlayedTree) → slice_get left worker ≡ Some queue → (front : List PlayedTree) × (slice_get queues worker ≡ Some (front ++ queue))
   pub among : (k : ℕ) (row : PlayedTree) → slice_get rows k ≡ Some row → IsAmong queues row
   pub counted : (number : ℕ) → times number (queues_own queues) ≡ times number (rows_own rows) + times number (queues_own left)
-
-pub gathers-first : (queues : List (List PlayedTree)) → Gathering queues 0 queues []
-gathers-first queues =
-    record {
-      numbers = refl;
-      same = refl;
-      fronts = λ worker queue at. ([], at);
-      among = λ k row at. absurd cc;
-      counted = λ number. none-more (times number (queues_own queues));
-    }
-  where
-    none-more : (n : ℕ) → n ≡ 0 + n
-    none-more n = omega arith
 
 -- an element of a list that was made longer by one
 last-get : {A : Type 0} (P : A → Type 0) (xs : List A) (x : A) (k : ℕ) (y : A) → slice_get (xs ++ x ∷ []) k ≡ Some y → ((j : ℕ) (z : A) → slice_get xs j ≡ Some z → P z) → P x → P y
@@ -82,16 +68,3 @@ pub gathers-next : (queues : List (List PlayedTree)) (count : ℕ) (left next : 
 gathers-next queues count left next rows place row number first h =
     let one : suc count ≡ count + 1 = omega arith in
     subst (λ (n : ℕ). Gathering queues n next (rows ++ row ∷ [])) one (gathers-more queues count left next rows place row (number ∙ sym one) first h)
-
--- none is left
-pub gathers-all : (queues : List (List PlayedTree)) (count : ℕ) (left : List (List PlayedTree)) (rows : List PlayedTree) → queues_own left ≡ [] → Gathering queues count left rows → IsGathered count queues rows
-gathers-all queues count left rows none h =
-    record {
-      numbers = h.numbers;
-      among = h.among;
-      counted = λ n. let all = h.counted n in let zero_left : times n (queues_own left) ≡ 0 = ap (times n) none in omega arith;
-    }
-
--- queues of which none has a row
-pub queues-none : (queues : List (List PlayedTree)) (queue : List PlayedTree) → queues_own queues ≡ [] → queue ≡ [] → queues_own (queues ++ queue ∷ []) ≡ []
-queues-none queues queue none is = flat_map-append rows_own queues (queue ∷ []) ∙ rw (none, is) refl

@@ -5,20 +5,9 @@ use Rattle.std.specs.Option.{IfSome}
 use Rattle.std.specs.List.{AllByRecursion}
 use Rattle.std.proofs.lemmas.Grind.{flat_map-append}
 use Rattle.std.proofs.lemmas.List.{length-append}
-use Rattle.tm_types.specs.declared.request.Request.{Request}
-use Rattle.tm_types.specs.declared.request.Tree.{Tree}
-use Rattle.tm_types.specs.declared.step.Book.{Book}
-use Rattle.tm_types.specs.declared.step.Look.{Look}
-use Rattle.tm_types.specs.declared.step.Made.{Made}
-use Rattle.tm_types.specs.declared.step.Start.{Start}
-use Rattle.tm_types.specs.declared.step.Step.{Step}
-use Rattle.tm_types.specs.declared.step.Take.{Take}
-use Rattle.tm_rules.specs.Words.{DomainName, Trace}
-use Rattle.tm_rules.specs.Policy.{live_domain}
-use Rattle.tm_rules.specs.Queries.{numbered}
-use Rattle.tm_legal.specs.Run.{Situation, raised, seen}
-use Rattle.tm_legal.specs.Legal.{Scene, subject_of}
-use Rattle.tm_legal.specs.Cases.{LookDone, IsLegalTake}
+use Rattle.tm_rules.specs.Types.{Book, Look, Made, Request, Start, Step, Take, Tree}
+use Rattle.tm_rules.specs.Prelude.{DomainName, Trace, live_domain, numbered}
+use Rattle.tm_legal.specs.Prelude.{IsLegalTake, LookDone, Scene, Situation, raised, seen, subject_of}
 use Rattle.tm_legal.proofs.Asked.{All-append}
 use Rattle.tm_legal.proofs.Histories.{raised-le}
 use Rattle.tm_legal.proofs.Walks.{All-map}

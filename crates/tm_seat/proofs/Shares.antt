@@ -5,21 +5,9 @@ use Rattle.std.specs.Prelude.{Option, Some, None, if◌then◌else◌, slice_get
 use Rattle.std.specs.List.{AllByRecursion, fold}
 use Rattle.std.proofs.lemmas.Grind.{flat_map-append}
 use Rattle.std.proofs.lemmas.List.{map-append}
-use Rattle.tm_types.specs.declared.step.Book.{Book}
-use Rattle.tm_types.specs.declared.step.Editor.{Editor}
-use Rattle.tm_types.specs.declared.step.Look.{Look}
-use Rattle.tm_types.specs.declared.step.Made.{Made}
-use Rattle.tm_types.specs.declared.step.Maker.{Maker}
-use Rattle.tm_types.specs.declared.step.Reply.{Reply}
-use Rattle.tm_types.specs.declared.step.Run.{Run}
-use Rattle.tm_types.specs.declared.step.Start.{Start}
-use Rattle.tm_types.specs.declared.step.Step.{Step}
-use Rattle.tm_types.specs.declared.step.Take.{Take}
-use Rattle.tm_rules.specs.Queries.{numbered}
-use Rattle.tm_rules.specs.Words.{Trace}
-use Rattle.tm_legal.specs.Run.{History, places, places_from, step_at}
-use Rattle.tm_legal.specs.Legal.{Scene, Legal, SupervisorActs, NoLookBeforeAttach, is_of_supervisor, times}
-use Rattle.tm_legal.specs.Play.{IsOpened}
+use Rattle.tm_rules.specs.Types.{Book, Editor, Look, Made, Maker, Reply, Run, Start, Step, Take}
+use Rattle.tm_rules.specs.Prelude.{Trace, numbered}
+use Rattle.tm_legal.specs.Prelude.{History, IsOpened, Legal, NoLookBeforeAttach, Scene, SupervisorActs, is_of_supervisor, places, places_from, step_at, times}
 use Rattle.tm_legal.proofs.Laws.{times-append}
 use Rattle.tm_legal.proofs.Walks.{All-map}
 use Rattle.tm_made.specs.Made.{history_made, made_step}
@@ -33,7 +21,8 @@ use Rattle.tm_joint.proofs.Later.{made_step-later}
 use Rattle.tm_seat.specs.Seats as seat
 use Rattle.tm_seat.proofs.Opening.{fits-scene}
 use Rattle.tm_seat.specs.declared.part.Part.{Part}
-use Rattle.tm_seat.specs.Parts.{editor_parts, desk_parts, Deed, PartIsDone, EachPart, PlayedTogether, coming}
+use Rattle.tm_take.specs.Each.{EachWith}
+use Rattle.tm_seat.specs.Parts.{editor_parts, desk_parts, Deed, PartIsDone, PlayedTogether, coming}
 use Rattle.tm_seat.specs.Replayed.{scene_of}
 use Rattle.tm_seat.proofs.Each.{Split, each-split, each-length, each-hand}
 use Rattle.tm_seat.proofs.Lists.{take-front, length-mapped}
@@ -80,17 +69,14 @@ length-editors H e [] = refl
 length-editors H e (editor ∷ editors) = ap suc (length-editors H (suc e) editors)
 
 module _ {H D : Type 0} (Did : Start → ℕ → H → Deed D → Type 0) (start : Start) (book : Book) (floor : ℕ) (list : List Made) where
-  Done : Part H → Deed D → Type 0
-  Done part done = PartIsDone Did start book floor part (deed_at list done)
-
-  editors-did : (e : ℕ) (editors : List Editor) (deeds : List (Deed D)) → EachPart (λ part done. PartIsDone Did start book floor part (deed_at list done)) (editor_parts e editors) deeds → EachEditor (joint.EditorDid list) e editors (owns deeds)
+  editors-did : (e : ℕ) (editors : List Editor) (deeds : List (Deed D)) → EachWith (λ part done. PartIsDone Did start book floor part (deed_at list done)) (editor_parts e editors) deeds → EachEditor (joint.EditorDid list) e editors (owns deeds)
   editors-did e [] [] h = tt
   editors-did e [] (done ∷ deeds) h = absurd h
   editors-did e (editor ∷ editors) [] h = absurd h
   editors-did e (editor ∷ editors) (done ∷ deeds) h = (h.0.made, editors-did (suc e) editors deeds h.1)
 
   -- the supervisor's steps, none where no supervisor stands
-  desk-acts : (trace : Trace) → length trace ≡ start.trees → (supervised : Bool) (deeds : List (Deed D)) → EachPart (λ part done. PartIsDone Did start book floor part (deed_at list done)) (desk_parts supervised) deeds → DeskActs (seat.scene_of start trace (if supervised then Some book else None)) list (if supervised then Some book else None) (flat_map (λ (ns : List ℕ). ns) (owns deeds))
+  desk-acts : (trace : Trace) → length trace ≡ start.trees → (supervised : Bool) (deeds : List (Deed D)) → EachWith (λ part done. PartIsDone Did start book floor part (deed_at list done)) (desk_parts supervised) deeds → DeskActs (seat.scene_of start trace (if supervised then Some book else None)) list (if supervised then Some book else None) (flat_map (λ (ns : List ℕ). ns) (owns deeds))
   desk-acts trace trees false [] h = refl
   desk-acts trace trees false (done ∷ deeds) h = absurd h
   desk-acts trace trees true [] h = absurd h
@@ -100,7 +86,7 @@ module _ {H D : Type 0} (Did : Start → ℕ → H → Deed D → Type 0) (start
 
   module _ (who : Maker → Option ℕ) (workers editors : ℕ) (others : OthersFollow who workers editors) where
     -- editors from editor e on
-    claims-editors : (e : ℕ) (those : List Editor) (deeds : List (Deed D)) → EachPart (λ part done. PartIsDone Did start book floor part (deed_at list done)) (editor_parts (suc e) those) deeds → EachClaims who (workers + e) list (owns deeds)
+    claims-editors : (e : ℕ) (those : List Editor) (deeds : List (Deed D)) → EachWith (λ part done. PartIsDone Did start book floor part (deed_at list done)) (editor_parts (suc e) those) deeds → EachClaims who (workers + e) list (owns deeds)
     claims-editors e [] [] h = tt
     claims-editors e [] (done ∷ deeds) h = absurd h
     claims-editors e (editor ∷ those) [] h = absurd h
@@ -109,7 +95,7 @@ module _ {H D : Type 0} (Did : Start → ℕ → H → Deed D → Type 0) (start
       subst (λ n. EachClaims who n list (owns deeds)) (omega arith) (claims-editors (suc e) those deeds h.1),
     )
 
-    claims-desk : (supervised : Bool) (deeds : List (Deed D)) → EachPart (λ part done. PartIsDone Did start book floor part (deed_at list done)) (desk_parts supervised) deeds → EachClaims who (workers + editors) list (owns deeds)
+    claims-desk : (supervised : Bool) (deeds : List (Deed D)) → EachWith (λ part done. PartIsDone Did start book floor part (deed_at list done)) (desk_parts supervised) deeds → EachClaims who (workers + editors) list (owns deeds)
     claims-desk false [] h = tt
     claims-desk false (done ∷ deeds) h = absurd h
     claims-desk true [] h = absurd h
@@ -117,7 +103,7 @@ module _ {H D : Type 0} (Did : Start → ℕ → H → Deed D → Type 0) (start
     claims-desk true (done ∷ more ∷ deeds) h = absurd h.1
 
     -- all of them, where the workers' are claimed
-    claims-all : (front middle back : List (Deed D)) → length front ≡ workers → length middle ≡ editors → EachClaims who 0 list (owns front) → EachPart (λ part done. PartIsDone Did start book floor part (deed_at list done)) (editor_parts 1 start.editors) middle → EachPart (λ part done. PartIsDone Did start book floor part (deed_at list done)) (desk_parts start.desk) back → EachClaims who 0 list (owns front ++ (owns middle ++ owns back))
+    claims-all : (front middle back : List (Deed D)) → length front ≡ workers → length middle ≡ editors → EachClaims who 0 list (owns front) → EachWith (λ part done. PartIsDone Did start book floor part (deed_at list done)) (editor_parts 1 start.editors) middle → EachWith (λ part done. PartIsDone Did start book floor part (deed_at list done)) (desk_parts start.desk) back → EachClaims who 0 list (owns front ++ (owns middle ++ owns back))
     claims-all front middle back long_front long_middle first second third =
         claims-append who 0 workers list (owns front) (owns middle ++ owns back) (let same = owns-length front in omega (arith, same, long_front))
         first
@@ -131,7 +117,7 @@ module _ {H D : Type 0} (Did : Start → ℕ → H → Deed D → Type 0) (start
 -- the steps of all passes
 pub record Shares {H D : Type 0} (Did : Start → ℕ → H → Deed D → Type 0) (start : Start) (book : Book) (floor : ℕ) (hands : List H) (list : List Made) (given : List (List D)) : Type 0 where
   pub workers : List (Deed D)
-  pub did : EachPart (λ hand done. Did start floor hand (deed_at list done)) hands workers
+  pub did : EachWith (λ hand done. Did start floor hand (deed_at list done)) hands workers
   pub given_is : given ≡ map (λ (done : Deed D). done.rows) workers
   pub editors : List (List ℕ)
   pub desk : List ℕ
@@ -164,7 +150,7 @@ shares-of {H = H} {D = D} Did stays start book hands list given p =
     floor : ℕ
     floor = length p.attached
 
-    every : EachPart (λ part done. PartIsDone Did start book floor part (deed_at list done)) (map Part.Worker hands ++ (editor_parts 1 start.editors ++ desk_parts start.desk)) p.deeds
+    every : EachWith (λ part done. PartIsDone Did start book floor part (deed_at list done)) (map Part.Worker hands ++ (editor_parts 1 start.editors ++ desk_parts start.desk)) p.deeds
     every = parts-later Did stays start book floor _ p.deeds list p.seen p.each
 
     first : Split (λ part done. PartIsDone Did start book floor part (deed_at list done)) (map Part.Worker hands) (editor_parts 1 start.editors ++ desk_parts start.desk) p.deeds

@@ -1,33 +1,19 @@
 -- The events of a take from a seat, from an opening.
 use Rattle.std.proofs.Common.{◌≡◌, le_refl, ℕ, suc, List, [], ◌∷◌, ◌++◌, length, true, refl, sym, ap, ◌∙◌, subst, arith, append_assoc, append-nil}
 use Rattle.std.specs.Prelude.{Option, Some, None, IsSome, Result, Ok, Err, IfOk, IfSome}
-use Rattle.tm_types.specs.declared.step.Held.{Held}
-use Rattle.tm_types.specs.declared.step.Look.{Look}
-use Rattle.tm_types.specs.declared.step.Take.{Take}
+use Rattle.tm_rules.specs.Types.{Answered, Held, Look, Made, Maker, Reply, Request, Start, Step, Take, Verdict}
 use Rattle.tm_take.specs.declared.requests.PendingLook.{PendingLook}
 use Rattle.tm_take.specs.declared.situations.ProcessSituation.{ProcessSituation}
 use Rattle.tm_take.specs.Situations.{situation_of}
 use Rattle.tm_take.specs.Taking.{rest_of, begun_with, TakesOut, LooksAgain}
-use Rattle.tm_rules.specs.Queries.{answer_of}
-use Rattle.tm_rules.specs.Requests.{is_request}
-use Rattle.tm_types.specs.declared.request.Request.{Request}
-use Rattle.tm_types.specs.declared.verdict.Verdict.{Verdict}
-use Rattle.tm_types.specs.declared.step.Answered.{Answered}
-use Rattle.tm_types.specs.declared.step.Made.{Made}
-use Rattle.tm_types.specs.declared.step.Maker.{Maker}
-use Rattle.tm_types.specs.declared.step.Reply.{Reply}
-use Rattle.tm_types.specs.declared.step.Start.{Start}
-use Rattle.tm_types.specs.declared.step.Step.{Step}
+use Rattle.tm_rules.specs.Prelude.{answer_of, is_request}
 use Rattle.tm_take.specs.Tomoyo.{tomoyo_grammar}
-use Rattle.tm_legal.specs.Steps.{State, apply}
-use Rattle.tm_legal.specs.Run.{Situation}
-use Rattle.tm_legal.specs.Play.{InProgress, Stage, IsOpened, after_step, after_answer, taken}
-use Rattle.tm_legal.specs.Stages.{DomainIn}
+use Rattle.tm_legal.specs.Prelude.{DomainIn, InProgress, IsOpened, Situation, Stage, State, after_answer, after_step, apply, taken}
 use Rattle.tm_made.specs.Made.{history_made}
 use Rattle.tm_joint.specs.UnderWay.{JudgedBy, begun_at, own_so_far}
 use Rattle.tm_joint.proofs.TakeLaws.{own-makes, own-hears, own-looks-again, own-ends}
 use Rattle.tm_joint.proofs.Later.{looks-above}
-use Rattle.tm_seat.specs.declared.seat.Shown.{Shown}
+use Rattle.tm_take.specs.declared.judged.Judged.{Judged}
 use Rattle.tm_seat.specs.Seats.{scene_of, state_of, ShowsAt, FitsFrom, Begins, IsMade}
 use Rattle.tm_seat.specs.Playing.{Errand, IsPlaying, PlaysOn, HasEnded}
 use Rattle.tm_seat.proofs.Opening.{some-trace, begins-further, state-scene, first-law, fit-law, step-law, hear-law, again-law, again-there, end-law}
@@ -85,7 +71,7 @@ module _ (start : Start) (opened : IsOpened start.policy) where
       }
 
   -- the first look in a domain that turns out to be there
-  pub found-playing : (start' : Start) (list : List Made) (own own' : List ℕ) (now : ProcessSituation) (d : ℕ) (request : Request) (pending : PendingLook) (shown : Shown) (version : ℕ) (b : InProgress) → pending ≡ record { now = now; request = request; retry = 0; looked = [] } → now.domain ≡ Some d → is_request tomoyo_grammar.is_path request ≡ true → start' ≡ start → own' ≡ own → FitsFrom start' list → ShowsAt start' list d now.process request shown version → b ≡ begun_with tomoyo_grammar version (situation_of pending.now) d pending.request pending.retry pending.looked shown.verdict shown.audit → IsPlaying start (record { now = situation_of now; domain = d; request = request; known = list; before = own }) list own' b
+  pub found-playing : (start' : Start) (list : List Made) (own own' : List ℕ) (now : ProcessSituation) (d : ℕ) (request : Request) (pending : PendingLook) (shown : Judged) (version : ℕ) (b : InProgress) → pending ≡ record { now = now; request = request; retry = 0; looked = [] } → now.domain ≡ Some d → is_request tomoyo_grammar.is_path request ≡ true → start' ≡ start → own' ≡ own → FitsFrom start' list → ShowsAt start' list d now.process request shown version → b ≡ begun_with tomoyo_grammar version (situation_of pending.now) d pending.request pending.retry pending.looked shown.verdict shown.audit → IsPlaying start (record { now = situation_of now; domain = d; request = request; known = list; before = own }) list own' b
   found-playing start' list own own' now d request pending shown version b first domain asked same none fitted shows is =
       let began : b ≡ begun_with tomoyo_grammar version (situation_of now) d request 0 [] shown.verdict shown.audit = subst (λ (p : PendingLook). b ≡ begun_with tomoyo_grammar version (situation_of p.now) d p.request p.retry p.looked shown.verdict shown.audit) first is in
       let begun : b ≡ begun_at tomoyo_grammar (length list) (state_of start' list) (situation_of now) d request 0 [] shown.verdict = began ∙ rw (shows.version_is, shows.audit_is) refl in

@@ -5,28 +5,11 @@ use Rattle.std.specs.List.{list_all, AllByRecursion}
 use Rattle.std.proofs.lemmas.Bool.{and_parts, lt-ltb, le-leb}
 use Rattle.std.proofs.lemmas.List.{map-append}
 use Rattle.std.proofs.lemmas.Grind.{flat_map-append}
-use Rattle.tm_rules.specs.Words.{DomainName, Trace}
-use Rattle.tm_rules.specs.Policy.{live_domain}
-use Rattle.tm_rules.specs.Requests.{is_request, item_is_request}
-use Rattle.tm_types.specs.declared.request.Ids.{Ids}
-use Rattle.tm_types.specs.declared.request.Item.{Item}
-use Rattle.tm_types.specs.declared.request.Request.{Request}
-use Rattle.tm_types.specs.declared.request.Tree.{Tree}
-use Rattle.tm_types.specs.declared.step.Book.{Book}
-use Rattle.tm_types.specs.declared.step.Look.{Look}
-use Rattle.tm_types.specs.declared.step.Made.{Made}
-use Rattle.tm_types.specs.declared.step.Maker.{Maker}
-use Rattle.tm_types.specs.declared.step.Start.{Start}
-use Rattle.tm_types.specs.declared.step.Step.{Step}
-use Rattle.tm_types.specs.declared.step.Take.{Take}
+use Rattle.tm_rules.specs.Prelude.{DomainName, Trace, is_request, item_is_request, live_domain}
+use Rattle.tm_rules.specs.Types.{Book, Ids, Item, Look, Made, Maker, Request, Start, Step, Take, Tree}
 use Rattle.tm_take.specs.Tomoyo.{tomoyo_grammar}
 use Rattle.tm_take.proofs.IsOne.{is_one}
-use Rattle.tm_legal.specs.Steps.{apply, opening}
-use Rattle.tm_legal.specs.Run.{Situation, Situations, with_situation, with_ids, forked, at_start, do_pids}
-use Rattle.tm_legal.specs.Legal.{Scene, own_numbers}
-use Rattle.tm_legal.specs.Cases.{TreePlayed}
-use Rattle.tm_legal.specs.Play.{IsOpened}
-use Rattle.tm_legal.specs.Stages.{DomainIn}
+use Rattle.tm_legal.specs.Prelude.{DomainIn, IsOpened, Scene, Situation, Situations, TreePlayed, apply, at_start, do_pids, forked, opening, own_numbers, with_ids, with_situation}
 use Rattle.tm_legal.proofs.Histories.{All-push}
 use Rattle.tm_take.specs.declared.situations.ProcessSituation.{ProcessSituation}
 use Rattle.tm_take.specs.Situations.{situation_of, first_situation}
@@ -210,7 +193,3 @@ forks-ok (Err e) start list own at at' item pid child takes is moved = tt
 
 pub does-ok : (start start' : Start) (xs xs' zs : List Made) (own own' later : List ℕ) (at at' : Situations) (item : Item) (pid : ℕ) (request : Request) (takes more : List Take) (k : Take) → item ≡ Item.Do pid request → start' ≡ start → xs' ≡ xs → own' ≡ own → more ≡ takes ++ k ∷ [] → ((left : List Item) (ks : List Take) → TreePlaysOn start' xs' own' at (Item.Do pid request ∷ left) ks zs later at' left (ks ++ k ∷ [])) → (left : List Item) → TreePlaysOn start xs own at (item ∷ left) takes zs later at' left more
 does-ok start start' xs xs' zs own own' later at at' item pid request takes more k is a b c pushed keeps left = rw (is, pushed, ← a, ← b, ← c) (keeps left takes)
-
--- for an equal opening, an equal list and equal numbers
-pub tree-moved : (start start' : Start) (walk : Walk) (list list' : List Made) (own own' : List ℕ) (at : Situations) (left : List Item) (takes : List Take) → start' ≡ start → list' ≡ list → own' ≡ own → IsPlayingTree start walk list own at left takes → IsPlayingTree start' walk list' own' at left takes
-tree-moved start start' walk list list' own own' at left takes a b c h = rw (a, b, c) h

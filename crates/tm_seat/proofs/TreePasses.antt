@@ -3,11 +3,9 @@ use Rattle.std.proofs.Common.{◌≡◌, ℕ, zero, suc, List, [], ◌∷◌, �
 use Rattle.std.specs.Prelude.{Some, ◌||◌, slice_get, flat_map}
 use Rattle.std.specs.List.{AllByRecursion, list_all}
 use Rattle.std.proofs.lemmas.Bool.{and_parts}
-use Rattle.tm_types.specs.declared.request.Item.{Item}
-use Rattle.tm_types.specs.declared.request.Tree.{Tree}
-use Rattle.tm_types.specs.declared.step.Maker.{Maker}
-use Rattle.tm_rules.specs.Words.{Trace}
-use Rattle.tm_legal.specs.Run.{do_pids}
+use Rattle.tm_rules.specs.Types.{Item, Maker, Tree}
+use Rattle.tm_rules.specs.Prelude.{Trace}
+use Rattle.tm_legal.specs.Prelude.{do_pids}
 use Rattle.tm_legal.proofs.Walks.{All-map}
 use Rattle.tm_take.specs.Trees.{made_by, tree_pids, is_among}
 use Rattle.tm_take.specs.Written.{is_item, are_items, is_tree, IsTrace}

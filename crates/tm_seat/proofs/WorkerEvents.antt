@@ -3,11 +3,8 @@ use Rattle.std.proofs.Common.{◌≡◌, ◌≤◌, ℕ, List, [], ◌∷◌, �
 use Rattle.std.specs.Prelude.{Some, flat_map}
 use Rattle.std.specs.List.{AllByRecursion}
 use Rattle.std.proofs.lemmas.Grind.{flat_map-append}
-use Rattle.tm_types.specs.declared.step.Made.{Made}
-use Rattle.tm_types.specs.declared.step.Maker.{Maker}
-use Rattle.tm_types.specs.declared.step.Start.{Start}
-use Rattle.tm_rules.specs.Words.{DomainName}
-use Rattle.tm_rules.specs.Policy.{live_domain}
+use Rattle.tm_rules.specs.Types.{Made, Maker, Start}
+use Rattle.tm_rules.specs.Prelude.{DomainName, live_domain}
 use Rattle.tm_joint.specs.Played.{Row, row_own}
 use Rattle.tm_joint.proofs.Later.{row-later}
 use Rattle.tm_seat.specs.declared.tree.TreeToPlay.{TreeToPlay}

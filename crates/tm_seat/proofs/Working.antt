@@ -1,9 +1,7 @@
 -- What a worker that plays trees has come to.
 use Rattle.std.proofs.Common.{◌≡◌, ◌≤◌, List, [], ◌++◌, sym, ap, ◌∙◌, subst, length, ℕ, Bool}
 use Rattle.std.specs.Prelude.{Result, Ok, Err, IfOk}
-use Rattle.tm_types.specs.declared.step.Made.{Made}
-use Rattle.tm_types.specs.declared.step.Maker.{Maker}
-use Rattle.tm_types.specs.declared.step.Start.{Start}
+use Rattle.tm_rules.specs.Types.{Made, Maker, Start}
 use Rattle.tm_joint.specs.Makers.{Claims}
 use Rattle.tm_seat.specs.declared.tree.PlayedTree.{PlayedTree}
 use Rattle.tm_seat.specs.declared.tree.TreeToPlay.{TreeToPlay}

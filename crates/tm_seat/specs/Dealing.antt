@@ -1,7 +1,6 @@
 -- Which worker plays which tree, and what is gathered of what they played.
 use Rattle.std.specs.Prelude.{◌≡◌, ℕ, ◌-◌, ◌%◌, ◌==◌, List, [], ◌∷◌, ◌++◌, filter, map, flat_map, Some, slice_get, slice_set}
-use Rattle.tm_legal.specs.Legal.{times}
-use Rattle.tm_legal.specs.Play.{numbers_to}
+use Rattle.tm_legal.specs.Prelude.{numbers_to, times}
 use Rattle.tm_seat.specs.declared.tree.TreeToPlay.{TreeToPlay}
 use Rattle.tm_seat.specs.declared.tree.PlayedTree.{PlayedTree}
 use Rattle.tm_seat.specs.Rows.{rows_own}

@@ -1,21 +1,12 @@
 -- What each thread of a replay has to do, and what it has done.
 use Rattle.std.specs.Prelude.{◌≡◌, ◌≤◌, ◌<◌, ⊤, ℕ, suc, Bool, true, false, List, [], ◌∷◌, ◌++◌, length, map, take, sum_by, Option, Some, None, unwrap_or}
 use Rattle.std.specs.List.{AllByRecursion}
-use Rattle.tm_word.specs.Words.{Text}
-use Rattle.tm_types.specs.declared.policy.Policy.{Policy}
-use Rattle.tm_types.specs.declared.request.Tree.{Tree}
-use Rattle.tm_types.specs.declared.step.Book.{Book}
-use Rattle.tm_types.specs.declared.step.Editor.{Editor}
-use Rattle.tm_types.specs.declared.step.FileKind.{FileKind}
-use Rattle.tm_types.specs.declared.step.Made.{Made}
-use Rattle.tm_types.specs.declared.step.Maker.{Maker}
-use Rattle.tm_types.specs.declared.step.Start.{Start}
-use Rattle.tm_types.specs.declared.step.Step.{Step}
-use Rattle.tm_rules.specs.Policy.{live_domain}
-use Rattle.tm_rules.specs.Queries.{numbered}
-use Rattle.tm_rules.specs.Words.{Trace}
+use Rattle.tm_word.specs.Prelude.{Text}
+use Rattle.tm_rules.specs.Types.{Book, Editor, FileKind, Made, Maker, Policy, Start, Step, Tree}
+use Rattle.tm_rules.specs.Prelude.{Trace, live_domain, numbered}
+use Rattle.tm_take.specs.Each.{EachWith}
 use Rattle.tm_take.specs.Tomoyo.{tomoyo_grammar}
-use Rattle.tm_legal.specs.Play.{IsOpened, IsNamed}
+use Rattle.tm_legal.specs.Prelude.{IsNamed, IsOpened}
 use Rattle.tm_joint.specs.Makers.{Claims}
 use Rattle.tm_joint.specs.Played.{LinesMade, DeskDid}
 use Rattle.tm_seat.specs.declared.tree.PlayedTree.{PlayedTree}
@@ -140,13 +131,6 @@ PartIsDone Did start book floor (Part.Worker hand) done = Did start floor hand d
 PartIsDone Did start book floor (Part.Editor number lines) done = EditorDid number lines done.known done.own
 PartIsDone Did start book floor Part.Desk done = SupervisorDid start book done.known done.own
 
--- each has come to its deed
-abbrev pub EachPart : {P A : Type 0} → (P → A → Type 0) → List P → List A → Type 0
-EachPart Does [] [] = ⊤
-EachPart Does [] (done ∷ deeds) = ⊥
-EachPart Does (part ∷ parts) [] = ⊥
-EachPart Does (part ∷ parts) (done ∷ deeds) = Does part done × EachPart Does parts deeds
-
 -- every part has come to its deed, and all of them to this list of steps, which fits; each began
 -- when it knew the supervisor's coming, where one stands; and these are what the workers gave
 pub record PlayedTogether {H D : Type 0} (Did : Start → ℕ → H → Deed D → Type 0) (start : Start)
@@ -156,7 +140,7 @@ pub record PlayedTogether {H D : Type 0} (Did : Start → ℕ → H → Deed D �
   pub come : start.desk ≡ true → (number : ℕ) × (numbered attached number ≡ Some coming)
   pub begins : Begins attached list
   pub deeds : List (Deed D)
-  pub each : EachPart (PartIsDone Did start book (length attached)) (all_parts hands start.editors start.desk) deeds
+  pub each : EachWith (PartIsDone Did start book (length attached)) (all_parts hands start.editors start.desk) deeds
   pub seen : AllByRecursion (λ (done : Deed D). Begins done.known list) deeds
   pub closed : length list ≡ sum_by (λ (done : Deed D). length done.own) deeds
   pub given_is : given ≡ take (length hands) (map (λ (done : Deed D). done.rows) deeds)

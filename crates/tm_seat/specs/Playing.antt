@@ -1,24 +1,10 @@
 -- Takes, trees and editors on their way from a seat, in every scene with its opening.
 use Rattle.std.specs.Prelude.{◌≡◌, ⊤, ◌≤◌, ℕ, List, ◌∷◌, [], ◌++◌, length, map, true, Option, Some}
 use Rattle.std.specs.List.{list_all, AllByRecursion}
-use Rattle.tm_types.specs.declared.request.Item.{Item}
-use Rattle.tm_types.specs.declared.request.Request.{Request}
-use Rattle.tm_types.specs.declared.request.Tree.{Tree}
-use Rattle.tm_types.specs.declared.step.Book.{Book}
-use Rattle.tm_types.specs.declared.step.Look.{Look}
-use Rattle.tm_types.specs.declared.step.Made.{Made}
-use Rattle.tm_types.specs.declared.step.Maker.{Maker}
-use Rattle.tm_types.specs.declared.step.Start.{Start}
-use Rattle.tm_types.specs.declared.step.Take.{Take}
-use Rattle.tm_rules.specs.Words.{DomainName, Trace}
-use Rattle.tm_rules.specs.Policy.{live_domain}
-use Rattle.tm_rules.specs.Requests.{item_is_request}
+use Rattle.tm_rules.specs.Types.{Book, Item, Look, Made, Maker, Request, Start, Take, Tree}
+use Rattle.tm_rules.specs.Prelude.{DomainName, Trace, item_is_request, live_domain}
 use Rattle.tm_take.specs.Tomoyo.{tomoyo_grammar}
-use Rattle.tm_legal.specs.Run.{Situation, Situations, raised}
-use Rattle.tm_legal.specs.Legal.{own_numbers}
-use Rattle.tm_legal.specs.Cases.{IsLegalTake}
-use Rattle.tm_legal.specs.Play.{InProgress}
-use Rattle.tm_legal.specs.Stages.{DomainIn}
+use Rattle.tm_legal.specs.Prelude.{DomainIn, InProgress, IsLegalTake, Situation, Situations, own_numbers, raised}
 use Rattle.tm_made.specs.Made.{history_made}
 use Rattle.tm_joint.specs.UnderWay.{own_so_far}
 use Rattle.tm_joint.specs.AtLists.{UnderWayAt, WalkedAt}

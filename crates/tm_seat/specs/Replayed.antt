@@ -1,13 +1,9 @@
 -- A trace that was replayed in parts, and the run that its parts have made.
 use Rattle.std.specs.Prelude.{◌≡◌, ◌<◌, ℕ, List, length, map, Some, None, if◌then◌else◌, slice_get}
-use Rattle.tm_types.specs.declared.step.Book.{Book}
-use Rattle.tm_types.specs.declared.step.Made.{Made}
-use Rattle.tm_types.specs.declared.step.Run.{Run}
-use Rattle.tm_types.specs.declared.step.Start.{Start}
-use Rattle.tm_rules.specs.Words.{Trace}
+use Rattle.tm_rules.specs.Types.{Book, Made, Run, Start}
+use Rattle.tm_rules.specs.Prelude.{Trace}
 use Rattle.tm_take.specs.Written.{IsTrace}
-use Rattle.tm_legal.specs.Legal.{Scene, Legal, NoLookBeforeAttach}
-use Rattle.tm_legal.specs.Play.{CanPlay}
+use Rattle.tm_legal.specs.Prelude.{CanPlay, Legal, NoLookBeforeAttach, Scene}
 use Rattle.tm_made.specs.Made.{history_made}
 use Rattle.tm_joint.specs.Joint.{takes_in}
 use Rattle.tm_seat.specs.declared.tree.PlayedTree.{PlayedTree}

@@ -1,18 +1,10 @@
 -- Trees and workers that have played from a seat, in every scene with its opening.
 use Rattle.std.specs.Prelude.{◌≡◌, ⊤, ◌≤◌, ◌<◌, ℕ, List, ◌∷◌, [], ◌++◌, length, map, flat_map, Bool, true, false, Option, Some, None, is_some, option_to_list}
 use Rattle.std.specs.List.{list_all, AllByRecursion}
-use Rattle.tm_types.specs.declared.request.Tree.{Tree}
-use Rattle.tm_types.specs.declared.step.Book.{Book}
-use Rattle.tm_types.specs.declared.step.Made.{Made}
-use Rattle.tm_types.specs.declared.step.Maker.{Maker}
-use Rattle.tm_types.specs.declared.step.Reply.{Reply}
-use Rattle.tm_types.specs.declared.step.Start.{Start}
-use Rattle.tm_types.specs.declared.step.Step.{Step}
-use Rattle.tm_rules.specs.Words.{DomainName, Trace}
-use Rattle.tm_rules.specs.Policy.{live_domain}
-use Rattle.tm_rules.specs.Requests.{item_is_request}
+use Rattle.tm_rules.specs.Types.{Book, Made, Maker, Reply, Start, Step, Tree}
+use Rattle.tm_rules.specs.Prelude.{DomainName, Trace, item_is_request, live_domain}
 use Rattle.tm_take.specs.Tomoyo.{tomoyo_grammar}
-use Rattle.tm_legal.specs.Run.{do_pids}
+use Rattle.tm_legal.specs.Prelude.{do_pids}
 use Rattle.tm_joint.specs.Played.{Row, row_own, seen_by, RowHolds}
 use Rattle.tm_seat.specs.declared.tree.PlayedTree.{PlayedTree}
 use Rattle.tm_seat.specs.declared.tree.TreeToPlay.{TreeToPlay}
@@ -85,7 +77,7 @@ rows_own rows = flat_map (λ (played : PlayedTree). row_own (row_of played)) row
 abbrev pub makers_all : List TreeToPlay → List Maker
 makers_all trees = flat_map tree_makers trees
 
--- what was known and made when a worker began
+-- what was known and made when a worker, or an editor, began
 pub record Shift : Type 0 where
   pub known : List Made
   pub before : List ℕ

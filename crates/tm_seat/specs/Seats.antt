@@ -1,25 +1,15 @@
 -- What a seat knows, and what is made from it.
 use Rattle.std.specs.Prelude.{◌≡◌, ℕ, List, [], ◌∷◌, ◌++◌, length, Option, Some}
 use Rattle.std.specs.List.{AllByRecursion}
-use Rattle.tm_word.specs.Words.{Text}
-use Rattle.tm_types.specs.declared.request.Proc.{Proc}
-use Rattle.tm_types.specs.declared.request.Request.{Request}
-use Rattle.tm_types.specs.declared.verdict.Verdict.{Verdict}
-use Rattle.tm_types.specs.declared.step.Book.{Book}
-use Rattle.tm_types.specs.declared.step.Made.{Made}
-use Rattle.tm_types.specs.declared.step.Maker.{Maker}
-use Rattle.tm_types.specs.declared.step.Reply.{Reply}
-use Rattle.tm_types.specs.declared.step.Start.{Start}
-use Rattle.tm_rules.specs.Words.{Trace}
-use Rattle.tm_rules.specs.Audit.{audit_text}
+use Rattle.tm_word.specs.Prelude.{Text}
+use Rattle.tm_rules.specs.Types.{Book, Made, Maker, Proc, Reply, Request, Start, Verdict}
+use Rattle.tm_rules.specs.Prelude.{Trace, audit_text}
+use Rattle.tm_take.specs.Looking.{verdict_at}
 use Rattle.tm_take.specs.Tomoyo.{tomoyo_grammar}
-use Rattle.tm_legal.specs.Verdict.{verdict}
-use Rattle.tm_legal.specs.Steps.{State, opening, apply}
-use Rattle.tm_legal.specs.Legal.{Scene, Replies}
-use Rattle.tm_legal.specs.Stages.{DomainIn}
+use Rattle.tm_legal.specs.Prelude.{DomainIn, Replies, Scene, State, apply, opening}
 use Rattle.tm_made.specs.Made.{steps_made, told_from, state_made}
 use Rattle.tm_joint.specs.Makers.{Claims}
-use Rattle.tm_seat.specs.declared.seat.Shown.{Shown}
+use Rattle.tm_take.specs.declared.judged.Judged.{Judged}
 
 -- a scene with that opening
 abbrev pub scene_of : Start → Trace → Option Book → Scene
@@ -39,18 +29,13 @@ FitsFrom start list =
 abbrev pub Begins : List Made → List Made → Type 0
 Begins old new = (more : List Made) × (new ≡ old ++ more)
 
--- a state's verdict on a request
-abbrev pub verdict_at : State → ℕ → Proc → Request → Option Verdict
-verdict_at s domain process request =
-    verdict tomoyo_grammar.is_path s.policy s.queries.attached domain process request
-
--- its audit text, for that verdict
+-- a state's audit text for a verdict of it
 abbrev pub audit_at : State → ℕ → Proc → Request → Verdict → Option Text
 audit_at s domain process request v = audit_text tomoyo_grammar s.policy domain process request v
 
 -- what a look shows of a request in a domain that is there with its profile, at the version after
 -- these steps
-pub record ShowsAt (start : Start) (list : List Made) (domain : ℕ) (process : Proc) (request : Request) (shown : Shown)
+pub record ShowsAt (start : Start) (list : List Made) (domain : ℕ) (process : Proc) (request : Request) (shown : Judged)
     (version : ℕ) : Type 0 where
   pub there : DomainIn (state_of start list).policy domain
   pub version_is : version ≡ length list

@@ -1,8 +1,7 @@
 //! An editor: its lines, one after another.
 ghost use Rattle.std.specs.Prelude.{◌≡◌, ◌<◌, ◌≤◌, ◌++◌, ◌∷◌, [], ℕ, List, length, OnOk};
-ghost use Rattle.tm_word.specs.Words.{Text};
-ghost use Rattle.tm_types.specs.declared.step.FileKind.{FileKind};
-ghost use Rattle.tm_types.specs.declared.step.Maker.{Maker};
+ghost use Rattle.tm_word.specs.Prelude.{Text};
+ghost use Rattle.tm_rules.specs.Types.{FileKind, Maker};
 ghost use Rattle.tm_joint.specs.Played.{LinesMade};
 ghost use Rattle.tm_seat.specs.Seats.{FitsFrom, Begins, MadeBy};
 ghost use Rattle.tm_seat.specs.Editing.{EditsOn};

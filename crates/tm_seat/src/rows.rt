@@ -1,6 +1,6 @@
 //! How rows are gathered.
 ghost use Rattle.std.specs.Prelude.{◌≡◌, ◌<◌, ◌∷◌, [], IfOk, IfSome, IsTrue, MatchOption, length};
-ghost use Rattle.tm_word.specs.Matching.{is_empty};
+ghost use Rattle.tm_word.specs.Prelude.{is_empty};
 ghost use Rattle.tm_seat.specs.Dealing.{queues_own, TakesFirst, IsGathered};
 
 use crate::never::lost;

@@ -1,32 +1,20 @@
 //! A seat: a place from which one activity looks, makes steps and hears answers.
 use std::alloc::Global;
 use tm_list::NoMemory;
+use tm_take::Judged;
 use tm_types::request::{Proc, Request};
 use tm_types::step::{Answered, Made, Reply, Settled};
-use tm_types::verdict::Verdict;
-use tm_word::Text;
-
-/// What a look shows: the verdict, and the audit text that is written of it if the take ends with
-/// this look.
-#[derive(Drop)]
-pub struct Shown {
-    pub verdict: Verdict,
-    pub audit: Option<Text>,
-}
 
 /// A place from which one activity looks, makes steps and hears answers, while others make steps
 /// too. It knows a list of steps, and each call that is Ok knows one that goes on from it.
 pub trait Seat {
     ghost use Rattle.std.specs.Prelude.{◌≡◌, ◌++◌, ◌∷◌, [], ℕ, true, List, length, Some, IsSome, IsTrue, IfOk, IfSome, OnErr};
-    ghost use Rattle.tm_types.specs.declared.step.Start.{Start};
-    ghost use Rattle.tm_types.specs.declared.step.Made.{Made};
-    ghost use Rattle.tm_rules.specs.Queries.{answer_of};
-    ghost use Rattle.tm_rules.specs.Requests.{is_request};
+    ghost use Rattle.tm_rules.specs.Types.{Made, Start};
+    ghost use Rattle.tm_rules.specs.Prelude.{answer_of, is_request};
     ghost use Rattle.tm_take.specs.Tomoyo.{tomoyo_grammar};
-    ghost use Rattle.tm_legal.specs.Steps.{apply};
-    ghost use Rattle.tm_legal.specs.Play.{IsOpened, IsNamed};
-    ghost use Rattle.tm_legal.specs.Stages.{DomainIn};
-    ghost use Rattle.tm_seat.specs.Seats.{state_of, verdict_at, audit_at, ShowsAt, FitsFrom, Begins, IsMade};
+    ghost use Rattle.tm_legal.specs.Prelude.{DomainIn, IsNamed, IsOpened, apply};
+    ghost use Rattle.tm_take.specs.Looking.{verdict_at};
+    ghost use Rattle.tm_seat.specs.Seats.{state_of, audit_at, ShowsAt, FitsFrom, Begins, IsMade};
 
     // what was there at version 0
     ghost opening: { Self → Start };
@@ -67,7 +55,7 @@ pub trait Seat {
         domain: u32,
         process: &Proc,
         request: &Request,
-    ) -> Result<(Shown, u64), NoMemory>
+    ) -> Result<(Judged, u64), NoMemory>
         requires opened { IsOpened (opening self.old).policy }
         requires named { IsNamed tomoyo_grammar.is_path (opening self.old).policy }
         requires asked { is_request tomoyo_grammar.is_path request.now ≡ true }
@@ -93,7 +81,7 @@ pub trait Seat {
         domain: u32,
         process: &Proc,
         request: &Request,
-    ) -> Result<Option<(Shown, u64)>, NoMemory>
+    ) -> Result<Option<(Judged, u64)>, NoMemory>
         requires named { IsNamed tomoyo_grammar.is_path (opening self.old).policy }
         requires asked { is_request tomoyo_grammar.is_path request.now ≡ true }
         ensures fitted { IfOk result (λ found. FitsFrom (opening self.new) (at self.new)) }

@@ -1,21 +1,18 @@
 //! A take from its first look to its end.
 ghost use Rattle.std.specs.Prelude.{◌≡◌, ◌∷◌, ℕ, true, List, length, Some, IfOk, IfSome};
-ghost use Rattle.tm_rules.specs.Requests.{is_request};
-ghost use Rattle.tm_types.specs.declared.step.Made.{Made};
-ghost use Rattle.tm_types.specs.declared.step.Step.{Step};
-ghost use Rattle.tm_types.specs.declared.verdict.Verdict.{Verdict};
+ghost use Rattle.tm_rules.specs.Prelude.{is_request};
+ghost use Rattle.tm_rules.specs.Types.{Made, Step, Verdict};
 ghost use Rattle.tm_take.specs.Tomoyo.{tomoyo_grammar};
-ghost use Rattle.tm_legal.specs.Play.{Stage, IsOpened, IsNamed, taken};
-ghost use Rattle.tm_legal.specs.Stages.{DomainIn};
+ghost use Rattle.tm_legal.specs.Prelude.{DomainIn, IsNamed, IsOpened, Stage, taken};
 ghost use Rattle.tm_take.specs.Situations.{situation_of};
 ghost use Rattle.tm_joint.specs.UnderWay.{JudgedBy, begun_at};
 ghost use Rattle.tm_seat.specs.Seats.{state_of, FitsFrom, Begins};
 ghost use Rattle.tm_seat.specs.Playing.{Errand, IsPlaying, PlaysOn, HasEnded};
 
-use crate::seat::{Seat, Shown};
+use crate::seat::Seat;
 use std::alloc::{AllocError, Global};
 use tm_list::NoMemory;
-use tm_take::{NextEvent, PendingLook, ProcessSituation, RequestInProgress, begin};
+use tm_take::{Judged, NextEvent, PendingLook, ProcessSituation, RequestInProgress, begin};
 use tm_types::request::Request;
 use tm_types::step::{Made, Maker, Settled, Take};
 
@@ -43,7 +40,7 @@ fn look<S: Seat>(
 {
     match seat.judge(alloc, domain, &pending.now.process, &pending.request) {
         Ok((shown, version)) => {
-            let Shown { verdict, audit } = shown;
+            let Judged { verdict, audit } = shown;
             begin(alloc, version, domain, pending, verdict, audit)
         }
         Err(fault) => {
@@ -267,7 +264,7 @@ fn look_if_there<S: Seat>(
 {
     match seat.judge_if_there(alloc, domain, &now.process, &request) {
         Ok(Some((shown, version))) => {
-            let Shown { verdict, audit } = shown;
+            let Judged { verdict, audit } = shown;
             let pending = PendingLook::first(alloc, now, request);
             let attempt = begin(alloc, version, domain, pending, verdict, audit)?;
             Ok(Some((attempt, version)))

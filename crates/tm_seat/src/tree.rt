@@ -1,15 +1,10 @@
 //! A tree: its records, one after another, and its End.
 ghost use Rattle.std.specs.Prelude.{◌≡◌, ◌<◌, ◌≤◌, ◌++◌, ◌∷◌, [], true, List, length, map, Some, IfOk, OnOk};
 ghost use Rattle.std.specs.List.{list_all, AllByRecursion};
-ghost use Rattle.tm_rules.specs.Words.{DomainName};
-ghost use Rattle.tm_rules.specs.Policy.{live_domain};
-ghost use Rattle.tm_rules.specs.Requests.{item_is_request};
-ghost use Rattle.tm_types.specs.declared.request.Item.{Item};
-ghost use Rattle.tm_types.specs.declared.step.Take.{Take};
+ghost use Rattle.tm_rules.specs.Prelude.{DomainName, item_is_request, live_domain};
+ghost use Rattle.tm_rules.specs.Types.{Item, Take};
 ghost use Rattle.tm_take.specs.Tomoyo.{tomoyo_grammar};
-ghost use Rattle.tm_legal.specs.Legal.{own_numbers};
-ghost use Rattle.tm_legal.specs.Cases.{TreePlayed};
-ghost use Rattle.tm_legal.specs.Play.{IsOpened, IsNamed};
+ghost use Rattle.tm_legal.specs.Prelude.{IsNamed, IsOpened, TreePlayed, own_numbers};
 ghost use Rattle.tm_take.specs.Situations.{situations};
 ghost use Rattle.tm_made.specs.Made.{history_made};
 ghost use Rattle.tm_joint.specs.Played.{row_own};

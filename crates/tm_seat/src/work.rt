@@ -10,7 +10,7 @@ use tm_list::{NoMemory, Seq};
 /// back.
 pub trait Work<H, D> {
     ghost use Rattle.std.specs.Prelude.{◌≡◌, ◌≤◌, ℕ, [], length, IfOk};
-    ghost use Rattle.tm_types.specs.declared.step.Start.{Start};
+    ghost use Rattle.tm_rules.specs.Types.{Start};
     ghost use Rattle.tm_seat.specs.Seats.{FitsFrom, Begins};
     ghost use Rattle.tm_seat.specs.Parts.{CanBegin, Deed, deed};
 

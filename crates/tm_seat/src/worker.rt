@@ -1,9 +1,9 @@
 //! A worker: its trees, one after another.
 ghost use Rattle.std.specs.Prelude.{◌≡◌, ◌++◌, ℕ, List, length, IfOk, OnOk};
 ghost use Rattle.std.specs.List.{AllByRecursion};
-ghost use Rattle.tm_types.specs.declared.step.Made.{Made};
+ghost use Rattle.tm_rules.specs.Types.{Made};
 ghost use Rattle.tm_take.specs.Tomoyo.{tomoyo_grammar};
-ghost use Rattle.tm_legal.specs.Play.{IsOpened, IsNamed};
+ghost use Rattle.tm_legal.specs.Prelude.{IsNamed, IsOpened};
 ghost use Rattle.tm_seat.specs.Seats.{FitsFrom, Begins, MadeBy};
 ghost use Rattle.tm_seat.specs.Rows.{IsReady, EachIsPlayed, RowsRise, WorksOn, rows_own, makers_all};
 

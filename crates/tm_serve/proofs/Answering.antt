@@ -2,11 +2,9 @@
 use Rattle.std.proofs.Common.{◌≡◌, ◌≤◌, ◌<◌, ℕ, zero, suc, ◌+◌, List, [], ◌∷◌, ◌++◌, length, take, Some, slice_get, refl, ap, ◌∙◌, subst, arith}
 use Rattle.std.specs.Prelude.{Option}
 use mathlib.Core.List.{IsPrefix}
-use Rattle.tm_types.specs.declared.step.Query.{Query}
-use Rattle.tm_types.specs.declared.step.Book.{Book}
-use Rattle.tm_rules.specs.Queries.{numbered}
-use Rattle.tm_legal.specs.Legal.{RisesFrom}
-use Rattle.tm_joint.specs.Played.{last_from}
+use Rattle.tm_rules.specs.Types.{Book, Query}
+use Rattle.tm_rules.specs.Prelude.{numbered}
+use Rattle.tm_legal.specs.Prelude.{RisesFrom, last_from}
 use Rattle.tm_serve.specs.Serving.{AnswersFirst, AnswersFrom}
 
 -- Lists

@@ -2,20 +2,12 @@
 use Rattle.std.proofs.Common.{◌≡◌, ◌≤◌, ◌<◌, ℕ, zero, suc, List, [], ◌∷◌, ◌++◌, length, take, Some, refl, ap, ◌∙◌, subst, arith, inl, inr, ◌⊎◌, ⊎_elim}
 use Rattle.std.specs.Prelude.{Option, option_map, IfSome, Bool}
 use mathlib.Core.List.{IsPrefix}
-use Rattle.tm_types.specs.declared.step.Book.{Book}
-use Rattle.tm_types.specs.declared.step.Query.{Query}
-use Rattle.tm_types.specs.declared.step.Made.{Made}
-use Rattle.tm_types.specs.declared.step.Maker.{Maker}
-use Rattle.tm_types.specs.declared.step.Step.{Step}
-use Rattle.tm_types.specs.declared.step.Start.{Start}
-use Rattle.tm_rules.specs.Queries.{numbered, first_query}
-use Rattle.tm_legal.specs.Steps.{State}
-use Rattle.tm_legal.specs.Legal.{Scene, state_at, RisesFrom}
-use Rattle.tm_legal.specs.Play.{all_ended}
+use Rattle.tm_rules.specs.Types.{Book, Made, Maker, Query, Start, Step}
+use Rattle.tm_rules.specs.Prelude.{first_query, numbered}
+use Rattle.tm_legal.specs.Prelude.{RisesFrom, Scene, State, all_ended, last_from, state_at}
 use Rattle.tm_made.specs.Made.{start_in, state_made, history_made, made_step}
 use Rattle.tm_made.proofs.Telling.{state_at-take}
 use Rattle.tm_joint.specs.Played as joint
-use Rattle.tm_joint.specs.Played.{last_from}
 use Rattle.tm_joint.proofs.Rising.{RisesFrom-low}
 use Rattle.tm_serve.specs.Serving.{AnswersFirst, AnswersFrom, AllWasDone}
 use Rattle.tm_serve.proofs.Answering.{numbered_later, get_within, take_grows}

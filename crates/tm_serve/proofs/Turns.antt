@@ -2,14 +2,13 @@
 use Rattle.std.proofs.Common.{◌≡◌, ◌≤◌, ◌<◌, ℕ, ◌+◌, List, [], ◌∷◌, ◌++◌, length, Some, refl, sym, ap, ◌∙◌, subst, arith, append_assoc, length-append}
 use Rattle.std.specs.Prelude.{Option, None, IfSome, MatchOption, Bool}
 use Rattle.std.proofs.lemmas.List.{append-nil}
-use Rattle.tm_types.specs.declared.step.Query.{Query}
-use Rattle.tm_types.specs.declared.step.Book.{Book}
+use Rattle.tm_rules.specs.Types.{Book, Query}
 use Rattle.tm_publish.specs.declared.pass.Pass.{Pass}
 use Rattle.tm_publish.specs.Words.{home, known, made_of}
 use Rattle.tm_publish.proofs.Prefixes.{prefix_self, prefix_trans, prefix_length, prefix_take}
 use mathlib.Core.List.{IsPrefix}
-use Rattle.tm_joint.specs.Played.{last_from}
-use Rattle.tm_rules.specs.Book.{book_answer, code_of}
+use Rattle.tm_legal.specs.Prelude.{last_from}
+use Rattle.tm_rules.specs.Prelude.{book_answer, code_of}
 use Rattle.tm_engine.specs.Waits.{IsFirstQuery}
 use Rattle.tm_serve.specs.Serving.{IsServing, HasMade, HasAnswered, HasWaited}
 use Rattle.tm_serve.proofs.Answering.{from_later, from_push, rises_push, last_push}

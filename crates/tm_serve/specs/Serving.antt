@@ -2,12 +2,9 @@
 use Rattle.std.specs.Prelude.{◌≡◌, ◌≤◌, ◌<◌, ◌⊎◌, ⊤, ℕ, true, List, [], ◌∷◌, ◌++◌, length, take, Option, Some, None, Bool}
 use Rattle.std.specs.Option.{IfSome}
 use mathlib.Core.List.{IsPrefix}
-use Rattle.tm_types.specs.declared.step.Query.{Query}
-use Rattle.tm_types.specs.declared.step.Book.{Book}
-use Rattle.tm_rules.specs.Queries.{numbered}
-use Rattle.tm_rules.specs.Book.{book_answer, code_of}
-use Rattle.tm_legal.specs.Legal.{RisesFrom}
-use Rattle.tm_joint.specs.Played.{last_from}
+use Rattle.tm_rules.specs.Types.{Book, Query}
+use Rattle.tm_rules.specs.Prelude.{book_answer, code_of, numbered}
+use Rattle.tm_legal.specs.Prelude.{RisesFrom, last_from}
 use Rattle.tm_publish.specs.declared.front.Front.{Front}
 use Rattle.tm_publish.specs.declared.pass.Pass.{Pass}
 use Rattle.tm_publish.specs.Words.{home, known, made_of, front_list}

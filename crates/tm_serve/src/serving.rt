@@ -1,6 +1,6 @@
 //! How a supervisor answers, and leaves.
 ghost use Rattle.std.specs.Prelude.{◌≡◌, ◌<◌, ◌+◌, ◌⊎◌, ◌↔◌, List, Some, IfOk, OnOk, IsTrue, MatchOption};
-ghost use Rattle.tm_rules.specs.Book.{book_answer, code_of};
+ghost use Rattle.tm_rules.specs.Prelude.{book_answer, code_of};
 ghost use Rattle.tm_desk.specs.Desks.{desk_book, IsDesk};
 ghost use Rattle.tm_publish.specs.Words.{home, known, HasSeen, made_of};
 ghost use Rattle.tm_engine.specs.Waits.{IsFirstQuery};

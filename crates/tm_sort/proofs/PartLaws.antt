@@ -3,7 +3,7 @@ use Rattle.std.proofs.Common.{◌≡◌, ℕ, zero, suc, ◌+◌, ◌<◌, ◌==
 use Rattle.std.specs.Prelude.{map, if◌then◌else◌}
 use Rattle.std.specs.List.{filter, list_all}
 use Rattle.std.proofs.lemmas.Bool.{ltb-true}
-use Rattle.tm_word.specs.Words.{Text}
+use Rattle.tm_word.specs.Prelude.{Text}
 use Rattle.tm_sort.specs.declared.record.Record.{Record}
 use Rattle.tm_sort.specs.declared.rules.Rule.{Rule}
 use Rattle.tm_sort.specs.declared.parts.Part.{Part}

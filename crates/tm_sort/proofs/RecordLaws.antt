@@ -6,9 +6,7 @@ use Rattle.std.proofs.lemmas.List.{append_assoc, append-nil}
 use Rattle.std.proofs.lemmas.Grind.{flat_map-append}
 use Rattle.std.proofs.lemmas.List.Folds.{list_all-append}
 use Rattle.std.proofs.lemmas.List.Splits.{slice_split-cons_no, slice_split-cons_yes, join_with_byte-slice_split}
-use Rattle.tm_word.specs.Words.{Text}
-use Rattle.tm_word.specs.Texts.{lines_of}
-use Rattle.tm_word.specs.Matching.{is_empty}
+use Rattle.tm_word.specs.Prelude.{Text, is_empty, lines_of}
 use Rattle.tm_sort.specs.declared.record.Record.{Record}
 use Rattle.tm_sort.specs.declared.record.Begun.{Begun}
 use Rattle.tm_sort.specs.Records.{record_text, records_text, record_of, read_so, full_line, line_after, last_line, records_from, records_of, is_full, is_record}

@@ -1,10 +1,7 @@
 -- The records of an audit file: three lines of one byte or more, and an empty line.
 use Rattle.std.specs.Prelude.{◌≡◌, ◌↔◌, ℕ, ◌+◌, ◌==◌, ◌&&◌, not, Bool, true, false, List, [], ◌∷◌, ◌++◌, take, drop, Option, Some, None, Result, Ok, Err, if◌then◌else◌}
 use Rattle.std.specs.List.{flat_map, list_all}
-use Rattle.tm_word.specs.Words.{Text}
-use Rattle.tm_word.specs.Texts.{lines_of}
-use Rattle.tm_word.specs.Matching.{is_empty}
-use Rattle.tm_word.specs.Gives.{◌>>=◌}
+use Rattle.tm_word.specs.Prelude.{Text, is_empty, lines_of, ◌>>=◌}
 use Rattle.tm_sort.specs.declared.record.Record.{Record}
 use Rattle.tm_sort.specs.declared.record.RecordFault.{RecordFault}
 use Rattle.tm_sort.specs.declared.record.Begun.{Begun}

@@ -3,11 +3,9 @@ use Rattle.std.specs.Prelude.{◌≡◌, ℕ, Bool, ◌&&◌, List, [], ◌∷�
 use Rattle.std.specs.List.{list_all, list_any}
 use Rattle.std.specs.Borrow.{Bor}
 use Rattle.std.specs.Fn.{FnReturnsAt, Shared}
-use Rattle.tm_word.specs.Words.{Text, Pattern}
-use Rattle.tm_word.specs.Spelling.{words_of}
-use Rattle.tm_word.specs.Matching.{matches}
-use Rattle.tm_types.specs.declared.step.ListWords.{ListWords}
-use Rattle.tm_rules.specs.Book.{list_matches}
+use Rattle.tm_word.specs.Prelude.{Pattern, Text, matches, words_of}
+use Rattle.tm_rules.specs.Types.{ListWords}
+use Rattle.tm_rules.specs.Prelude.{list_matches}
 use Rattle.tm_sort.specs.declared.record.Record.{Record}
 use Rattle.tm_sort.specs.declared.rules.Rule.{Rule}
 use Rattle.tm_sort.specs.declared.route.Route.{Route}

@@ -1,6 +1,7 @@
 //! The audit sorter: records of an audit file, rules of a sorter file, and the parts of the
 //! records.
 //! Stands on tm_script for lines and lists of words, and on tm_pattern for patterns.
+//! Of its own, on no policy and no trace: `sort` reads records and rules alone.
 //! Promises first faults, and each record in the one part that its first accepting rule names.
 #![tactic(auto)]
 

@@ -1,6 +1,6 @@
 //! Records of an audit file.
 ghost use Rattle.std.specs.Prelude.{◌≡◌, ◌++◌, ◌∷◌, [], OnOk};
-ghost use Rattle.tm_word.specs.Gives.{Gives};
+ghost use Rattle.tm_word.specs.Prelude.{Gives};
 ghost use Rattle.tm_sort.specs.Records.{record_cause, full_line, line_after, last_line, records_of, record_text};
 ghost use Rattle.tm_sort.specs.declared.record.RecordFault.TheVariants.{NoMemory};
 

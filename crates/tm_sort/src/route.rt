@@ -1,8 +1,7 @@
 //! Which rule takes a record.
 ghost use Rattle.std.specs.Prelude.{◌≡◌, map, IfOk};
 ghost use Rattle.std.specs.List.{list_any, list_all, AllByRecursion};
-ghost use Rattle.tm_word.specs.Spelling.{words_of};
-ghost use Rattle.tm_word.specs.Matching.{matches};
+ghost use Rattle.tm_word.specs.Prelude.{matches, words_of};
 ghost use Rattle.tm_sort.specs.Routes.{each_found, header_matches, accepts, dest, route_rule, IsRoute, MakesRoutes};
 
 use crate::record::Record;

@@ -1,6 +1,6 @@
 //! Rules of a sorter file.
 ghost use Rattle.std.specs.Prelude.{◌≡◌, [], ◌<◌, IfOk};
-ghost use Rattle.tm_word.specs.Gives.{Gives};
+ghost use Rattle.tm_word.specs.Prelude.{Gives};
 ghost use Rattle.tm_script.specs.Steps.{kind_cause};
 ghost use Rattle.tm_script.specs.Lines.{script_cause};
 ghost use Rattle.tm_sort.specs.Rules.{patterns_after, header_of, header_at, rule_of, rules_of};

@@ -3,12 +3,9 @@ use Rattle.std.proofs.Common.{◌≡◌, ℕ, true, List, [], ◌∷◌, ◌++�
 use Rattle.std.specs.Prelude.{Option, Some, Result, Ok, Err, IfOk, IfSome}
 use Rattle.std.specs.List.{AllByRecursion}
 use Rattle.std.proofs.lemmas.List.{map-append}
-use Rattle.tm_types.specs.declared.request.Request.{Request}
-use Rattle.tm_rules.specs.Requests.{is_request}
+use Rattle.tm_rules.specs.Types.{Made, Request, Start}
+use Rattle.tm_rules.specs.Prelude.{Trace, is_request}
 use Rattle.tm_replay.specs.Tomoyo.{tomoyo_grammar}
-use Rattle.tm_types.specs.declared.step.Made.{Made}
-use Rattle.tm_types.specs.declared.step.Start.{Start}
-use Rattle.tm_rules.specs.Words.{Trace}
 use Rattle.tm_legal.proofs.Histories.{All-push}
 use Rattle.tm_replay.specs.SeatSeats.{Begins}
 use Rattle.tm_steal_rows.specs.declared.played.Played.{Played}

@@ -1,14 +1,9 @@
 -- The run that workers have made who took processes from each other.
 use Rattle.std.proofs.Common.{◌≡◌, List, length, map, refl, ap, ◌∙◌, subst}
-use Rattle.tm_types.specs.declared.step.Book.{Book}
-use Rattle.tm_types.specs.declared.step.Run.{Run}
-use Rattle.tm_types.specs.declared.step.Start.{Start}
-use Rattle.tm_types.specs.declared.step.Take.{Take}
-use Rattle.tm_rules.specs.Words.{Trace}
+use Rattle.tm_rules.specs.Types.{Book, Run, Start, Take}
+use Rattle.tm_rules.specs.Prelude.{Trace}
 use Rattle.tm_replay.specs.Tomoyo.{tomoyo_grammar}
-use Rattle.tm_legal.specs.Steps.{State, opening}
-use Rattle.tm_legal.specs.Legal.{Legal, Replies, NoLookBeforeAttach, opening_of}
-use Rattle.tm_legal.specs.Play.{CanPlay}
+use Rattle.tm_legal.specs.Prelude.{CanPlay, Legal, NoLookBeforeAttach, Replies, State, opening, opening_of}
 use Rattle.tm_made.specs.Made.{history_made, told_from, steps_made}
 use Rattle.tm_made.proofs.Telling.{told-again}
 use Rattle.tm_joint.specs.Joint.{takes_in}

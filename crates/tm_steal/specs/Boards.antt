@@ -1,12 +1,8 @@
 -- What the workers share, and what each comes to.
 use Rattle.std.specs.Prelude.{◌≡◌, ◌≤◌, ◌++◌, ℕ, true, List, map}
 use Rattle.std.specs.List.{AllByRecursion, list_all}
-use Rattle.tm_types.specs.declared.request.Tree.{Tree}
-use Rattle.tm_types.specs.declared.step.Book.{Book}
-use Rattle.tm_types.specs.declared.step.Made.{Made}
-use Rattle.tm_types.specs.declared.step.Start.{Start}
-use Rattle.tm_rules.specs.Words.{Trace}
-use Rattle.tm_rules.specs.Requests.{item_is_request}
+use Rattle.tm_rules.specs.Types.{Book, Made, Start, Tree}
+use Rattle.tm_rules.specs.Prelude.{Trace, item_is_request}
 use Rattle.tm_replay.specs.Tomoyo.{tomoyo_grammar}
 use Rattle.tm_replay.specs.PlayedTree.{PlayedTree}
 use Rattle.tm_replay.specs.Rows.{Shift}

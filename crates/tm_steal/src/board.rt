@@ -10,8 +10,8 @@ use std::sync::atomic::{AtomicU64, Ordering};
 use std::thread::Threads;
 use tm_list::NoMemory;
 use tm_replay::seat::lost;
-use tm_replay::take::ProcessSituation;
-use tm_types::request::{Ids, Proc, Request, Tree};
+use tm_take::ProcessSituation;
+use tm_types::request::{Request, Tree};
 
 /// A process that can be played: the place of its tree, its own among the tree's processes, and
 /// where it stands at its start.
@@ -129,24 +129,6 @@ impl Hand {
     }
 }
 
-// The first process of a tree, as the tree begins with it.
-fn first_now(pid: u32, home: Option<u32>) -> ProcessSituation {
-    let ids = Ids {
-        uid: 0,
-        euid: 0,
-        suid: 0,
-        fsuid: 0,
-        gid: 0,
-        egid: 0,
-        sgid: 0,
-        fsgid: 0,
-    };
-    ProcessSituation {
-        process: Proc { pid, ppid: 0, ids },
-        domain: home,
-    }
-}
-
 // So many empty hands.
 fn empty_hands(alloc: Global, workers: u32) -> Result<Vec<Hand>, NoMemory> {
     let mut hands = Vec::new(alloc);
@@ -187,7 +169,7 @@ fn deal_firsts(
         let job = Job {
             tree: place,
             process: 0,
-            now: first_now(tree.pid, *home),
+            now: ProcessSituation::first(*home, tree.pid),
         };
         hands[place % workers].put(job)?;
         place += 1;

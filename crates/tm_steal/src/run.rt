@@ -1,10 +1,8 @@
 //! A trace played by threads that share its processes, from its opening to its closing.
 ghost use Rattle.std.specs.Prelude.{◌≡◌, ◌<◌, [], length, IfOk};
-ghost use Rattle.tm_rules.specs.Few.{IsFew};
+ghost use Rattle.tm_rules.specs.Prelude.{IsFew};
 ghost use Rattle.tm_replay.specs.Written.{IsTrace};
-ghost use Rattle.tm_legal.specs.Legal.{Legal, NoLookBeforeAttach, final_policy};
-ghost use Rattle.tm_legal.specs.Play.{CanPlay};
-ghost use Rattle.tm_legal.specs.Steps.{opening};
+ghost use Rattle.tm_legal.specs.Prelude.{CanPlay, Legal, NoLookBeforeAttach, final_policy, opening};
 ghost use Rattle.tm_replay.specs.Scenes.{scene_of};
 ghost use Rattle.tm_desk.specs.Desks.{desk_book, IsDesk};
 ghost use Rattle.tm_replay.specs.Machine.{history_of};

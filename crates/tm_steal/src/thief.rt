@@ -1,7 +1,7 @@
 //! A worker: its own processes, and those that it steals, until all have ended.
 ghost use Rattle.std.specs.Prelude.{◌≡◌, [], true, Some, IfOk, OnOk};
-ghost use Rattle.tm_types.specs.declared.step.Start.{Start};
-ghost use Rattle.tm_rules.specs.Requests.{is_request};
+ghost use Rattle.tm_rules.specs.Types.{Start};
+ghost use Rattle.tm_rules.specs.Prelude.{is_request};
 ghost use Rattle.tm_replay.specs.Tomoyo.{tomoyo_grammar};
 ghost use Rattle.tm_steal_rows.specs.Records.{request_at};
 ghost use Rattle.tm_replay.specs.SeatSeats.{Begins};
@@ -14,12 +14,12 @@ use std::alloc::{AllocError, Global};
 use std::sync::Wait;
 use tm_list::{Copied, NoMemory};
 use tm_replay::seat::{Seat, Work, lost};
-use tm_replay::take::ProcessSituation;
 use tm_steal_rows::{
     Played, PlayedProcess, PlayedTake, RecordPlace, end_trees, play_at, record_at,
     records_can_be_asked, workers_steal_on,
 };
-use tm_types::request::{Item, Proc, Request};
+use tm_take::ProcessSituation;
+use tm_types::request::{Item, Request};
 
 // The request at a place, which the trace and whoever plays it have together, since any worker may
 // need it.
@@ -69,19 +69,6 @@ fn play_request<S: Seat>(
     Ok(after)
 }
 
-// A child as its parent leaves it.
-fn child_of(now: ProcessSituation, child: u32) -> ProcessSituation {
-    let process = Proc {
-        pid: child,
-        ppid: now.process.pid,
-        ids: now.process.ids,
-    };
-    ProcessSituation {
-        process,
-        domain: now.domain,
-    }
-}
-
 // The record at a place, whose process stands here, and where it stands afterwards. Where the record
 // is a fork, the child's process is the one at this place among those of the tree.
 fn pass_record<S: Seat>(
@@ -103,23 +90,16 @@ fn pass_record<S: Seat>(
     ensures opening { S.opening seat.new ≡ S.opening seat.old }
     ensures grows { Begins (S.at seat.old) (S.at seat.new) }
 {
-    let ProcessSituation { process, domain } = now;
     let Some(item) = record_at(board.trace, place) else {
         return Err(lost());
     };
     match item {
-        Item::Ids(_, ids) => Ok(ProcessSituation {
-            process: Proc {
-                ids: *ids,
-                ..process
-            },
-            domain,
-        }),
+        Item::Ids(_, ids) => Ok(now.with_ids(*ids)),
         Item::Fork(_, pid) => {
             let child = Job {
                 tree,
                 process: child,
-                now: child_of(now, *pid),
+                now: now.forked(*pid),
             };
             hand.add(board, child)?;
             Ok(now)
@@ -127,9 +107,11 @@ fn pass_record<S: Seat>(
         Item::Do(_, request) => {
             let spent = &mut hand.spent;
             let after = play_request(board, seat, alloc, place, request, now, spent, takes)?;
+            let ProcessSituation { process, floor, .. } = now;
             Ok(ProcessSituation {
                 process,
                 domain: Some(after),
+                floor,
             })
         }
     }

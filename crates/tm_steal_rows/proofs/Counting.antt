@@ -3,10 +3,9 @@ use Rattle.std.proofs.Common.{◌≡◌, ◌+◌, ℕ, suc, List, [], ◌∷◌,
 use Rattle.std.specs.Prelude.{Option, Some, None, flat_map, option_to_list}
 use Rattle.std.proofs.lemmas.Grind.{flat_map-append}
 use Rattle.std.proofs.lemmas.List.{map-append}
-use Rattle.tm_types.specs.declared.request.Tree.{Tree}
-use Rattle.tm_types.specs.declared.step.Take.{Take}
-use Rattle.tm_rules.specs.Words.{Trace}
-use Rattle.tm_legal.specs.Legal.{own_numbers, times}
+use Rattle.tm_rules.specs.Types.{Take, Tree}
+use Rattle.tm_rules.specs.Prelude.{Trace}
+use Rattle.tm_legal.specs.Prelude.{own_numbers, times}
 use Rattle.tm_legal.proofs.Laws.{times-append}
 use Rattle.tm_joint.specs.Joint.{takes_in}
 use Rattle.tm_joint.specs.Played.{row_own}

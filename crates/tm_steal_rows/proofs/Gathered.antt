@@ -2,17 +2,9 @@
 use Rattle.std.proofs.Common.{◌≡◌, ◌≤◌, ◌+◌, ℕ, zero, suc, List, [], ◌∷◌, ◌++◌, length, map, refl, sym, ap, ◌∙◌, subst, arith}
 use Rattle.std.specs.Prelude.{Option, Some, None, IfSome, is_some, slice_get, option_to_list}
 use Rattle.std.specs.List.{AllByRecursion}
-use Rattle.tm_types.specs.declared.request.Request.{Request}
-use Rattle.tm_types.specs.declared.request.Tree.{Tree}
-use Rattle.tm_types.specs.declared.step.Book.{Book}
-use Rattle.tm_types.specs.declared.step.Made.{Made}
-use Rattle.tm_types.specs.declared.step.Start.{Start}
-use Rattle.tm_types.specs.declared.step.Step.{Step}
-use Rattle.tm_types.specs.declared.step.Take.{Take}
-use Rattle.tm_rules.specs.Policy.{live_domain}
-use Rattle.tm_rules.specs.Words.{Trace}
-use Rattle.tm_legal.specs.Run.{History, Case, tree_cases, at_start}
-use Rattle.tm_legal.specs.Cases.{IsLegalTake}
+use Rattle.tm_rules.specs.Types.{Book, Made, Request, Start, Step, Take, Tree}
+use Rattle.tm_rules.specs.Prelude.{Trace, live_domain}
+use Rattle.tm_legal.specs.Prelude.{Case, History, IsLegalTake, at_start, tree_cases}
 use Rattle.tm_made.specs.Made.{history_made, made_step}
 use Rattle.tm_joint.specs.Played.{RowHolds, EachRow}
 use Rattle.tm_joint.proofs.Rows.{All-left, All-right}

@@ -3,16 +3,9 @@ use Rattle.std.proofs.Common.{◌≡◌, ◌≤◌, ◌+◌, ◌-◌, ℕ, suc, 
 use Rattle.std.specs.Prelude.{Option, Some, None, is_some, if◌then◌else◌, slice_get, flat_map}
 use Rattle.std.specs.List.{AllByRecursion}
 use Rattle.std.proofs.lemmas.Grind.{flat_map-append}
-use Rattle.tm_types.specs.declared.step.Book.{Book}
-use Rattle.tm_types.specs.declared.step.Look.{Look}
-use Rattle.tm_types.specs.declared.step.Made.{Made}
-use Rattle.tm_types.specs.declared.step.Maker.{Maker}
-use Rattle.tm_types.specs.declared.step.Start.{Start}
-use Rattle.tm_types.specs.declared.step.Step.{Step}
-use Rattle.tm_types.specs.declared.step.Take.{Take}
-use Rattle.tm_rules.specs.Words.{Trace}
-use Rattle.tm_legal.specs.Legal.{Legal, NoLookBeforeAttach, times}
-use Rattle.tm_legal.specs.Play.{CanPlay}
+use Rattle.tm_rules.specs.Types.{Book, Look, Made, Maker, Start, Step, Take}
+use Rattle.tm_rules.specs.Prelude.{Trace}
+use Rattle.tm_legal.specs.Prelude.{CanPlay, Legal, NoLookBeforeAttach, times}
 use Rattle.tm_legal.proofs.Asked.{All-append}
 use Rattle.tm_made.specs.Made.{made_step}
 use Rattle.tm_joint.specs.Joint.{takes_in}
@@ -22,7 +15,8 @@ use Rattle.tm_joint.proofs.Rows.{All-flat}
 use Rattle.tm_seat.specs.declared.tree.PlayedTree.{PlayedTree}
 use Rattle.tm_seat.specs.Playing.{LooksSince}
 use Rattle.tm_seat.specs.Rows.{row_of}
-use Rattle.tm_seat.specs.Parts.{Deed, EachPart}
+use Rattle.tm_take.specs.Each.{EachWith}
+use Rattle.tm_seat.specs.Parts.{Deed}
 use Rattle.tm_seat.specs.Replayed.{scene_of, run_of}
 use Rattle.tm_seat.proofs.Lists.{All-at, All-of, All-mapped}
 use Rattle.tm_seat.proofs.Moving.{deed_at, DidStays}
@@ -76,7 +70,7 @@ owned-makers start trace list owner workers editors worker (Event.End tree numbe
 
 module _ {H : Type 0} (start : Start) (trace : Trace) (floor : ℕ) (list : List Made) where
   -- each worker's steps are claimed by its pass
-  claims-workers : (owner : ℕ → Option ℕ) (workers editors worker : ℕ) (hands : List H) (deeds : List (Deed Played)) → EachPart (λ (hand : H) done. HandDid trace start floor hand (deed_at list done)) hands deeds → EachOwned owner worker (map (λ (done : Deed Played). done.rows) deeds) → EachClaims (who owner workers editors) worker list (owns deeds)
+  claims-workers : (owner : ℕ → Option ℕ) (workers editors worker : ℕ) (hands : List H) (deeds : List (Deed Played)) → EachWith (λ (hand : H) done. HandDid trace start floor hand (deed_at list done)) hands deeds → EachOwned owner worker (map (λ (done : Deed Played). done.rows) deeds) → EachClaims (who owner workers editors) worker list (owns deeds)
   claims-workers owner workers editors worker [] [] did owned = tt
   claims-workers owner workers editors worker [] (done ∷ deeds) did owned = absurd did
   claims-workers owner workers editors worker (hand ∷ hands) [] did owned = absurd did
@@ -86,17 +80,17 @@ module _ {H : Type 0} (start : Start) (trace : Trace) (floor : ℕ) (list : List
   )
 
   -- what holds of each worker's holds of all
-  all-of-given : (P : Event → Type 0) (hands : List H) (deeds : List (Deed Played)) → ((done : Deed Played) → ThiefDid start trace floor (deed_at list done) → AllByRecursion P (events_of done.rows)) → EachPart (λ (hand : H) done. HandDid trace start floor hand (deed_at list done)) hands deeds → AllByRecursion P (all_given (map (λ (done : Deed Played). done.rows) deeds))
+  all-of-given : (P : Event → Type 0) (hands : List H) (deeds : List (Deed Played)) → ((done : Deed Played) → ThiefDid start trace floor (deed_at list done) → AllByRecursion P (events_of done.rows)) → EachWith (λ (hand : H) done. HandDid trace start floor hand (deed_at list done)) hands deeds → AllByRecursion P (all_given (map (λ (done : Deed Played). done.rows) deeds))
   all-of-given P hands deeds of did = All-flat P events_of (map (λ (done : Deed Played). done.rows) deeds) (go hands deeds did)
     where
-      go : (hs : List H) (ds : List (Deed Played)) → EachPart (λ (hand : H) done. HandDid trace start floor hand (deed_at list done)) hs ds → AllByRecursion (λ (all : List Played). AllByRecursion P (events_of all)) (map (λ (done : Deed Played). done.rows) ds)
+      go : (hs : List H) (ds : List (Deed Played)) → EachWith (λ (hand : H) done. HandDid trace start floor hand (deed_at list done)) hs ds → AllByRecursion (λ (all : List Played). AllByRecursion P (events_of all)) (map (λ (done : Deed Played). done.rows) ds)
       go [] [] h = tt
       go [] (done ∷ ds) h = absurd h
       go (hand ∷ hs) [] h = absurd h
       go (hand ∷ hs) (done ∷ ds) h = (of done h.0, go hs ds h.1)
 
   -- the steps of all workers
-  given-own : (hands : List H) (deeds : List (Deed Played)) → EachPart (λ (hand : H) done. HandDid trace start floor hand (deed_at list done)) hands deeds → flat_map (λ (ns : List ℕ). ns) (owns deeds) ≡ all_own (all_given (map (λ (done : Deed Played). done.rows) deeds))
+  given-own : (hands : List H) (deeds : List (Deed Played)) → EachWith (λ (hand : H) done. HandDid trace start floor hand (deed_at list done)) hands deeds → flat_map (λ (ns : List ℕ). ns) (owns deeds) ≡ all_own (all_given (map (λ (done : Deed Played). done.rows) deeds))
   given-own [] [] h = refl
   given-own [] (done ∷ deeds) h = absurd h
   given-own (hand ∷ hands) [] h = absurd h

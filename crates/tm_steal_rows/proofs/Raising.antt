@@ -4,8 +4,8 @@ use Rattle.std.specs.Prelude.{Option, Some}
 use Rattle.std.specs.Bool.{IsTrue}
 use Rattle.std.specs.List.{AllByRecursion}
 use Rattle.std.proofs.lemmas.Bool.{ltb-true}
-use Rattle.tm_types.specs.declared.step.Take.{Take}
-use Rattle.tm_legal.specs.Run.{raised}
+use Rattle.tm_rules.specs.Types.{Take}
+use Rattle.tm_legal.specs.Prelude.{raised}
 use Rattle.tm_joint.specs.Played.{seen_by}
 use Rattle.tm_steal_rows.specs.Gathering.{StandsAbove}
 

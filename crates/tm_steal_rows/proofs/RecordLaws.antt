@@ -4,14 +4,10 @@ use Rattle.std.specs.Prelude.{Option, Some, None, IfSome, is_some, option_map, o
 use Rattle.std.specs.List.{AllByRecursion, list_all}
 use Rattle.std.proofs.lemmas.Bool.{and_parts, ltb-true, ltb-false}
 use Rattle.std.proofs.lemmas.Option.{slice_get_read, slice_get_past}
-use Rattle.tm_types.specs.declared.request.Item.{Item}
-use Rattle.tm_types.specs.declared.request.Request.{Request}
-use Rattle.tm_types.specs.declared.request.Tree.{Tree}
-use Rattle.tm_types.specs.declared.step.Take.{Take}
-use Rattle.tm_rules.specs.Requests.{is_request, item_is_request}
-use Rattle.tm_rules.specs.Words.{Trace}
-use Rattle.tm_legal.specs.Run.{Case, Situations, with_situation, with_ids, forked, after_take, tree_cases}
-use Rattle.tm_verify_notes.specs.Tomoyo.{tomoyo_grammar}
+use Rattle.tm_rules.specs.Types.{Item, Request, Take, Tree}
+use Rattle.tm_rules.specs.Prelude.{Trace, is_request, item_is_request}
+use Rattle.tm_legal.specs.Prelude.{Case, Situations, after_take, forked, tree_cases, with_ids, with_situation}
+use Rattle.tm_take.specs.Tomoyo.{tomoyo_grammar}
 use Rattle.tm_seat.proofs.Lists.{All-at}
 use Rattle.tm_steal_rows.specs.declared.records.RecordPlace.{RecordPlace}
 use Rattle.tm_steal_rows.specs.Records.{numbered, request_in, request_at, places_in, RecordsCanBeAsked}

@@ -6,20 +6,10 @@ use Rattle.std.specs.List.{AllByRecursion}
 use Rattle.std.proofs.lemmas.Bool.{lt-ltb, le-leb}
 use Rattle.std.proofs.lemmas.Grind.{flat_map-append}
 use Rattle.std.proofs.lemmas.List.{map-append, length-append, length-take-le}
-use Rattle.tm_types.specs.declared.request.Request.{Request}
-use Rattle.tm_types.specs.declared.step.Look.{Look}
-use Rattle.tm_types.specs.declared.step.Made.{Made}
-use Rattle.tm_types.specs.declared.step.Maker.{Maker}
-use Rattle.tm_types.specs.declared.step.Reply.{Reply}
-use Rattle.tm_types.specs.declared.step.Start.{Start}
-use Rattle.tm_types.specs.declared.step.Step.{Step}
-use Rattle.tm_types.specs.declared.step.Take.{Take}
-use Rattle.tm_rules.specs.Words.{Trace}
-use Rattle.tm_verify_notes.specs.Tomoyo.{tomoyo_grammar}
-use Rattle.tm_legal.specs.Steps.{apply, opening}
-use Rattle.tm_legal.specs.Run.{History}
-use Rattle.tm_legal.specs.Legal.{own_numbers}
-use Rattle.tm_legal.specs.Cases.{IsLegalTake}
+use Rattle.tm_rules.specs.Types.{Look, Made, Maker, Reply, Request, Start, Step, Take}
+use Rattle.tm_rules.specs.Prelude.{Trace}
+use Rattle.tm_take.specs.Tomoyo.{tomoyo_grammar}
+use Rattle.tm_legal.specs.Prelude.{History, IsLegalTake, apply, opening, own_numbers}
 use Rattle.tm_legal.proofs.Histories.{All-push}
 use Rattle.tm_legal.proofs.Walks.{All-map, IsLegalTake-later}
 use Rattle.tm_made.specs.Made.{history_made, steps_made, made_step}
@@ -28,8 +18,8 @@ use Rattle.tm_made.proofs.Fits.{steps-last}
 use Rattle.tm_joint.specs.Makers.{Claims}
 use Rattle.tm_joint.proofs.Later.{claims-later, claims-push, made_step-later, made_step-last}
 use Rattle.tm_joint.proofs.Rows.{All-left, All-right}
-use Rattle.tm_verify_notes.specs.ProcessSituation.{ProcessSituation}
-use Rattle.tm_verify_notes.specs.Situations.{situation_of}
+use Rattle.tm_take.specs.declared.situations.ProcessSituation.{ProcessSituation}
+use Rattle.tm_take.specs.Situations.{situation_of}
 use Rattle.tm_seat.specs.Seats.{scene_of, state_of, Begins, IsMade, MadeBy}
 use Rattle.tm_seat.specs.Playing.{TakeIsLegal, HasEnded}
 use Rattle.tm_seat.specs.Rows.{Shift}

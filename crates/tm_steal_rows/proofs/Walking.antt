@@ -2,19 +2,16 @@
 use Rattle.std.proofs.Common.{◌≡◌, ℕ, suc, List, [], ◌∷◌, ◌++◌, map, refl, sym, ap, ◌∙◌, subst, append_assoc, append-nil}
 use Rattle.std.specs.Prelude.{Result, Ok, Err, OnOk, Option}
 use Rattle.std.proofs.lemmas.List.{map-append}
-use Rattle.tm_types.specs.declared.request.Ids.{Ids}
-use Rattle.tm_types.specs.declared.request.Item.{Item}
-use Rattle.tm_types.specs.declared.request.Request.{Request}
-use Rattle.tm_types.specs.declared.step.Take.{Take}
-use Rattle.tm_legal.specs.Run.{Situations, with_situation, with_ids, forked, after_take, tree_cases, do_pids}
-use Rattle.tm_verify_notes.specs.Cases.{first_stand}
+use Rattle.tm_rules.specs.Types.{Ids, Item, Request, Take}
+use Rattle.tm_legal.specs.Prelude.{Situations, after_take, do_pids, forked, tree_cases, with_ids, with_situation}
+use Rattle.tm_take.specs.Situations.{first_situation}
 use Rattle.tm_steal_rows.specs.declared.played.PlayedTake.{PlayedTake}
 use Rattle.tm_steal_rows.specs.declared.records.RecordPlace.{RecordPlace}
 use Rattle.tm_steal_rows.specs.Records.{places_in}
 use Rattle.tm_steal_rows.specs.Gathering.{StandsThere, EachStands, taken, placed, AreTheSame, TakesOfProcesses, IsWalking, WalksOn}
 use Rattle.tm_steal_rows.proofs.Same.{same-refl, same-then, same-behind}
 
-pub walk-starts : (t : ℕ) (home : Option ℕ) (records : List Item) (old : List PlayedTake) → IsWalking t home records old 1 (first_stand home) records [] old
+pub walk-starts : (t : ℕ) (home : Option ℕ) (records : List Item) (old : List PlayedTake) → IsWalking t home records old 1 (first_situation home) records [] old
 walk-starts t home records old = record { own = []; are = refl; pids = refl; stand = λ more h. h; places = refl; taken_out = same-refl old }
 
 pub walk-ids : (t n : ℕ) (at later : Situations) (pid : ℕ) (ids : Ids) (takes : List Take) (left : List PlayedTake) → later ≡ with_situation at pid (with_ids (at pid) ids) → WalksOn t n at (Item.Ids pid ids) takes left later takes left
@@ -50,7 +47,7 @@ walk-do t n at later pid request takes more left rest take played out of its pla
           ∙ ap (λ (n : ℕ). map (λ (k : Take). k.pid) takes ++ n ∷ do_pids items) its
           ∙ h.pids;
       stand = λ later_takes each.
-          subst (λ (l : List PlayedTake). EachStands (tree_cases t (first_stand home) records (taken l)) l) (sym (append_assoc h.own (played ∷ []) later_takes))
+          subst (λ (l : List PlayedTake). EachStands (tree_cases t (first_situation home) records (taken l)) l) (sym (append_assoc h.own (played ∷ []) later_takes))
           (h.stand (played ∷ later_takes) (refl, there, subst (λ (k : Take). EachStands (tree_cases t (with_situation at pid (after_take (at pid) k)) items (taken later_takes)) later_takes) of each));
       places =
           ap (λ (l : List RecordPlace). l ++ places_in t (suc n) items) (map-append (λ (p : PlayedTake). p.place) h.own (played ∷ []))
@@ -72,7 +69,7 @@ walk-ends t n home records old at takes left h =
             are = h.are;
             pids = sym (append-nil (map (λ (k : Take). k.pid) takes)) ∙ h.pids;
             stand =
-                rw h.are (subst (λ (l : List PlayedTake). EachStands (tree_cases t (first_stand home) records (taken l)) l) (append-nil h.own) (h.stand [] tt));
+                rw h.are (subst (λ (l : List PlayedTake). EachStands (tree_cases t (first_situation home) records (taken l)) l) (append-nil h.own) (h.stand [] tt));
             places = sym (append-nil (placed h.own)) ∙ h.places;
           };
       taken_out = h.taken_out;

@@ -3,17 +3,12 @@
 use Rattle.std.specs.Prelude.{◌≡◌, ⊤, ℕ, suc, ◌≤◌, ◌<◌, Bool, true, List, [], ◌∷◌, ◌++◌, map, flat_map, Option, Some, is_some, length, option_to_list, slice_get}
 use Rattle.std.specs.Option.{IfSome}
 use Rattle.std.specs.List.{AllByRecursion}
-use Rattle.tm_types.specs.declared.policy.Policy.{Policy}
-use Rattle.tm_types.specs.declared.request.Item.{Item}
-use Rattle.tm_types.specs.declared.request.Tree.{Tree}
-use Rattle.tm_types.specs.declared.step.Take.{Take}
-use Rattle.tm_rules.specs.Policy.{live_domain}
-use Rattle.tm_rules.specs.Words.{Trace}
-use Rattle.tm_legal.specs.Run.{Situation, Situations, Case, tree_cases, do_pids}
-use Rattle.tm_legal.specs.Legal.{own_numbers, times}
+use Rattle.tm_rules.specs.Types.{Item, Policy, Take, Tree}
+use Rattle.tm_rules.specs.Prelude.{Trace, live_domain}
+use Rattle.tm_legal.specs.Prelude.{Case, Situation, Situations, do_pids, own_numbers, times, tree_cases}
 use Rattle.tm_joint.specs.Played.{seen_by}
 use Rattle.tm_seat.specs.declared.tree.PlayedTree.{PlayedTree}
-use Rattle.tm_verify_notes.specs.Cases.{first_stand}
+use Rattle.tm_take.specs.Situations.{first_situation}
 use Rattle.tm_steal_rows.specs.declared.played.Played.{Played}
 use Rattle.tm_steal_rows.specs.declared.played.PlayedTake.{PlayedTake}
 use Rattle.tm_steal_rows.specs.declared.parts.TreePart.{TreePart}
@@ -118,7 +113,7 @@ pub record AreTakesOf (t : ℕ) (home : Option ℕ) (records : List Item) (own :
     (takes : List Take) : Type 0 where
   pub are : takes ≡ taken own
   pub pids : map (λ (k : Take). k.pid) takes ≡ do_pids records
-  pub stand : EachStands (tree_cases t (first_stand home) records takes) own
+  pub stand : EachStands (tree_cases t (first_situation home) records takes) own
   pub places : placed own ≡ places_in t 1 records
 
 -- the first of these takes are the tree's, and the others are left
@@ -143,7 +138,7 @@ pub record IsWalking (t : ℕ) (home : Option ℕ) (records : List Item) (old : 
   pub are : takes ≡ taken own
   pub pids : map (λ (k : Take). k.pid) takes ++ do_pids items ≡ do_pids records
   pub stand : (more : List PlayedTake) → EachStands (tree_cases t at items (taken more)) more
-      → EachStands (tree_cases t (first_stand home) records (taken (own ++ more))) (own ++ more)
+      → EachStands (tree_cases t (first_situation home) records (taken (own ++ more))) (own ++ more)
   pub places : placed own ++ places_in t n items ≡ places_in t 1 records
   pub taken_out : AreTakenOut old own left
 

@@ -2,16 +2,11 @@
 -- others, and the trees' Ends.
 use Rattle.std.specs.Prelude.{◌≡◌, ⊤, ◌≤◌, ℕ, suc, List, [], ◌∷◌, ◌++◌, length, map, flat_map, Some}
 use Rattle.std.specs.List.{AllByRecursion}
-use Rattle.tm_types.specs.declared.request.Request.{Request}
-use Rattle.tm_types.specs.declared.step.Made.{Made}
-use Rattle.tm_types.specs.declared.step.Maker.{Maker}
-use Rattle.tm_types.specs.declared.step.Start.{Start}
-use Rattle.tm_types.specs.declared.step.Step.{Step}
-use Rattle.tm_rules.specs.Words.{Trace}
-use Rattle.tm_legal.specs.Run.{seen}
-use Rattle.tm_legal.specs.Legal.{own_numbers}
+use Rattle.tm_rules.specs.Types.{Made, Maker, Request, Start, Step}
+use Rattle.tm_rules.specs.Prelude.{Trace}
+use Rattle.tm_legal.specs.Prelude.{own_numbers, seen}
 use Rattle.tm_made.specs.Made.{made_step}
-use Rattle.tm_verify_notes.specs.Situations.{situation_of}
+use Rattle.tm_take.specs.Situations.{situation_of}
 use Rattle.tm_seat.specs.Seats.{Begins, MadeBy}
 use Rattle.tm_seat.specs.Playing.{TakeIsLegal, LooksSince, Rises}
 use Rattle.tm_seat.specs.Rows.{Shift}

@@ -1,12 +1,9 @@
 -- Where the records of a trace stand, and what they ask.
 use Rattle.std.specs.Prelude.{◌≡◌, ℕ, zero, suc, true, List, [], ◌∷◌, Option, Some, None, option_and_then, slice_get}
 use Rattle.std.specs.List.{AllByRecursion, list_all}
-use Rattle.tm_types.specs.declared.request.Item.{Item}
-use Rattle.tm_types.specs.declared.request.Request.{Request}
-use Rattle.tm_types.specs.declared.request.Tree.{Tree}
-use Rattle.tm_rules.specs.Requests.{is_request, item_is_request}
-use Rattle.tm_rules.specs.Words.{Trace}
-use Rattle.tm_verify_notes.specs.Tomoyo.{tomoyo_grammar}
+use Rattle.tm_rules.specs.Types.{Item, Request, Tree}
+use Rattle.tm_rules.specs.Prelude.{Trace, is_request, item_is_request}
+use Rattle.tm_take.specs.Tomoyo.{tomoyo_grammar}
 use Rattle.tm_steal_rows.specs.declared.records.RecordPlace.{RecordPlace}
 
 -- the element of that number, from 1

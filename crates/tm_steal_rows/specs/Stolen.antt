@@ -1,11 +1,8 @@
 -- A trace whose processes workers have taken from each other, and the run that they have made.
 use Rattle.std.specs.Prelude.{◌≡◌, List, length}
-use Rattle.tm_types.specs.declared.step.Book.{Book}
-use Rattle.tm_types.specs.declared.step.Made.{Made}
-use Rattle.tm_types.specs.declared.step.Start.{Start}
-use Rattle.tm_rules.specs.Words.{Trace}
-use Rattle.tm_legal.specs.Legal.{Legal, NoLookBeforeAttach}
-use Rattle.tm_legal.specs.Play.{CanPlay}
+use Rattle.tm_rules.specs.Types.{Book, Made, Start}
+use Rattle.tm_rules.specs.Prelude.{Trace}
+use Rattle.tm_legal.specs.Prelude.{CanPlay, Legal, NoLookBeforeAttach}
 use Rattle.tm_seat.specs.declared.tree.PlayedTree.{PlayedTree}
 use Rattle.tm_seat.specs.Parts.{PlayedTogether}
 use Rattle.tm_seat.specs.Replayed.{scene_of, run_of}

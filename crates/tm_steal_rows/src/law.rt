@@ -1,8 +1,7 @@
 //! Laws of what is stolen, each on a function whose only clauses they are.
 ghost use Rattle.std.specs.Prelude.{◌≡◌, ◌≤◌, ℕ, [], List, length};
-ghost use Rattle.tm_types.specs.declared.step.Made.{Made};
-ghost use Rattle.tm_types.specs.declared.step.Start.{Start};
-ghost use Rattle.tm_rules.specs.Words.{Trace};
+ghost use Rattle.tm_rules.specs.Types.{Made, Start};
+ghost use Rattle.tm_rules.specs.Prelude.{Trace};
 ghost use Rattle.tm_seat.specs.Rows.{Shift};
 ghost use Rattle.tm_seat.specs.Seats.{Begins};
 ghost use Rattle.tm_seat.specs.Parts.{deed};

@@ -1,13 +1,10 @@
 //! What a worker plays that takes processes from others.
 ghost use Rattle.std.specs.Prelude.{◌≡◌, ◌<◌, ◌≤◌, ◌++◌, ◌∷◌, [], ℕ, true, List, length, flat_map, if◌then◌else◌, Some, IfOk, IfSome, OnOk};
-ghost use Rattle.tm_types.specs.declared.step.Made.{Made};
-ghost use Rattle.tm_rules.specs.Requests.{is_request};
-ghost use Rattle.tm_rules.specs.Words.{Trace};
+ghost use Rattle.tm_rules.specs.Types.{Made};
+ghost use Rattle.tm_rules.specs.Prelude.{Trace, is_request};
 ghost use Rattle.tm_steal_rows.specs.Records.{request_at};
-ghost use Rattle.tm_verify_notes.specs.Tomoyo.{tomoyo_grammar};
-ghost use Rattle.tm_legal.specs.Run.{seen, raised};
-ghost use Rattle.tm_legal.specs.Play.{IsOpened, IsNamed};
-ghost use Rattle.tm_legal.specs.Stages.{DomainIn};
+ghost use Rattle.tm_take.specs.Tomoyo.{tomoyo_grammar};
+ghost use Rattle.tm_legal.specs.Prelude.{DomainIn, IsNamed, IsOpened, raised, seen};
 ghost use Rattle.tm_seat.specs.Seats.{state_of, FitsFrom, Begins};
 ghost use Rattle.std.specs.List.{AllByRecursion};
 ghost use Rattle.tm_steal_rows.specs.Playing.{Event, StealsOn, ends_from, events_of, IsOfProcess};
@@ -17,10 +14,9 @@ use std::alloc::Global;
 use std::marker::Model;
 use tm_list::NoMemory;
 use tm_seat::{Seat, play_if_there};
+use tm_take::{ProcessSituation, raised_by_looks};
 use tm_types::request::Request;
 use tm_types::step::{Made, Maker, Settled, Step, Take};
-use tm_verify_notes::raised_by_looks;
-use tm_verify_notes::taking::ProcessSituation;
 
 /// A take with the highest version that it has seen, so that nobody has to go to its looks for that
 /// again. Contracts see the take.
@@ -32,8 +28,8 @@ pub struct SeenTake {
 
 impl Model for SeenTake {
     ghost use Rattle.std.specs.Prelude.{◌≡◌, flat_map};
-    ghost use Rattle.tm_types.specs.declared.step.Take.{Take};
-    ghost use Rattle.tm_legal.specs.Run.{seen, raised};
+    ghost use Rattle.tm_rules.specs.Types.{Take};
+    ghost use Rattle.tm_legal.specs.Prelude.{raised, seen};
 
     ghost Value = { Take };
 

@@ -1,6 +1,6 @@
 //! A row for each tree, of all that the workers give back.
 ghost use Rattle.std.specs.Prelude.{◌≡◌, [], IsTrue, IfOk};
-ghost use Rattle.tm_legal.specs.Run.{raised};
+ghost use Rattle.tm_legal.specs.Prelude.{raised};
 ghost use Rattle.tm_joint.specs.Played.{seen_by};
 ghost use Rattle.tm_steal_rows.specs.Gathering.{EndsNext, StandsAbove, IsRowOf, RowsAreOfParts, IsGathered};
 
@@ -13,12 +13,12 @@ use std::collections::VecDeque;
 use std::thread::Threads;
 use tm_list::{NoMemory, Seq};
 use tm_seat::{PlayedTree, lost};
+use tm_take::raised_by_looks;
 use tm_types::request::Tree;
 use tm_types::step::Take;
-use tm_verify_notes::raised_by_looks;
 
 // The highest version that these takes have seen.
-#[tactic(auto, using(tm_verify_notes::proofs::CaseLaws::raised_more))]
+#[tactic(auto, using(tm_take::proofs::RaisedLaws::raised_more))]
 fn highest_seen(takes: &[Take]) -> u64
     ensures { result ≡ raised 0 (seen_by takes.now) }
 {

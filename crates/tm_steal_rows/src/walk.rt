@@ -1,7 +1,7 @@
 //! The walk through a tree's records, beside the takes that were played of them.
 ghost use Rattle.std.specs.Prelude.{◌≡◌, ◌∷◌, flat_map, IsTrue, IfOk, OnOk};
-ghost use Rattle.tm_legal.specs.Run.{with_situation, after_take};
-ghost use Rattle.tm_verify_notes.specs.Cases.{stand_of, stands};
+ghost use Rattle.tm_legal.specs.Prelude.{after_take, with_situation};
+ghost use Rattle.tm_take.specs.Situations.{situation_of, situations};
 ghost use Rattle.tm_steal_rows.specs.Gathering.{StandsThere, AreTheSame, TakesOfProcesses, WalksOn};
 ghost use Rattle.tm_steal_rows.specs.declared.played.PlayedTake.{PlayedTake};
 
@@ -12,9 +12,9 @@ use std::alloc::Global;
 use std::collections::VecDeque;
 use tm_list::{NoMemory, Same};
 use tm_seat::lost;
+use tm_take::{ProcessSituation, ProcessSituations};
 use tm_types::request::{Ids, Item, Proc};
 use tm_types::step::Take;
-use tm_verify_notes::{Stand, Stands};
 
 // Whether all eight ids are equal.
 fn same_ids(left: Ids, right: Ids) -> bool
@@ -45,8 +45,8 @@ fn same_place(left: RecordPlace, right: RecordPlace) -> bool
 }
 
 // Whether a take began where its process stands, and knew all that the process has seen.
-fn stands_there(stand: Stand, played: &PlayedTake) -> bool
-    ensures { IsTrue result → StandsThere (stand_of stand) played.now }
+fn stands_there(stand: ProcessSituation, played: &PlayedTake) -> bool
+    ensures { IsTrue result → StandsThere (situation_of stand) played.now }
 {
     same_process(stand.process, played.stood.process)
         && stand.domain.same(&played.stood.domain)
@@ -56,7 +56,7 @@ fn stands_there(stand: Stand, played: &PlayedTake) -> bool
 // The take of the request at a place, which is of the process of this pid: the first that is left
 // of the process that stands there among the tree's.
 fn next_take(
-    known: &mut Stands,
+    known: &mut ProcessSituations,
     queues: &mut Vec<VecDeque<PlayedTake>>,
     process: u32,
     pid: u32,
@@ -66,9 +66,9 @@ fn next_take(
         × AreTheSame (flat_map (λ queue. queue.items) queues.old.items)
         (played ∷ flat_map (λ queue. queue.items) queues.new.items)
         × (take ≡ played.take) × (take.pid ≡ pid) × (played.place ≡ place)
-        × StandsThere (stands known.old pid) played
-        × (stands known.new ≡ with_situation (stands known.old) pid
-        (after_take (stands known.old pid) take))) }
+        × StandsThere (situations known.old pid) played
+        × (situations known.new ≡ with_situation (situations known.old) pid
+        (after_take (situations known.old pid) take))) }
 {
     let Some(played) = next_of(queues, process) else {
         return Err(lost());
@@ -88,15 +88,15 @@ fn next_take(
 // The record at a place: a process has other ids, a child stands where its parent does, or a
 // request has its take.
 fn walk_record(
-    known: &mut Stands,
+    known: &mut ProcessSituations,
     queues: &mut Vec<VecDeque<PlayedTake>>,
     place: RecordPlace,
     process_places: &[u32],
     item: &Item,
     takes: &mut Vec<Take>,
 ) -> Result<(), NoMemory>
-    ensures { OnOk result (WalksOn place.tree place.item (stands known.old) item.now takes.old.items
-        (flat_map (λ queue. queue.items) queues.old.items) (stands known.new) takes.new.items
+    ensures { OnOk result (WalksOn place.tree place.item (situations known.old) item.now takes.old.items
+        (flat_map (λ queue. queue.items) queues.old.items) (situations known.new) takes.new.items
         (flat_map (λ queue. queue.items) queues.new.items)) }
 {
     match item {
@@ -130,7 +130,7 @@ pub(crate) fn walk_tree(
         (flat_map (λ queue. queue.items) queues.old.items) takes.items
         (flat_map (λ queue. queue.items) queues.new.items)) }
 {
-    let mut known = Stands::new(alloc, home);
+    let mut known = ProcessSituations::new(alloc, home);
     let mut takes = Vec::with_capacity(alloc, count_left(queues.as_slice()))?;
     let mut before: u32 = 0;
     for item in records {

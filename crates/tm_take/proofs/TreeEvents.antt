@@ -1,12 +1,9 @@
 -- A tree's event, by what its take waits for.
 use Rattle.std.proofs.Common.{◌≡◌, ℕ, suc, Bool, List, [], ◌∷◌, refl, sym, ap, ◌∙◌, subst, ◌++◌}
 use Rattle.std.specs.Prelude.{Option, Some, None, slice_get}
-use Rattle.tm_types.specs.declared.request.Request.{Request}
-use Rattle.tm_types.specs.declared.request.Item.{Item}
-use Rattle.tm_types.specs.declared.step.Step.{Step}
-use Rattle.tm_rules.specs.Grammar.{Grammar}
-use Rattle.tm_legal.specs.Run.{Situations}
-use Rattle.tm_legal.specs.Play.{Stage, InProgress, Way, Player, Settled, settle, passed, going_on, look_at, first_look, on_way, end_tree, after_step, stage_event, tree_event}
+use Rattle.tm_rules.specs.Types.{Item, Request, Step}
+use Rattle.tm_rules.specs.Prelude.{Grammar}
+use Rattle.tm_legal.specs.Prelude.{InProgress, Player, Settled, Situations, Stage, Way, after_step, end_tree, first_look, going_on, look_at, on_way, passed, settle, stage_event, tree_event}
 use Rattle.tm_grammar.specs.Tomoyo.{tomoyo_grammar}
 use Rattle.tm_take.specs.Taking.{rest_of}
 use Rattle.tm_take.specs.Events.{LooksWith, BeginsWith, EndsWhenPassed, MakesOwn, Hears, WaitsOn, LooksOnceMore, GoesOnAlike}

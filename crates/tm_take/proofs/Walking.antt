@@ -1,16 +1,13 @@
 -- Steps of a tree's walk through its lines.
 use Rattle.std.proofs.Common.{◌≡◌, ℕ, true, false, not, List, [], ◌∷◌, refl, sym, ap, ◌∙◌}
-use Rattle.tm_word.specs.Matching.{is_empty}
-use Rattle.tm_types.specs.declared.request.Item.{Item}
-use Rattle.tm_types.specs.declared.request.Request.{Request}
-use Rattle.tm_rules.specs.Grammar.{Grammar}
-use Rattle.tm_legal.specs.Run.{Situations, do_pids, with_situation, with_ids, forked}
-use Rattle.tm_legal.specs.Play.{Stage, Way, passed}
+use Rattle.tm_word.specs.Prelude.{is_empty}
+use Rattle.tm_rules.specs.Types.{Item, Request, Step}
+use Rattle.tm_rules.specs.Prelude.{Grammar}
+use Rattle.tm_legal.specs.Prelude.{Situations, Stage, Way, do_pids, forked, passed, with_ids, with_situation}
 use Rattle.std.specs.Prelude.{Option, Some, None}
 use Rattle.tm_grammar.specs.Tomoyo.{tomoyo_grammar}
 use Rattle.tm_take.specs.Passing.{Passes}
 use Rattle.tm_take.specs.Ways.{WayPasses}
-use Rattle.tm_types.specs.declared.step.Step.{Step}
 
 -- one line more is passed
 pub pass_more : (g : Grammar) (at later start : Situations) (items lines first : List Item) (item : Item) → lines ≡ item ∷ items → passed g later items ≡ passed g at (item ∷ items) → passed g at lines ≡ passed g start first → passed g later items ≡ passed g start first

@@ -1,15 +1,8 @@
 -- What the calls of this crate are of a tree's event.
 use Rattle.std.specs.Prelude.{◌≡◌, ℕ, suc, Bool, List, [], length, Option, Some, None, slice_get}
-use Rattle.tm_types.specs.declared.request.Request.{Request}
-use Rattle.tm_types.specs.declared.step.Step.{Step}
-use Rattle.tm_types.specs.declared.step.Look.{Look}
-use Rattle.tm_types.specs.declared.step.Answered.{Answered}
-use Rattle.tm_types.specs.declared.verdict.Verdict.{Verdict}
-use Rattle.tm_rules.specs.Audit.{audit_text}
-use Rattle.tm_rules.specs.Queries.{answer_of}
-use Rattle.tm_legal.specs.Run.{Situation}
-use Rattle.tm_legal.specs.Verdict.{verdict}
-use Rattle.tm_legal.specs.Play.{Stage, InProgress, Way, Player, Settled, settle, going_on, look_at, on_way, end_tree, after_step, after_answer, tree_event}
+use Rattle.tm_rules.specs.Types.{Answered, Look, Request, Step, Verdict}
+use Rattle.tm_rules.specs.Prelude.{answer_of, audit_text}
+use Rattle.tm_legal.specs.Prelude.{InProgress, Player, Settled, Situation, Stage, Way, after_answer, after_step, end_tree, going_on, look_at, on_way, settle, tree_event, verdict}
 use Rattle.tm_grammar.specs.Tomoyo.{tomoyo_grammar}
 use Rattle.tm_take.specs.declared.requests.PendingLook.{PendingLook}
 use Rattle.tm_take.specs.Situations.{situation_of}

@@ -3,6 +3,8 @@ pub mod Passing
 pub mod Taking
 pub mod Ways
 pub mod Events
+pub mod Looking
+pub mod Each
 pub use Rattle.tm_grammar.specs.Entries
 pub use Rattle.tm_grammar.specs.Tomoyo
 pub use Rattle.tm_grammar.specs.Trees

@@ -1,10 +1,8 @@
 -- How a tree passes the lines before its next request.
 use Rattle.std.specs.Prelude.{◌≡◌, ℕ, List, [], ◌∷◌, Option, Some, None}
-use Rattle.tm_types.specs.declared.request.Request.{Request}
-use Rattle.tm_types.specs.declared.request.Item.{Item}
-use Rattle.tm_rules.specs.Grammar.{Grammar}
-use Rattle.tm_legal.specs.Run.{Situations, do_pids}
-use Rattle.tm_legal.specs.Play.{passed}
+use Rattle.tm_rules.specs.Types.{Item, Request}
+use Rattle.tm_rules.specs.Prelude.{Grammar}
+use Rattle.tm_legal.specs.Prelude.{Situations, do_pids, passed}
 
 -- one line more: it is passed, or it is the next request
 abbrev pub PassesLine : Option (ℕ × Request) → Item → Situations → Situations → Type 0

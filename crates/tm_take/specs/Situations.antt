@@ -5,13 +5,14 @@ use Rattle.std.specs.Ordering.{nat_cmp}
 use Rattle.std.specs.BTreeMap.{get}
 use Rattle.tm_take.specs.declared.situations.ProcessSituation.{ProcessSituation}
 use Rattle.tm_take.specs.declared.situations.ProcessSituations.{ProcessSituations}
-use Rattle.tm_legal.specs.Run.{Situation, Situations, no_ids}
+use Rattle.tm_legal.specs.Prelude.{Situation, Situations}
+use Rattle.tm_rules.specs.Prelude.{no_ids}
 
--- a process and its domain; in a play no floor is raised
+-- a process, its domain and its floor
 abbrev pub situation_of : ProcessSituation → Situation
-situation_of now = record { process = now.process; domain = now.domain; floor = 0 }
+situation_of now = record { process = now.process; domain = now.domain; floor = now.floor }
 
--- a process that no line has changed yet stands in the tree's first domain
+-- a process that no line has changed yet stands in the tree's first domain, without a floor
 abbrev pub first_situation : Option ℕ → ℕ → Situation
 first_situation home pid =
     record { process = record { pid = pid; ppid = 0; ids = no_ids }; domain = home; floor = 0 }

@@ -1,22 +1,16 @@
 -- What a request in progress stands for.
 use Rattle.std.specs.Prelude.{◌≡◌, ℕ, suc, List, [], ◌∷◌, ◌++◌, Option, Some, None, if◌then◌else◌}
 use Rattle.std.specs.Option.{option_to_list}
-use Rattle.tm_word.specs.Words.{Text}
+use Rattle.tm_word.specs.Prelude.{Text}
 use Rattle.tm_take.specs.declared.owing.Owed.{Owed}
 use Rattle.tm_take.specs.declared.owing.Awaited.{Awaited}
 use Rattle.tm_take.specs.declared.requests.AttemptParts.{AttemptParts}
 use Rattle.tm_take.specs.declared.requests.NextEvent.{NextEvent}
 use Rattle.tm_take.specs.declared.requests.PendingLook.{PendingLook}
 use Rattle.tm_take.specs.Situations.{situation_of}
-use Rattle.tm_types.specs.declared.request.Request.{Request}
-use Rattle.tm_types.specs.declared.step.Step.{Step}
-use Rattle.tm_types.specs.declared.step.Look.{Look}
-use Rattle.tm_types.specs.declared.verdict.Verdict.{Verdict}
-use Rattle.tm_rules.specs.Grammar.{Grammar}
-use Rattle.tm_legal.specs.Run.{Situation}
-use Rattle.tm_legal.specs.Verdict.{is_granting}
-use Rattle.tm_legal.specs.Legal.{steps_of_line, steps_of_move}
-use Rattle.tm_legal.specs.Play.{Stage, InProgress, entered}
+use Rattle.tm_rules.specs.Types.{Look, Request, Step, Verdict}
+use Rattle.tm_rules.specs.Prelude.{Grammar}
+use Rattle.tm_legal.specs.Prelude.{InProgress, Situation, Stage, entered, is_granting, steps_of_line, steps_of_move}
 
 -- a list of one, or none, and another one
 abbrev pub owed_steps : Owed → List Step

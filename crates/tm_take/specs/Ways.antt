@@ -4,10 +4,8 @@ use Rattle.std.specs.Option.{option_and_then}
 use Rattle.tm_take.specs.declared.ways.TreeOnWay.{TreeOnWay}
 use Rattle.tm_take.specs.Situations.{situations}
 use Rattle.tm_take.specs.Taking.{serial_of}
-use Rattle.tm_types.specs.declared.request.Request.{Request}
-use Rattle.tm_types.specs.declared.request.Item.{Item}
-use Rattle.tm_legal.specs.Run.{do_pids}
-use Rattle.tm_legal.specs.Play.{Way, passed}
+use Rattle.tm_rules.specs.Types.{Item, Request}
+use Rattle.tm_legal.specs.Prelude.{Way, do_pids, passed}
 use Rattle.tm_grammar.specs.Tomoyo.{tomoyo_grammar}
 
 -- a tree on its way

@@ -1,7 +1,7 @@
 //! The lines that a tree has left.
 ghost use Rattle.std.specs.Prelude.{◌≡◌, [], ◌∷◌, length, not, IfOk, MatchOption};
-ghost use Rattle.tm_word.specs.Matching.{is_empty};
-ghost use Rattle.tm_legal.specs.Run.{do_pids};
+ghost use Rattle.tm_word.specs.Prelude.{is_empty};
+ghost use Rattle.tm_legal.specs.Prelude.{do_pids};
 ghost use Rattle.tm_take.specs.Situations.{situations};
 ghost use Rattle.tm_take.specs.Passing.{PassesLine, Passes};
 
@@ -20,8 +20,8 @@ pub struct Lines {
 
 impl Model for Lines {
     ghost use Rattle.std.specs.Prelude.{◌≡◌, List, length};
-    ghost use Rattle.tm_types.specs.declared.request.Item.{Item};
-    ghost use Rattle.tm_legal.specs.Run.{do_pids};
+    ghost use Rattle.tm_rules.specs.Types.{Item};
+    ghost use Rattle.tm_legal.specs.Prelude.{do_pids};
 
     ghost Value = { List Item };
 

@@ -1,11 +1,9 @@
 //! The steps that a take owes, and what else it may wait for.
 ghost use Rattle.std.specs.Prelude.{◌≡◌, ◌∷◌, [], IfOk, MatchOption, if◌then◌else◌};
 ghost use Rattle.std.specs.Option.{option_to_list};
-ghost use Rattle.tm_word.specs.Matching.{is_empty};
+ghost use Rattle.tm_word.specs.Prelude.{is_empty, joined};
 ghost use Rattle.tm_grammar.specs.Entries.{entry_words};
-ghost use Rattle.tm_word.specs.Spelling.{joined};
-ghost use Rattle.tm_legal.specs.Verdict.{is_granting};
-ghost use Rattle.tm_legal.specs.Legal.{steps_of_line, steps_of_move};
+ghost use Rattle.tm_legal.specs.Prelude.{is_granting, steps_of_line, steps_of_move};
 ghost use Rattle.tm_grammar.specs.Tomoyo.{tomoyo_grammar};
 ghost use Rattle.tm_take.specs.Taking.{owed_steps, asked_of};
 
@@ -46,8 +44,8 @@ pub fn grants(reason: &Reason) -> bool
     }
 }
 
-// An entry as a query asks for it: its printed line.
-fn printed(alloc: Global, entry: &Entry) -> Result<Text, NoMemory>
+/// An entry as a query asks for it: its printed line.
+pub fn printed(alloc: Global, entry: &Entry) -> Result<Text, NoMemory>
     ensures { IfOk result (λ text. text ≡ joined (entry_words entry.now)) }
 {
     let mut text = Vec::new(alloc);

@@ -1,7 +1,6 @@
 //! A request in progress, from its first look to its take.
 ghost use Rattle.std.specs.Prelude.{◌≡◌, ◌++◌, ◌∷◌, [], Some, IfOk, MatchOption, unwrap_or, if◌then◌else◌};
-ghost use Rattle.tm_legal.specs.Legal.{is_yes, look_grants, steps_of_move};
-ghost use Rattle.tm_legal.specs.Play.{Stage, entered, taken, with_own, with_heard, after_step, after_answer};
+ghost use Rattle.tm_legal.specs.Prelude.{Stage, after_answer, after_step, entered, is_yes, look_grants, steps_of_move, taken, with_heard, with_own};
 ghost use Rattle.tm_grammar.specs.Tomoyo.{tomoyo_grammar};
 ghost use Rattle.tm_take.specs.Situations.{situation_of};
 ghost use Rattle.tm_take.specs.Taking.{owed_steps, stage_of, in_progress, rest_of, serial_of, begun_with, IsNext, TakesOut, LooksAgain};
@@ -78,7 +77,7 @@ pub struct RequestInProgress {
 }
 
 impl Model for RequestInProgress {
-    ghost use Rattle.tm_legal.specs.Play.{InProgress};
+    ghost use Rattle.tm_legal.specs.Prelude.{InProgress};
     ghost use Rattle.tm_take.specs.Taking.{in_progress};
 
     ghost Value = { InProgress };
@@ -111,8 +110,8 @@ fn is_yes(heard: Option<Heard>) -> bool
     }
 }
 
-// Whether a look grants: by its reason, or by the answer yes.
-fn look_grants(look: &Look) -> bool
+/// Whether a look grants: by its reason, or by the answer yes. Takes no memory.
+pub fn look_grants(look: &Look) -> bool
     ensures { result ≡ look_grants look.now }
 {
     match look.reason {

@@ -1,7 +1,7 @@
 //! A tree on its way through its lines, and its takes.
-ghost use Rattle.std.specs.Prelude.{◌≡◌, ◌↔◌, [], Some, None, IfOk, OnOk, IsTrue};
+ghost use Rattle.std.specs.Prelude.{◌≡◌, [], Some, None, IfOk, OnOk};
 ghost use Rattle.std.specs.Option.{option_copied};
-ghost use Rattle.tm_legal.specs.Play.{ended_way, going_on};
+ghost use Rattle.tm_legal.specs.Prelude.{ended_way, going_on};
 ghost use Rattle.tm_grammar.specs.Tomoyo.{tomoyo_grammar};
 ghost use Rattle.tm_take.specs.Situations.{first_situation, situation_of};
 ghost use Rattle.tm_take.specs.Ways.{way_of, awaited, WayPasses};
@@ -39,14 +39,6 @@ impl TreeOnWay {
             begun: None,
             takes: Seq::new(alloc),
         }
-    }
-
-    /// Whether no request is in progress. Takes no memory.
-    #[tactic(auto, unfolding(crate::specs::Ways::way_of))]
-    pub fn is_idle(&self) -> bool
-        ensures { IsTrue result ↔ ((way_of self.now).begun ≡ None) }
-    {
-        self.begun.is_none()
     }
 
     /// The process of that pid. Takes no memory.
@@ -112,7 +104,7 @@ impl TreeOnWay {
         drop(replace(&mut self.begun, Some(attempt)));
     }
 
-    // A take ends with its last event: it is put last, and its process is in the domain after it.
+    // Ends a request in progress: its take is put last, its process is in the domain after it.
     #[tactic(auto, unfolding(crate::specs::Ways::way_of))]
     fn end(&mut self, attempt: RequestInProgress) -> Result<(), NoMemory>
         ensures { OnOk result

@@ -1,6 +1,6 @@
 //! Calls of `tm_indexed`.
 ghost use Rattle.std.specs.Prelude.{IfOk};
-ghost use Rattle.tm_rules.specs.Few.{IsFew};
+ghost use Rattle.tm_rules.specs.Prelude.{IsFew};
 
 use crate::samples::{entry, files, process, read, request};
 use std::alloc::{AllocError, Global};
@@ -256,10 +256,10 @@ fn three_lines(alloc: Global) -> Result<Indexed, NoMemory> {
 
 #[test]
 fn literal_lines_are_found_as_by_a_walk(rt: HostRuntime) -> Result<(), Fail> {
-    let files = files_of(rt.alloc(), &lines(rt.alloc(), 5000)?)?;
+    let files = files_of(rt.alloc(), &lines(rt.alloc(), 1000)?)?;
     let walked = plain(rt.alloc(), &files)?;
     let found = indexed(rt.alloc(), &files)?;
-    assert!(rt; all_agree(rt.alloc(), &walked, &found, 5000)?);
+    assert!(rt; all_agree(rt.alloc(), &walked, &found, 1000)?);
     Ok(())
 }
 

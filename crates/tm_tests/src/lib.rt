@@ -1,6 +1,7 @@
 //! Tests of policies with and without an index, of queries, runs and sorted records: what no row
 //! shows.
 //! Stands on every crate whose calls it tries, and nothing stands on it.
+//! Of its own, so that these are tried without a machine or a player.
 //! Promises nothing; the name of each test says what it shows.
 #![tactic(auto)]
 

@@ -1,13 +1,14 @@
 //! Calls of `tm_policy`.
 ghost use Rattle.std.specs.Prelude.{IfOk};
-ghost use Rattle.tm_rules.specs.Few.{IsFew};
+ghost use Rattle.tm_rules.specs.Prelude.{IsFew};
 
 use crate::samples::{entry, files, policy};
 use std::alloc::{AllocError, Global};
 use std::test::Fail;
 use tm_change_domains::{domain_at, profile_of};
+use tm_entry::print_entry;
 use tm_list::{Copied, NoMemory, Seq};
-use tm_policy::{Plain, PolicyCalls, apply_learn, apply_make, is_few, print_entry};
+use tm_policy::{Plain, PolicyCalls, apply_learn, apply_make, is_few};
 use tm_rep::Rep;
 use tm_types::entry::Entry;
 use tm_types::policy::Policy;

@@ -1,6 +1,6 @@
 //! Small policies and their lines, from texts, and requests, for the tests.
 ghost use Rattle.std.specs.Prelude.{IfOk};
-ghost use Rattle.tm_rules.specs.Few.{IsFew};
+ghost use Rattle.tm_rules.specs.Prelude.{IsFew};
 
 use std::alloc::{AllocError, Global};
 use tm_entry::read_entry;

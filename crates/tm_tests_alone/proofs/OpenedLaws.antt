@@ -1,12 +1,9 @@
 -- What was read can be played from a machine that is started for it.
 use Rattle.std.proofs.Common.{◌≡◌, [], refl, sym, subst}
-use Rattle.tm_rules.specs.Words.{Trace}
-use Rattle.tm_types.specs.declared.step.Book.{Book}
+use Rattle.tm_rules.specs.Prelude.{Trace}
+use Rattle.tm_rules.specs.Types.{Book}
 use Rattle.tm_trace.specs.Written.{IsTrace}
-use Rattle.tm_grammar.specs.Tomoyo.{tomoyo_grammar}
-use Rattle.tm_legal.specs.Play.{Player, CanPlay}
-use Rattle.tm_legal.specs.Replay.{alone}
-use Rattle.tm_seat.specs.Parts.{CanBegin}
+use Rattle.tm_legal.specs.Prelude.{CanPlay, Player}
 use Rattle.tm_legal.specs.Play as play
 use Rattle.tm_machine.specs.Machine.{Course, course_from}
 use Rattle.tm_core.specs.Scenes.{IsLed}
@@ -18,15 +15,6 @@ use Rattle.tm_tests_alone.specs.Opened.{CanBePlayed}
 pub can-be-played : (loaded : Loaded) (course : Course) → course ≡ course_from (start_of loaded) → CanPlay (scene_of loaded) → IsTrace loaded.trace → CanBePlayed loaded.trace loaded.book course
 can-be-played loaded course is can written =
     subst (CanBePlayed loaded.trace loaded.book) (sym is) (record { made = refl; opened = refl; trees = refl; can = can; written = written })
-
--- what can be played can be worked at
-pub can-begin : (trace : Trace) (book : Book) (course : Course) → CanBePlayed trace book course → CanBegin course.start
-can-begin trace book course can = record { opened = can.can.opened; named = can.can.named }
-
--- what was read can be played with nobody else
-pub can-alone : (loaded : Loaded) → CanPlay (scene_of loaded) → CanPlay (alone tomoyo_grammar loaded.policy loaded.trace)
-can-alone loaded can =
-    record { grammar = can.grammar; opened = can.opened; named = can.named; starts = can.starts; requests = can.requests; answers = refl }
 
 -- a player at its start is led there by no turn
 pub led-at-start : (trace : Trace) (book : Book) (machine course : Course) (player : Player) → CanBePlayed trace book machine → course ≡ machine → ((book : Book) → player ≡ play.start_of (scenes.scene_of machine.start trace book)) → IsLed trace book course player

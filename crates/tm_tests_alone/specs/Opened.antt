@@ -1,10 +1,9 @@
 -- What can be played from a machine.
 use Rattle.std.specs.Prelude.{◌≡◌, [], length}
-use Rattle.tm_rules.specs.Words.{Trace}
-use Rattle.tm_types.specs.declared.step.Book.{Book}
+use Rattle.tm_rules.specs.Prelude.{Trace}
+use Rattle.tm_rules.specs.Types.{Book}
 use Rattle.tm_trace.specs.Written.{IsTrace}
-use Rattle.tm_legal.specs.Steps.{opening}
-use Rattle.tm_legal.specs.Play.{CanPlay}
+use Rattle.tm_legal.specs.Prelude.{CanPlay, opening}
 use Rattle.tm_machine.specs.Machine.{Course}
 use Rattle.tm_core.specs.Scenes.{scene_of}
 

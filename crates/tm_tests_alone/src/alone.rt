@@ -1,9 +1,9 @@
 //! A seat at a machine alone: editors, and takes one after another.
 ghost use Rattle.std.specs.Prelude.{◌≡◌, [], IfOk, length};
 ghost use Rattle.std.specs.List.{AllByRecursion};
-ghost use Rattle.tm_types.specs.declared.step.Book.{Book};
+ghost use Rattle.tm_rules.specs.Types.{Book};
 ghost use Rattle.tm_grammar.specs.Tomoyo.{tomoyo_grammar};
-ghost use Rattle.tm_legal.specs.Play.{IsOpened, IsNamed};
+ghost use Rattle.tm_legal.specs.Prelude.{IsNamed, IsOpened};
 ghost use Rattle.tm_seat.specs.Rows.{IsReady};
 ghost use Rattle.tm_seat.specs.Seats.{FitsFrom};
 ghost use Rattle.tm_seat.specs.Parts.{tree_to_play, trees_from};
@@ -13,9 +13,10 @@ use crate::opened::{Opened, files, open_machine};
 use std::alloc::{AllocError, Global};
 use std::process::Abort;
 use std::test::Fail;
-use tm_core::Machine;
+use tm_call::Status;
 use tm_io::{FileName, MemoryShelf, MemorySink};
 use tm_list::{Copied, NoMemory};
+use tm_machine::Machine;
 use tm_rep::Rep;
 use tm_replay::{Lone, takes_of};
 use tm_run::print_run;
@@ -23,7 +24,7 @@ use tm_seat::{PlayedTree, Seat, TreeToPlay, play_editor, play_trees};
 use tm_types::request::{Trace, Tree};
 use tm_types::step::{Answered, Editor, Made, Maker, Run, Step};
 use tm_word::Text;
-use tomoyo::{Status, run_alone};
+use tomoyo::run_alone;
 
 // A tree of a number, which starts in the live domain of its name.
 fn tree_to_play<R: Rep>(machine: &Machine<R>, number: u32, tree: Tree) -> TreeToPlay

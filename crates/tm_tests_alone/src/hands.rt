@@ -1,6 +1,6 @@
 //! Plays by hand, turn by turn.
 ghost use Rattle.std.specs.Prelude.{OnOk};
-ghost use Rattle.tm_types.specs.declared.step.Book.{Book};
+ghost use Rattle.tm_rules.specs.Types.{Book};
 ghost use Rattle.tm_core.specs.Playing.{Led};
 ghost use Rattle.tm_tests_alone.specs.Opened.{CanBePlayed};
 
@@ -8,9 +8,10 @@ use crate::opened::{Opened, open_machine};
 use std::alloc::Global;
 use std::process::Abort;
 use std::test::Fail;
-use tm_core::{Machine, Player, end_play, start_play, step_alone};
+use tm_core::{Player, end_play, start_play, step_alone};
 use tm_io::FileName;
 use tm_list::NoMemory;
+use tm_machine::Machine;
 use tm_rep::Rep;
 use tm_run::print_run;
 use tm_types::request::Trace;

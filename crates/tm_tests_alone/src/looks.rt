@@ -2,19 +2,20 @@
 ghost use Rattle.std.specs.Prelude.{◌≡◌, true, IsTrue};
 ghost use Rattle.std.specs.List.{list_all, AllByRecursion};
 ghost use Rattle.std.specs.Option.{IfSome};
-ghost use Rattle.tm_types.specs.declared.request.Tree.{Tree};
-ghost use Rattle.tm_rules.specs.Requests.{is_request, item_is_request};
+ghost use Rattle.tm_rules.specs.Types.{Tree};
+ghost use Rattle.tm_rules.specs.Prelude.{is_request, item_is_request};
 ghost use Rattle.tm_grammar.specs.Tomoyo.{tomoyo_grammar};
-ghost use Rattle.tm_legal.specs.Play.{IsNamed};
+ghost use Rattle.tm_legal.specs.Prelude.{IsNamed};
 ghost use Rattle.tm_tests_alone.specs.Opened.{CanBePlayed};
 
 use crate::opened::{Opened, open_machine};
 use std::alloc::Global;
 use std::process::Abort;
 use std::test::Fail;
-use tm_core::{Machine, judge, verdict};
+use tm_core::{judge, verdict};
 use tm_io::FileName;
 use tm_list::NoMemory;
+use tm_machine::Machine;
 use tm_rep::Rep;
 use tm_text::{print_domain, print_exception, print_manager, print_profile};
 use tm_types::policy::{Mode, Policy};

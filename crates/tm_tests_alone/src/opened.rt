@@ -1,7 +1,7 @@
 //! Machines that are opened from files, each with the trace that can be played from it.
 ghost use Rattle.std.specs.Prelude.{IfOk};
-ghost use Rattle.tm_rules.specs.Few.{IsFew};
-ghost use Rattle.tm_legal.specs.Play.{CanPlay};
+ghost use Rattle.tm_rules.specs.Prelude.{IsFew};
+ghost use Rattle.tm_legal.specs.Prelude.{CanPlay};
 ghost use Rattle.tm_call_input.specs.Reading.{scene_of};
 ghost use Rattle.tm_trace.specs.Written.{IsTrace};
 ghost use Rattle.tm_tests_alone.specs.Opened.{CanBePlayed};
@@ -9,10 +9,10 @@ ghost use Rattle.tm_tests_alone.specs.Opened.{CanBePlayed};
 use crate::refusing::Refusing;
 use std::alloc::{AllocError, Global};
 use tm_call_input::{Loaded, read_scene};
-use tm_core::Machine;
 use tm_indexed::Indexed;
 use tm_io::{FileList, FileName};
 use tm_list::NoMemory;
+use tm_machine::Machine;
 use tm_rep::Rep;
 use tm_script::has_supervisor;
 use tm_types::request::Trace;

@@ -2,6 +2,7 @@
 //! compared with answers that come from outside the definitions.
 //! Stands on every crate whose calls it tries, and nothing stands on it. A test of a private item
 //! stands in the crate of that item.
+//! Of its own, low, so that these are tried before a rule or a line is proved.
 //! Promises nothing; the name of each test says what it shows.
 #![tactic(auto)]
 

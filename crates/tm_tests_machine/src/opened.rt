@@ -1,6 +1,6 @@
 //! An engine that is opened for a trial, and closed after it.
 ghost use Rattle.std.specs.Prelude.{◌≡◌, [], IfOk};
-ghost use Rattle.tm_rules.specs.Few.{IsFew};
+ghost use Rattle.tm_rules.specs.Prelude.{IsFew};
 ghost use Rattle.tm_publish.specs.Boards.{Names, blank_parts};
 
 use std::alloc::{AllocError, Global};

@@ -3,15 +3,13 @@ ghost use Rattle.std.specs.Prelude.{◌≡◌, ◌≤◌, ℕ, List, Some, None,
 ghost use Rattle.std.specs.Prelude.{IfOk, IfSome, MatchOption};
 ghost use Rattle.std.specs.List.{sum_by};
 ghost use mathlib.Core.List.{IsPrefix};
-ghost use Rattle.tm_types.specs.declared.step.Made.{Made};
-ghost use Rattle.tm_types.specs.declared.step.Start.{Start};
+ghost use Rattle.tm_rules.specs.Types.{Made, Start};
 ghost use Rattle.tm_machine.specs.Office.{list_of, fits_at, reply_in, answer_in, first_in, over_in};
 ghost use Rattle.tm_publish.specs.Words.{home, known, HasSeen, made_of};
 ghost use Rattle.tm_tests_machine.specs.Steps.{IsMade};
 
 use std::alloc::Global;
 use std::sync::Wait;
-use tm_engine::Settled;
 use tm_engine::engine::Engine;
 use tm_list::NoMemory;
 use tm_machine::Machine;
@@ -20,7 +18,7 @@ use tm_publish::board::Closed;
 use tm_publish::front::Named;
 use tm_publish::pass::Pass;
 use tm_rep::Rep;
-use tm_types::step::{AnswerFault, Answered, Made, Query, Reply};
+use tm_types::step::{AnswerFault, Answered, Made, Query, Reply, Settled};
 
 // Whether the step fits after the machine's steps.
 fn fits_newest<R: Rep>(alloc: Global, machine: &Machine<R>, made: &Made) -> Result<bool, NoMemory>

@@ -118,6 +118,7 @@ fn played(alloc: Global, row: &Row) -> Result<PlayedTake, NoMemory> {
         stood: ProcessSituation {
             process,
             domain: Some(row[4]),
+            floor: 0,
         },
         since: u64::from(row[5]),
         take: SeenTake::new(take(alloc, row)?),

@@ -1,10 +1,9 @@
 -- Worked examples: the printed domains and managers, and the order of namespaces.
 use Rattle.std.specs.Prelude.{◌≡◌, ℕ, Bool, true, false, List, [], ◌∷◌, codes, map, refl}
 use Rattle.std.specs.Fmt.{digits}
-use Rattle.tm_word.specs.Words.{Text}
-use Rattle.tm_types.specs.declared.policy.Domain.{Domain}
-use Rattle.tm_types.specs.declared.policy.Policy.{Policy}
-use Rattle.tm_rules.specs.Policy.{kernel, empty_namespace}
+use Rattle.tm_word.specs.Prelude.{Text}
+use Rattle.tm_rules.specs.Types.{Domain, Policy}
+use Rattle.tm_rules.specs.Prelude.{empty_namespace, kernel}
 use Rattle.tm_text.specs.DomainText.{block_text, domain_text}
 use Rattle.tm_text.specs.ManagerText.{manager_text}
 use Rattle.tm_text.specs.ProfileText.{comes_before, by_name}

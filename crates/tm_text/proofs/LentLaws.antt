@@ -2,7 +2,7 @@
 use Rattle.std.proofs.Common.{◌≡◌, ◌∷◌, [], suc, Bool, true, false, if◌then◌else◌, List, ap, refl}
 use Rattle.std.specs.Borrow.{Bor}
 use Rattle.std.specs.List.{insert}
-use Rattle.tm_types.specs.declared.policy.Namespace.{Namespace}
+use Rattle.tm_rules.specs.Types.{Namespace}
 use Rattle.tm_text.specs.ProfileText.{comes_before, with_namespace, lent, place_for}
 
 -- a reference before the first one, or behind it

@@ -1,9 +1,6 @@
 -- Each permission has the function that its word tells.
 use Rattle.std.proofs.Common.{◌≡◌, map, refl}
-use Rattle.tm_types.specs.declared.entry.Args.{Args}
-use Rattle.tm_types.specs.declared.entry.InetKind.{InetKind}
-use Rattle.tm_types.specs.declared.entry.UnixKind.{UnixKind}
-use Rattle.tm_types.specs.Functions.{row_functions}
+use Rattle.tm_rules.specs.Types.{Args, InetKind, UnixKind, row_functions}
 use Rattle.tm_profile.specs.Slots.{function_text}
 use Rattle.tm_text.specs.PermissionWords.{permission_texts}
 

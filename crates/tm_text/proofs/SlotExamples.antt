@@ -2,17 +2,10 @@
 -- them.
 use Rattle.std.proofs.Common.{◌≡◌, true, refl}
 use Rattle.std.specs.Prelude.{codes, Some, Result, Ok, Err, option_map}
-use Rattle.tm_word.specs.Words.{Text}
-use Rattle.tm_word.specs.Spelling.{words_of}
+use Rattle.tm_word.specs.Prelude.{Text, words_of}
 use Rattle.tm_number.specs.Numbers.{number_of, value_of, plain_of}
-use Rattle.tm_types.specs.declared.policy.Mode.{Mode}
-use Rattle.tm_types.specs.declared.policy.Function.{Function}
-use Rattle.tm_types.specs.declared.policy.Namespace.{Namespace}
-use Rattle.tm_types.specs.declared.policy.ProfileLine.{ProfileLine}
-use Rattle.tm_types.specs.declared.entry.LineKind.{LineKind}
-use Rattle.tm_rules.specs.Policy.{kernel, empty_namespace, at_key}
-use Rattle.tm_rules.specs.Edit.{profile_line}
-use Rattle.tm_rules.specs.Mode.{config_of}
+use Rattle.tm_rules.specs.Types.{Function, LineKind, Mode, Namespace, ProfileLine}
+use Rattle.tm_rules.specs.Prelude.{at_key, config_of, empty_namespace, kernel, profile_line}
 use Rattle.tm_line.specs.Namespaces.{namespace_of, namespace_at}
 use Rattle.tm_profile.specs.Slots.{function_text, slot_text}
 use Rattle.tm_profile.specs.Reading.{key_of, seen_after, closed, setting_after, limits_with, limits_after, slot_of, begins_some_slot, begins_effect, numbered, effect_at, line_of}

@@ -1,10 +1,8 @@
 -- The printed text of the domains.
 use Rattle.std.specs.Prelude.{ℕ, Bool, true, false, if◌then◌else◌, List, [], ◌∷◌, ◌++◌}
 use Rattle.std.specs.List.{flat_map}
-use Rattle.tm_word.specs.Words.{Text}
-use Rattle.tm_types.specs.declared.entry.Entry.{Entry}
-use Rattle.tm_types.specs.declared.policy.Domain.{Domain}
-use Rattle.tm_types.specs.declared.policy.Policy.{Policy}
+use Rattle.tm_word.specs.Prelude.{Text}
+use Rattle.tm_rules.specs.Types.{Domain, Entry, Policy}
 use Rattle.tm_line.specs.DomainWords.{domain_parts}
 use Rattle.tm_policy_line.specs.Entries.{entry_words}
 use Rattle.tm_policy_line.specs.Printing.{printed_line, profile_words, group_words, quota_words, failed_words}

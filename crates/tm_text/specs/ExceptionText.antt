@@ -1,10 +1,8 @@
 -- The printed text of the exception policy.
 use Rattle.std.specs.Prelude.{ℕ, List, ◌++◌}
 use Rattle.std.specs.List.{flat_map}
-use Rattle.tm_word.specs.Words.{Text}
-use Rattle.tm_types.specs.declared.entry.Entry.{Entry}
-use Rattle.tm_types.specs.declared.policy.Namespace.{Namespace}
-use Rattle.tm_types.specs.declared.policy.Policy.{Policy}
+use Rattle.tm_word.specs.Prelude.{Text}
+use Rattle.tm_rules.specs.Types.{Entry, Namespace, Policy}
 use Rattle.tm_except.specs.Printing.{lists_text}
 use Rattle.tm_policy_line.specs.Printing.{printed_line, acl_group_words}
 use Rattle.tm_text.specs.ProfileText.{by_name}

@@ -1,8 +1,8 @@
 -- The printed text of the managers.
 use Rattle.std.specs.Prelude.{◌++◌}
 use Rattle.std.specs.List.{flat_map}
-use Rattle.tm_word.specs.Words.{Text}
-use Rattle.tm_types.specs.declared.policy.Policy.{Policy}
+use Rattle.tm_word.specs.Prelude.{Text}
+use Rattle.tm_rules.specs.Types.{Policy}
 use Rattle.tm_policy_line.specs.Printing.{printed_line, manager_words, non_root_words}
 use Rattle.tm_text.specs.DomainText.{flag_line}
 

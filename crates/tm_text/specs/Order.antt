@@ -1,6 +1,6 @@
 -- What the order of namespaces means.
 use Rattle.std.specs.Prelude.{◌≡◌, false, List, [], ◌∷◌}
-use Rattle.tm_types.specs.declared.policy.Namespace.{Namespace}
+use Rattle.tm_rules.specs.Types.{Namespace}
 use Rattle.tm_text.specs.ProfileText.{comes_before}
 
 -- the namespace after this one, if there is one, has no name that comes before its own

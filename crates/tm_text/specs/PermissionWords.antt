@@ -1,8 +1,7 @@
 -- The words of the functions of a row's permissions, as the words of the permissions tell them.
 use Rattle.std.specs.Prelude.{◌||◌, if◌then◌else◌, List, [], ◌∷◌, ◌++◌, map, codes}
-use Rattle.tm_word.specs.Words.{Text}
-use Rattle.tm_types.specs.declared.entry.Args.{Args}
-use Rattle.tm_word.specs.Texts.{texts_equal}
+use Rattle.tm_word.specs.Prelude.{Text, texts_equal}
+use Rattle.tm_rules.specs.Types.{Args}
 use Rattle.tm_line.specs.declared.permissions.Row.{Row}
 use Rattle.tm_line.specs.Permissions.{names}
 use Rattle.tm_net.specs.NetLines.{inet_word, unix_word, inet_permissions, unix_permissions}

@@ -1,6 +1,7 @@
 //! The printed files of a policy: its profiles, its exceptions, its domains and its managers.
-//! It stands on `tm_policy_line`, `tm_except` and `tm_profile`, whose lines it joins.
-//! It promises one text for each part of any policy, in order, and `out` kept after want of memory.
+//! Stands on `tm_policy_line`, `tm_except` and `tm_profile`, whose lines it joins.
+//! Of its own, so that policies are printed as data, without what changes or plays them.
+//! Promises one text for each part of any policy, in order, and `out` kept after want of memory.
 #![tactic(auto)]
 
 mod domains;

@@ -1,7 +1,6 @@
 //! A law of the words that policies and profiles have for the same thing.
 ghost use Rattle.std.specs.Prelude.{◌≡◌, map};
-ghost use Rattle.tm_types.specs.declared.entry.Args.{Args};
-ghost use Rattle.tm_types.specs.Functions.{row_functions};
+ghost use Rattle.tm_rules.specs.Types.{Args, row_functions};
 ghost use Rattle.tm_profile.specs.Slots.{function_text};
 ghost use Rattle.tm_text.specs.PermissionWords.{permission_texts};
 

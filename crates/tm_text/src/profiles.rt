@@ -2,7 +2,7 @@
 ghost use Rattle.std.specs.Prelude.{◌≡◌, ◌++◌, ◌≤◌, List, length, IfOk, OnOk, OnErr};
 ghost use Rattle.std.specs.List.{flat_map};
 ghost use Rattle.std.specs.List.Sorted.{IsPermutation};
-ghost use Rattle.tm_types.specs.declared.policy.Namespace.{Namespace};
+ghost use Rattle.tm_rules.specs.Types.{Namespace};
 ghost use Rattle.tm_text.specs.Order.{IsOrdered};
 ghost use Rattle.tm_text.specs.ProfileText.{comes_before, with_namespace, placed, by_name, namespace_text, profile_text, lent, place_for};
 

@@ -5,22 +5,11 @@ use Rattle.std.specs.Prelude.{is_some}
 use Rattle.std.specs.Bool.{beq}
 use Rattle.std.specs.List.{list_all}
 use Rattle.std.proofs.lemmas.Bool.{eqb-true, ltb-true}
-use Rattle.tm_word.specs.Words.{Word}
-use Rattle.tm_word.specs.Matching.{is_empty}
-use Rattle.tm_word.specs.Printing.{spelled_pattern}
+use Rattle.tm_word.specs.Prelude.{Word, are_bytes, begins_with_byte, is_empty, is_word, spelled_pattern}
 use Rattle.tm_word.proofs.Literals.{literal-name}
 use Rattle.tm_line.specs.Grammar.{is_right}
-use Rattle.tm_types.specs.declared.entry.Args.{Args}
-use Rattle.tm_types.specs.declared.unions.NameUnion.{NameUnion}
-use Rattle.tm_types.specs.declared.request.Attributes.{Attributes}
-use Rattle.tm_types.specs.declared.request.Request.{Request}
-use Rattle.tm_types.specs.Request.{name_value}
-use Rattle.tm_rules.specs.Condition.{is_execute}
-use Rattle.tm_rules.specs.Requests.{is_path_word, is_name, is_number, is_addr, is_symlink, has_bytes, bytes_if, has_exec, has_no_exec, is_request}
-use Rattle.tm_word.specs.Spelling.{are_bytes}
-use Rattle.tm_word.specs.Texts.{begins_with_byte, is_word}
-use Rattle.tm_rules.specs.Search.{path_of}
-use Rattle.tm_rules.specs.Transition.{is_domain_name}
+use Rattle.tm_rules.specs.Types.{Args, Attributes, NameUnion, Request, name_value}
+use Rattle.tm_rules.specs.Prelude.{bytes_if, has_bytes, has_exec, has_no_exec, is_addr, is_domain_name, is_execute, is_name, is_number, is_path_word, is_request, is_symlink, path_of}
 use Rattle.tm_line.specs.Names.{is_path}
 use Rattle.tm_entry.specs.Written.{is_name_byte}
 use Rattle.tm_entry.proofs.LeftLaws.{name_bytes}
@@ -121,9 +110,6 @@ beq_false : (a b : Bool) → beq a b ≡ true → a ≡ false → b ≡ false
 beq_false false false h e = refl
 beq_false false true h e = absurd cc
 beq_false true b h e = absurd cc
-
-abbrev IsWritten : Request → Type 0
-IsWritten r = is_trace_request r ≡ true
 
 -- what is said of a request of a trace
 pub record Said (r : Request) : Type 0 where

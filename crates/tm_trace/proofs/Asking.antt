@@ -6,20 +6,9 @@ use Rattle.std.specs.Bool.{beq}
 use Rattle.std.specs.List.{list_all}
 use Rattle.std.proofs.lemmas.Bool.{eqb-true, ltb-true, lt-ltb}
 use Rattle.std.proofs.lemmas.Option.{slice_get_within, slice_get-get_or}
-use Rattle.tm_word.specs.Matching.{is_empty}
-use Rattle.tm_types.specs.declared.entry.Args.{Args}
-use Rattle.tm_types.specs.declared.entry.InetKind.{InetKind}
-use Rattle.tm_types.specs.declared.entry.UnixKind.{UnixKind}
-use Rattle.tm_types.specs.declared.unions.NameUnion.{NameUnion}
-use Rattle.tm_types.specs.declared.request.Attributes.{Attributes}
-use Rattle.tm_types.specs.declared.request.Request.{Request}
-use Rattle.tm_types.specs.Functions.{row_functions, inet_functions, unix_functions, function_of}
-use Rattle.tm_types.specs.Request.{name_value}
-use Rattle.tm_rules.specs.Condition.{is_execute, is_manual}
-use Rattle.tm_rules.specs.Requests.{is_path_word, is_name, is_number, is_addr, are_literal, is_symlink, has_bytes, bytes_if, has_exec, has_no_exec, may_have, is_stat, has_its_attributes, is_request}
-use Rattle.tm_word.specs.Spelling.{are_bytes}
-use Rattle.tm_word.specs.Texts.{begins_with_byte}
-use Rattle.tm_rules.specs.Transition.{is_domain_name}
+use Rattle.tm_word.specs.Prelude.{are_bytes, begins_with_byte, is_empty}
+use Rattle.tm_rules.specs.Types.{Args, Attributes, InetKind, NameUnion, Request, UnixKind, function_of, inet_functions, name_value, row_functions, unix_functions}
+use Rattle.tm_rules.specs.Prelude.{are_literal, bytes_if, has_bytes, has_exec, has_its_attributes, has_no_exec, is_addr, is_domain_name, is_execute, is_manual, is_name, is_number, is_path_word, is_request, is_stat, is_symlink, may_have}
 use Rattle.tm_line.specs.Names.{is_path}
 use Rattle.tm_line.specs.declared.permissions.Row.{Row}
 use Rattle.tm_line.proofs.Steps.{both, all}

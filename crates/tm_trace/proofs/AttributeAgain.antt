@@ -6,20 +6,11 @@ use Rattle.std.proofs.lemmas.Bool.{ne_eqb, ltb-true, le-ltb}
 use Rattle.std.proofs.lemmas.List.Folds.{list_any-append}
 use Rattle.std.proofs.lemmas.Iterator.Adapters.{position_from-zero}
 use Rattle.std.proofs.Math.Seq.{take-append_seam, drop-append-add}
-use Rattle.tm_word.specs.Words.{Text, Word}
-use Rattle.tm_word.specs.Spelling.{spell, are_bytes}
-use Rattle.tm_number.specs.declared.Base.{Base}
+use Rattle.tm_word.specs.Prelude.{Text, Word, are_bytes, spell, texts_equal}
+use Rattle.tm_rules.specs.Types.{Args, Attr, Attributes, Base, FileKindWord, Stat, StatField, StatPlace}
 use Rattle.tm_number.specs.Numbers.{spelling}
 use Rattle.tm_number.proofs.NumberLaws.{number_again}
-use Rattle.tm_types.specs.declared.entry.Args.{Args}
-use Rattle.tm_types.specs.declared.entry.Attr.{Attr}
-use Rattle.tm_types.specs.declared.entry.FileKindWord.{FileKindWord}
-use Rattle.tm_types.specs.declared.entry.StatPlace.{StatPlace}
-use Rattle.tm_types.specs.declared.entry.StatField.{StatField}
-use Rattle.tm_types.specs.declared.request.Attributes.{Attributes}
-use Rattle.tm_types.specs.declared.request.Stat.{Stat}
-use Rattle.tm_word.specs.Texts.{texts_equal}
-use Rattle.tm_rules.specs.Requests.{may_have, is_stat}
+use Rattle.tm_rules.specs.Prelude.{is_stat, may_have}
 use Rattle.tm_entry.specs.Attributes.{kind_text, kind_word, attr_text, attr_word}
 use Rattle.tm_entry.specs.Written.{is_name_byte, is_attr}
 use Rattle.tm_entry.proofs.PieceLaws.{quoted_again}

@@ -6,23 +6,16 @@ use Rattle.std.proofs.lemmas.Bool.{eqb-true, eq-eqb, lt-ltb}
 use Rattle.std.proofs.lemmas.Bool.Decides.{nat_tests}
 use Rattle.std.proofs.lemmas.List.Folds.{list_all-append, list_any-append}
 use Rattle.std.proofs.lemmas.List.Quantifiers.{position-Some}
-use Rattle.tm_word.specs.Words.{Text, Word}
+use Rattle.tm_word.specs.Prelude.{Text, Word, are_bytes, spelled_word, texts_equal, ◌>>=◌}
 use Rattle.tm_number.specs.Numbers.{number_of}
 use Rattle.tm_number.proofs.NumberLaws.{number_small}
-use Rattle.tm_word.specs.Spelling.{spelled_word, are_bytes}
-use Rattle.tm_types.specs.declared.entry.Args.{Args}
-use Rattle.tm_types.specs.declared.entry.Attr.{Attr}
-use Rattle.tm_types.specs.declared.entry.LineKind.{LineKind}
-use Rattle.tm_types.specs.declared.request.Attributes.{Attributes}
-use Rattle.tm_types.specs.declared.request.Stat.{Stat}
-use Rattle.tm_word.specs.Texts.{texts_equal}
-use Rattle.tm_rules.specs.Requests.{may_have, is_stat}
+use Rattle.tm_rules.specs.Types.{Args, Attr, Attributes, LineKind, Stat}
+use Rattle.tm_rules.specs.Prelude.{is_stat, may_have}
 use Rattle.tm_entry.specs.Attributes.{or_wrong, quoted, kind_word, attr_word}
 use Rattle.tm_entry.specs.Written.{is_name_byte, is_attr}
 use Rattle.tm_entry.proofs.PieceLaws.{or_wrong_ok}
 use Rattle.tm_entry.proofs.LeftLaws.{not_equals, attr_read}
 use Rattle.tm_line.specs.Arguments.{kinded}
-use Rattle.tm_word.specs.Gives.{◌>>=◌}
 use Rattle.tm_line.proofs.Steps.{bind_ok, ok_is, kinded_ok, both, all, not_true, to_not}
 use Rattle.tm_word.proofs.Spelled.{word_small}
 use Rattle.tm_trace.specs.Attributes.{stat_rank, has_stat, put_stat, executes, links, only_if, quoted_word, value_word, has_name, with_argument, with_real_path, with_name, with_target, with_stat, with_attribute, with_sides, with_word_at, with_word, is_complete, attributes_from}

@@ -3,16 +3,11 @@ use Rattle.std.proofs.Common.{◌≡◌, ℕ, Bool, true, false, ◌&&◌, not, 
 use Rattle.std.specs.Prelude.{is_some}
 use Rattle.std.specs.List.{list_all}
 use Rattle.std.proofs.lemmas.List.{append-nil}
-use Rattle.tm_word.specs.Words.{Text, Word}
-use Rattle.tm_word.specs.Matching.{is_empty}
-use Rattle.tm_types.specs.declared.entry.Args.{Args}
-use Rattle.tm_types.specs.declared.request.Attributes.{Attributes}
-use Rattle.tm_types.specs.declared.request.Stat.{Stat}
-use Rattle.tm_rules.specs.Requests.{bytes_if, may_have, is_stat}
-use Rattle.tm_word.specs.Spelling.{are_bytes}
+use Rattle.tm_word.specs.Prelude.{Text, Word, are_bytes, is_empty}
+use Rattle.tm_rules.specs.Types.{Args, Attributes, Stat, no_attributes}
+use Rattle.tm_rules.specs.Prelude.{bytes_if, is_stat, may_have}
 use Rattle.tm_entry.specs.Written.{is_name_byte}
 use Rattle.tm_line.proofs.Steps.{both}
-use Rattle.tm_types.specs.Request.{no_attributes}
 use Rattle.tm_trace.specs.Attributes.{executes, links, with_word, is_complete, attributes_from}
 use Rattle.tm_trace.specs.Printing.{words_if, real_path_text, argument_text, environment_text, target_text, stat_text, attribute_words}
 use Rattle.tm_trace.specs.Written.{rises, names_once, are_names, has_word}

@@ -1,12 +1,8 @@
 -- Each request of a trace can be asked of the engine.
 use Rattle.std.proofs.Common.{◌≡◌, ℕ, true, ◌&&◌, List, [], ◌∷◌, ◌++◌, refl}
 use Rattle.std.specs.List.{list_all}
-use Rattle.tm_types.specs.declared.request.Item.{Item}
-use Rattle.tm_types.specs.declared.request.Request.{Request}
-use Rattle.tm_types.specs.declared.request.Tree.{Tree}
-use Rattle.tm_rules.specs.Requests.{is_request, item_is_request}
-use Rattle.tm_rules.specs.Transition.{is_domain_name}
-use Rattle.tm_rules.specs.Words.{Trace}
+use Rattle.tm_rules.specs.Types.{Item, Request, Tree}
+use Rattle.tm_rules.specs.Prelude.{Trace, is_domain_name, is_request, item_is_request}
 use Rattle.tm_line.specs.Names.{is_path}
 use Rattle.tm_line.proofs.Steps.{both, all}
 use Rattle.tm_trace.specs.Trees.{made_by, is_among}

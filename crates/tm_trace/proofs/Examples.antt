@@ -3,26 +3,17 @@ use Rattle.std.proofs.Common.{◌≡◌, ℕ, Bool, true, false, List, [], ◌�
 use Rattle.std.specs.Prelude.{codes}
 use Rattle.std.specs.Fmt.{digits}
 use Rattle.std.specs.List.{flat_map}
-use Rattle.tm_word.specs.Words.{Text}
-use Rattle.tm_word.specs.Spelling.{words_of, spelled_word, word_of, head_of}
-use Rattle.tm_word.specs.Printing.{literal, literal_word, spelled_pattern}
+use Rattle.tm_word.specs.Prelude.{Text, head_of, literal, literal_word, spelled_pattern, spelled_word, texts_equal, word_of, words_of}
 use Rattle.tm_number.specs.Numbers.{number_of, value_of, plain_of}
 use Rattle.tm_addr.specs.Reading.{addr_of, v4_of, quad_of, v6_of, side_of, groups_after, last_of, group_of}
 use Rattle.tm_addr.specs.Printing.{v4_spelling, v6_spelling, groups_in, longest}
 use Rattle.tm_line.specs.Tokens.{token_at}
 use Rattle.tm_line.specs.Reading.{step, ended, parsed, pattern_of}
-use Rattle.tm_types.specs.declared.entry.Args.{Args}
-use Rattle.tm_types.specs.declared.unions.NameUnion.{NameUnion}
-use Rattle.tm_types.specs.declared.request.Request.{Request}
-use Rattle.tm_types.specs.declared.request.TraceKind.{TraceKind}
-use Rattle.tm_types.specs.Functions.{function_of}
-use Rattle.tm_rules.specs.Learned.{learned_line}
-use Rattle.tm_rules.specs.Requests.{is_request}
+use Rattle.tm_rules.specs.Types.{Args, NameUnion, Request, TraceKind, function_of, no_attributes}
+use Rattle.tm_rules.specs.Prelude.{Trace, is_request, learned_line}
 use Rattle.tm_line.specs.Grammar.{is_right}
 use Rattle.tm_entry.specs.Written.{is_attr, is_side, is_clause, is_cond}
 use Rattle.tm_line.specs.Written.{is_name}
-use Rattle.tm_word.specs.Texts.{texts_equal}
-use Rattle.tm_rules.specs.Words.{Trace}
 use Rattle.tm_line.specs.Names.{is_path, domain_of}
 use Rattle.tm_line.specs.Permissions.{perm_on}
 use Rattle.tm_line.specs.Arguments.{group_word, plain_word}
@@ -33,7 +24,6 @@ use Rattle.tm_entry.specs.NetLines.{net_words, is_net}
 use Rattle.tm_entry.specs.Entries.{acl_words, is_entry}
 use Rattle.tm_entry.specs.Attributes.{without_last, id_word, field_word, parent_word, kind_word, attr_text, numeric_word, other_word, argv_word, envp_word, attr_word}
 use Rattle.tm_trace.specs.Requests.{place_in, literal_name, path_name, single_number, single_address, env_name, args_at, mount_at, file_request, inet_request, unix_request, network_request, misc_request, task_request, request_line}
-use Rattle.tm_types.specs.Request.{no_attributes}
 use Rattle.tm_trace.specs.Attributes.{put_stat, quoted_word, value_word, with_argument, with_real_path, with_name, with_target, with_stat, with_attribute, with_sides, with_word, attributes_from}
 use Rattle.tm_trace.specs.Processes.{pid_word, id_at, ids_to_end}
 use Rattle.tm_trace.specs.Reading.{new_at, process_at, request_at, request_of, tree_line, ids_line, fork_line, do_line, line_at, trace_from, trace_of, tree_line_from, tree_line_at}

@@ -1,7 +1,6 @@
 -- The keyword of a line.
 use Rattle.std.proofs.Common.{◌≡◌, true, List, ◌∷◌, codes, refl}
-use Rattle.tm_word.specs.Words.{Text}
-use Rattle.tm_word.specs.Texts.{texts_equal}
+use Rattle.tm_word.specs.Prelude.{Text, texts_equal}
 use Rattle.tm_word.proofs.TextLaws.{texts_sound}
 use Rattle.tm_trace.specs.Trees.{Trees}
 use Rattle.tm_trace.specs.Reading.{do_line, line_at}

@@ -5,24 +5,16 @@ use Rattle.std.specs.Bool.{beq}
 use Rattle.std.specs.List.{list_any}
 use Rattle.std.proofs.lemmas.Bool.{eqb-true, ltb-true}
 use Rattle.std.proofs.lemmas.List.Folds.{list_any-append}
-use Rattle.tm_word.specs.Words.{Text, Word, Pattern}
-use Rattle.tm_word.specs.Spelling.{spelling_of, spell, are_bytes}
-use Rattle.tm_word.specs.Matching.{is_empty}
-use Rattle.tm_word.specs.Printing.{spelled_pattern, literal, literal_word}
+use Rattle.tm_word.specs.Prelude.{Pattern, Text, Word, are_bytes, begins_with_byte, is_empty, literal, literal_word, spell, spelled_pattern, spelling_of, ◌>>=◌}
 use Rattle.tm_word.proofs.Literals.{literal-spelled, literal-name}
 use Rattle.tm_line.specs.Grammar.{is_right}
 use Rattle.tm_line.proofs.LiteralLaws.{literal_right}
-use Rattle.tm_types.specs.declared.entry.LineKind.{LineKind}
-use Rattle.tm_types.specs.declared.unions.NameUnion.{NameUnion}
-use Rattle.tm_types.specs.Request.{name_value}
-use Rattle.tm_rules.specs.Requests.{is_literal, is_written, is_name}
-use Rattle.tm_word.specs.Texts.{begins_with_byte}
+use Rattle.tm_rules.specs.Types.{LineKind, NameUnion, name_value}
+use Rattle.tm_rules.specs.Prelude.{is_literal, is_name, is_written}
 use Rattle.tm_rules.proofs.EqualityLaws.{same_patterns}
-use Rattle.tm_word.specs.Gives.{◌>>=◌}
 use Rattle.tm_line.specs.Arguments.{group_word}
 use Rattle.tm_line.specs.Printing.{name_spelling}
 use Rattle.tm_line.specs.Written.{is_group, begins_name}
-use Rattle.tm_word.specs.Texts.{begins_with_byte}
 use Rattle.tm_line.specs.Written as lines
 use Rattle.tm_line.proofs.Steps.{bind_ok, ok_is, both, all, not_true, to_not}
 use Rattle.tm_line.proofs.GroupLaws.{group_again, group_found}

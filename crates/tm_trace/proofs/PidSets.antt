@@ -3,9 +3,8 @@ use Rattle.std.proofs.Common.{◌≡◌, ℕ, ◌==◌, ◌||◌, Bool, List, []
 use Rattle.std.specs.Prelude.{Option, Some, option_to_list}
 use Rattle.std.specs.BTreeSet.{BTreeSet}
 use Rattle.std.proofs.lemmas.List.Folds.{list_any-append}
-use Rattle.tm_types.specs.declared.request.Item.{Item}
-use Rattle.tm_types.specs.declared.request.Tree.{Tree}
-use Rattle.tm_rules.specs.Words.{DomainName}
+use Rattle.tm_rules.specs.Types.{Item, Tree}
+use Rattle.tm_rules.specs.Prelude.{DomainName}
 use Rattle.tm_trace.specs.Trees.{new_tree, tree_pids, trace_pids, is_among, with_item}
 use Rattle.tm_trace.specs.Steps.{Holds, HasMore, IsOnly, last_pids}
 use Rattle.tm_trace.proofs.Pids.{item_pids}

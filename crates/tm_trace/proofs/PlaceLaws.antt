@@ -5,12 +5,8 @@ use Rattle.std.specs.List.{position_from}
 use Rattle.std.specs.Int.Count.{count_trailing_zeros}
 use Rattle.std.proofs.lemmas.Bool.{eqb-true}
 use Rattle.std.proofs.lemmas.Iterator.Adapters.{position_from-zero}
-use Rattle.tm_word.specs.Words.{Text}
-use Rattle.tm_word.specs.Texts.{texts_equal}
-use Rattle.tm_word.specs.Gives.{◌>>=◌}
-use Rattle.tm_types.specs.declared.entry.Args.{Args}
-use Rattle.tm_types.specs.declared.entry.LineKind.{LineKind}
-use Rattle.tm_types.specs.declared.unions.NameUnion.{NameUnion}
+use Rattle.tm_word.specs.Prelude.{Text, texts_equal, ◌>>=◌}
+use Rattle.tm_rules.specs.Types.{Args, LineKind, NameUnion}
 use Rattle.tm_line.specs.declared.permissions.Row.{Row}
 use Rattle.tm_line.specs.Permissions.{names, mask_from, mask_in}
 use Rattle.tm_word.proofs.Spelled.{below, below-at}

@@ -4,14 +4,9 @@ use Rattle.std.specs.Prelude.{codes, bit_and}
 use Rattle.std.specs.Fmt.{decimal}
 use Rattle.std.proofs.lemmas.Bool.{ltb-false}
 use Rattle.std.proofs.lemmas.Nat.{pow_apart}
-use Rattle.tm_word.specs.Words.{Text}
-use Rattle.tm_word.specs.Spelling.{joined}
-use Rattle.tm_types.specs.declared.entry.Args.{Args}
-use Rattle.tm_types.specs.declared.entry.InetKind.{InetKind}
-use Rattle.tm_types.specs.declared.entry.UnixKind.{UnixKind}
-use Rattle.tm_types.specs.declared.entry.Perms.{Perms}
-use Rattle.tm_types.specs.declared.request.Request.{Request}
-use Rattle.tm_rules.specs.Policy.{permission}
+use Rattle.tm_word.specs.Prelude.{Text, joined}
+use Rattle.tm_rules.specs.Types.{Args, InetKind, Perms, Request, UnixKind}
+use Rattle.tm_rules.specs.Prelude.{permission}
 use Rattle.tm_line.specs.declared.permissions.Row.{Row}
 use Rattle.tm_line.specs.Lines.{spaced}
 use Rattle.tm_line.specs.Permissions.{names, perm_on, perms_from, perms_spelling}

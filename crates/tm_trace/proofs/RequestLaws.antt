@@ -2,22 +2,12 @@
 use Rattle.std.proofs.Common.{◌≡◌, ℕ, ◌<◌, ◌^◌, ◌==◌, nat_lt, Bool, true, false, cond, ◌&&◌, List, [], ◌∷◌, ◌++◌, Option, Some, None, Result, Ok, Err, refl, sym, ap, subst}
 use Rattle.std.specs.Prelude.{codes}
 use Rattle.std.proofs.lemmas.Bool.{eqb-true, ltb-true, lt-ltb}
-use Rattle.tm_word.specs.Words.{Text, Pattern}
-use Rattle.tm_types.specs.declared.entry.Args.{Args}
-use Rattle.tm_types.specs.declared.entry.InetKind.{InetKind}
-use Rattle.tm_types.specs.declared.entry.UnixKind.{UnixKind}
-use Rattle.tm_types.specs.declared.entry.LineKind.{LineKind}
-use Rattle.tm_types.specs.declared.unions.NameUnion.{NameUnion}
-use Rattle.tm_types.specs.declared.unions.NumberUnion.{NumberUnion}
-use Rattle.tm_types.specs.declared.unions.AddrUnion.{AddrUnion}
-use Rattle.tm_word.specs.Texts.{texts_equal}
-use Rattle.tm_rules.specs.Requests.{is_name, is_number, is_addr}
-use Rattle.tm_rules.specs.Transition.{is_domain_name}
-use Rattle.tm_rules.specs.Words.{DomainName}
+use Rattle.tm_word.specs.Prelude.{Pattern, Text, texts_equal, ◌>>=◌}
+use Rattle.tm_rules.specs.Types.{AddrUnion, Args, InetKind, LineKind, NameUnion, NumberUnion, UnixKind}
+use Rattle.tm_rules.specs.Prelude.{DomainName, is_addr, is_domain_name, is_name, is_number}
 use Rattle.tm_line.specs.Names.{is_path}
 use Rattle.tm_line.specs.declared.permissions.Row.{Row}
 use Rattle.tm_line.specs.Lines.{word_at}
-use Rattle.tm_word.specs.Gives.{◌>>=◌}
 use Rattle.tm_line.specs.Domains.{domain_at}
 use Rattle.tm_line.specs.DomainWords.{ends_domain}
 use Rattle.tm_line.specs.Printing.{name_spelling, number_spelling}

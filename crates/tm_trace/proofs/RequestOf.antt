@@ -1,16 +1,11 @@
 -- A request and its attributes: what is printed is read again, and what is read is a request of a
 -- trace.
 use Rattle.std.proofs.Common.{◌≡◌, ℕ, true, List, ◌++◌, Result, Ok, Err, refl, ap, subst}
-use Rattle.tm_word.specs.Words.{Text}
-use Rattle.tm_types.specs.declared.entry.Args.{Args}
-use Rattle.tm_types.specs.declared.entry.LineKind.{LineKind}
-use Rattle.tm_types.specs.declared.request.Request.{Request}
-use Rattle.tm_types.specs.declared.request.TraceKind.{TraceKind}
+use Rattle.tm_word.specs.Prelude.{Text, ◌>>=◌}
+use Rattle.tm_rules.specs.Types.{Args, LineKind, Request, TraceKind, no_attributes}
 use Rattle.tm_line.specs.DomainWords.{ends_domain}
-use Rattle.tm_word.specs.Gives.{◌>>=◌}
 use Rattle.tm_trace.specs.Lines.{in_trace}
 use Rattle.tm_trace.specs.Requests.{request_line}
-use Rattle.tm_types.specs.Request.{no_attributes}
 use Rattle.tm_trace.specs.Attributes.{request, attributes_from}
 use Rattle.tm_trace.specs.Reading.{request_at, request_of}
 use Rattle.tm_trace.specs.Printing.{request_words, attribute_words}

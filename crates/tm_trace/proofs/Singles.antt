@@ -1,10 +1,8 @@
 -- Single numbers and single addresses: what is printed is read again, and what is read is in range.
 use Rattle.std.proofs.Common.{◌≡◌, ◌^◌, nat_lt, nat_le, true, Ok, refl, sym, ap, subst, ◌∙◌, arith, eq-eqb}
 use Rattle.std.proofs.lemmas.Bool.{ltb-true, lt-ltb, le-leb}
-use Rattle.tm_word.specs.Words.{Text}
-use Rattle.tm_number.specs.declared.Addr.{Addr}
-use Rattle.tm_number.specs.declared.Base.{Base}
-use Rattle.tm_number.specs.declared.Number.{Number}
+use Rattle.tm_word.specs.Prelude.{Text}
+use Rattle.tm_rules.specs.Types.{Addr, AddrUnion, Base, LineKind, Number, NumberUnion}
 use Rattle.tm_number.specs.Addresses.{addr_le}
 use Rattle.tm_number.specs.Numbers.{number_spelling, same_base, range_spelling, number_of}
 use Rattle.tm_number.specs.Numbers as numbers
@@ -13,12 +11,8 @@ use Rattle.tm_addr.specs.Printing.{IsAddr, addr_spelling, same_addr, addr_range_
 use Rattle.tm_addr.specs.Reading.{addr_of}
 use Rattle.tm_addr.specs.Reading as addresses
 use Rattle.tm_addr.proofs.AddrLaws.{addr_again}
-use Rattle.tm_types.specs.declared.entry.LineKind.{LineKind}
-use Rattle.tm_types.specs.declared.unions.NumberUnion.{NumberUnion}
-use Rattle.tm_types.specs.declared.unions.AddrUnion.{AddrUnion}
-use Rattle.tm_rules.specs.Equality.{numbers_equal, addrs_equal}
+use Rattle.tm_rules.specs.Prelude.{addrs_equal, is_addr, is_addr_value, is_number, numbers_equal}
 use Rattle.tm_rules.proofs.EqualityLaws.{same_number, same_addrs}
-use Rattle.tm_rules.specs.Requests.{is_number, is_addr_value, is_addr}
 use Rattle.tm_line.specs.Arguments.{kinded}
 use Rattle.tm_line.specs.Printing as print
 use Rattle.tm_line.specs.Written as lines

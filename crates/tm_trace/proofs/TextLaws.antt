@@ -3,20 +3,13 @@ use Rattle.std.proofs.Common.{◌≡◌, ℕ, suc, ◌+◌, ◌-◌, ◌<◌, �
 use Rattle.std.specs.Prelude.{codes, option_to_list}
 use Rattle.std.proofs.lemmas.Bool.Decides.{nat_tests}
 use Rattle.std.proofs.lemmas.List.{length-append}
-use Rattle.tm_word.specs.Words.{Text}
-use Rattle.tm_word.specs.Spelling.{words_of, joined}
-use Rattle.tm_types.specs.declared.request.Item.{Item}
-use Rattle.tm_types.specs.declared.request.Request.{Request}
-use Rattle.tm_types.specs.declared.request.TraceKind.{TraceKind}
-use Rattle.tm_types.specs.declared.request.Tree.{Tree}
-use Rattle.tm_word.specs.Texts.{texts_equal, lines_of}
-use Rattle.tm_rules.specs.Policy.{permission}
-use Rattle.tm_rules.specs.Words.{Trace}
+use Rattle.tm_word.specs.Prelude.{Text, joined, lines_of, texts_equal, words_of, ◌>>=◌}
+use Rattle.tm_rules.specs.Types.{Item, Request, TraceKind, Tree}
+use Rattle.tm_rules.specs.Prelude.{Trace, permission}
 use Rattle.tm_line.specs.Domains.{domain_to_end}
 use Rattle.tm_line.proofs.JoinLaws.{joined_more}
 use Rattle.tm_line.proofs.WholeLaws.{words_again}
 use Rattle.tm_entry.proofs.TextLaws.{acl_first}
-use Rattle.tm_word.specs.Gives.{◌>>=◌}
 use Rattle.tm_trace.specs.Lines.{in_trace}
 use Rattle.tm_line.specs.Lines.{ended}
 use Rattle.tm_trace.specs.Processes.{ids_to_end}

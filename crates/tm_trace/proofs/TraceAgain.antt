@@ -5,14 +5,9 @@ use Rattle.std.specs.Fmt.{decimal}
 use Rattle.std.proofs.lemmas.Bool.{ne_eqb, ltb-true}
 use Rattle.std.proofs.lemmas.List.{append-nil}
 use Rattle.std.proofs.lemmas.Grind.{flat_map-append}
-use Rattle.tm_word.specs.Words.{Text}
-use Rattle.tm_word.specs.Spelling.{is_separator, words_of, joined}
-use Rattle.tm_types.specs.declared.request.Ids.{Ids}
-use Rattle.tm_types.specs.declared.request.Item.{Item}
-use Rattle.tm_types.specs.declared.request.Tree.{Tree}
-use Rattle.tm_word.specs.Texts.{lines_of, is_solid, is_word}
-use Rattle.tm_rules.specs.Transition.{is_domain_name}
-use Rattle.tm_rules.specs.Words.{Trace}
+use Rattle.tm_word.specs.Prelude.{Text, is_separator, is_solid, is_word, joined, lines_of, words_of}
+use Rattle.tm_rules.specs.Types.{Ids, Item, Tree}
+use Rattle.tm_rules.specs.Prelude.{Trace, is_domain_name}
 use Rattle.tm_line.specs.Names.{is_path}
 use Rattle.tm_addr.proofs.Free.{Free, free_append, split_at}
 use Rattle.tm_line.specs.DomainWords.{domain_parts}

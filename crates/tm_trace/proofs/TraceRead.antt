@@ -5,16 +5,9 @@ use Rattle.std.specs.List.{list_all, IsDistinct}
 use Rattle.std.proofs.lemmas.Bool.{lt-ltb}
 use Rattle.std.proofs.lemmas.List.{append-nil}
 use Rattle.std.proofs.lemmas.List.Folds.{list_all-append}
-use Rattle.tm_word.specs.Words.{Text}
-use Rattle.tm_word.specs.Spelling.{words_of}
-use Rattle.tm_types.specs.declared.entry.LineKind.{LineKind}
-use Rattle.tm_types.specs.declared.request.Ids.{Ids}
-use Rattle.tm_types.specs.declared.request.Item.{Item}
-use Rattle.tm_types.specs.declared.request.TraceKind.{TraceKind}
-use Rattle.tm_types.specs.declared.request.Tree.{Tree}
-use Rattle.tm_word.specs.Texts.{texts_equal, lines_of}
-use Rattle.tm_rules.specs.Transition.{is_domain_name}
-use Rattle.tm_rules.specs.Words.{Trace}
+use Rattle.tm_word.specs.Prelude.{Text, lines_of, texts_equal, words_of, ◌>>=◌}
+use Rattle.tm_rules.specs.Types.{Ids, Item, LineKind, TraceKind, Tree}
+use Rattle.tm_rules.specs.Prelude.{Trace, is_domain_name}
 use Rattle.tm_line.specs.Names.{is_path}
 use Rattle.tm_line.specs.Lines.{word_at}
 use Rattle.tm_line.specs.Arguments.{plain_word}
@@ -23,7 +16,6 @@ use Rattle.tm_line.proofs.Steps.{both, all}
 use Rattle.tm_line.proofs.Steps as steps
 use Rattle.tm_line.proofs.DomainLaws.{to_end_right}
 use Rattle.tm_line.proofs.NumberArgLaws.{plain_read}
-use Rattle.tm_word.specs.Gives.{◌>>=◌}
 use Rattle.tm_trace.specs.Lines.{in_trace}
 use Rattle.tm_line.specs.Lines.{ended}
 use Rattle.tm_trace.specs.Processes.{pid_word, id_at, eight_ids, ids_to_end}
@@ -182,10 +174,6 @@ do_of trees next (Some tree) words fits e =
     let request = bind_ok (request_of pid.0.1) (λ request. done (with_record trees tree (Item.Do pid.0.0 request))) next pid.2 in
     let item : is_item (tree_pids tree) (Item.Do pid.0.0 request.0) ≡ true = all (is_among (tree_pids tree) pid.0.0) (is_trace_request request.0) (process_read tree words pid.0 pid.1) (whole_read pid.0.1 request.0 request.1) in
     fits_as (with_record trees tree (Item.Do pid.0.0 request.0)) next request.2 (with_one trees tree (Item.Do pid.0.0 request.0) fits item (none_made (trace_pids (trees.before ++ tree ∷ []))))
-
--- the last tree is the last of all
-abbrev Last : Trees → Tree → Type 0
-Last trees tree = trees.last ≡ Some tree
 
 item_as : (trees next : Trees) (tree : Tree) (made item : Item) → made ≡ item → done (with_record trees tree item) ≡ done next → Fits (with_record trees tree made) → Fits next
 item_as trees next tree made item is e h = fits_as (with_record trees tree item) next e (subst (λ i. Fits (with_record trees tree i)) is h)

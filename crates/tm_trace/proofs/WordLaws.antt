@@ -5,30 +5,16 @@ use Rattle.std.specs.List.{list_all}
 use Rattle.std.specs.Fmt.{decimal}
 use Rattle.std.proofs.lemmas.Bool.{ltb-true, lt-ltb}
 use Rattle.std.proofs.lemmas.List.Folds.{list_all-append}
-use Rattle.tm_word.specs.Words.{Text, Word}
-use Rattle.tm_word.specs.Spelling.{spell, are_bytes}
-use Rattle.tm_number.specs.declared.Base.{Base}
+use Rattle.tm_word.specs.Prelude.{Text, Word, are_bytes, is_solid, is_word, spell}
+use Rattle.tm_rules.specs.Types.{Args, Attributes, Base, FileKindWord, Ids, Item, NumberUnion, Request, Stat, StatField, StatPlace, Tree}
 use Rattle.tm_number.specs.Numbers.{number, range, spelling}
-use Rattle.tm_types.specs.declared.entry.FileKindWord.{FileKindWord}
-use Rattle.tm_types.specs.declared.entry.StatPlace.{StatPlace}
-use Rattle.tm_types.specs.declared.entry.StatField.{StatField}
-use Rattle.tm_types.specs.declared.entry.Args.{Args}
-use Rattle.tm_types.specs.declared.unions.NumberUnion.{NumberUnion}
-use Rattle.tm_types.specs.declared.request.Attributes.{Attributes}
-use Rattle.tm_types.specs.declared.request.Ids.{Ids}
-use Rattle.tm_types.specs.declared.request.Item.{Item}
-use Rattle.tm_types.specs.declared.request.Request.{Request}
-use Rattle.tm_types.specs.declared.request.Stat.{Stat}
-use Rattle.tm_types.specs.declared.request.Tree.{Tree}
-use Rattle.tm_rules.specs.Requests.{bytes_if, is_stat}
-use Rattle.tm_rules.specs.Transition.{is_domain_name}
+use Rattle.tm_rules.specs.Prelude.{bytes_if, is_domain_name, is_stat}
 use Rattle.tm_line.specs.Names.{is_path}
 use Rattle.tm_entry.specs.Attributes.{field_text, kind_text, place_text, attr_text}
 use Rattle.tm_entry.specs.Written.{is_name_byte}
 use Rattle.tm_entry.proofs.LeftLaws.{name_bytes}
 use Rattle.tm_line.specs.DomainWords.{domain_parts, ends_domain}
 use Rattle.tm_line.specs.Printing.{number_spelling}
-use Rattle.tm_word.specs.Texts.{is_solid, is_word}
 use Rattle.tm_line.proofs.Steps.{both, all}
 use Rattle.tm_line.proofs.WholeLaws.{solid_append, word_from, spell_solid, parts_are}
 use Rattle.tm_line.proofs.WholeLaws as whole

@@ -1,23 +1,10 @@
 -- The attributes of a request: words `NAME=VALUE` after it, in any order.
 use Rattle.std.specs.Prelude.{ℕ, ◌+◌, ◌*◌, ◌==◌, nat_lt, ◌&&◌, ◌||◌, not, Bool, if◌then◌else◌, List, [], ◌∷◌, ◌++◌, take, drop, codes, Option, Some, None, is_some, Result, Ok, Err}
 use Rattle.std.specs.List.{position, list_any}
-use Rattle.tm_word.specs.Words.{Text, Word}
-use Rattle.tm_word.specs.Matching.{is_empty}
+use Rattle.tm_word.specs.Prelude.{Text, Word, is_empty, spelled_word, texts_equal, ◌>>=◌}
 use Rattle.tm_number.specs.Numbers.{number_of}
-use Rattle.tm_word.specs.Spelling.{spelled_word}
-use Rattle.tm_types.specs.declared.entry.Args.{Args}
-use Rattle.tm_types.specs.declared.entry.Attr.{Attr}
-use Rattle.tm_types.specs.declared.entry.LineKind.{LineKind}
-use Rattle.tm_types.specs.declared.entry.StatPlace.{StatPlace}
-use Rattle.tm_types.specs.declared.entry.StatField.{StatField}
-use Rattle.tm_types.specs.declared.request.Attributes.{Attributes}
-use Rattle.tm_types.specs.declared.request.Stat.{Stat}
-use Rattle.tm_types.specs.declared.request.Request.{Request}
-use Rattle.tm_types.specs.Request.{no_attributes}
-use Rattle.tm_word.specs.Texts.{texts_equal}
-use Rattle.tm_rules.specs.Condition.{is_execute}
-use Rattle.tm_rules.specs.Requests.{is_symlink, may_have}
-use Rattle.tm_word.specs.Gives.{◌>>=◌}
+use Rattle.tm_rules.specs.Types.{Args, Attr, Attributes, LineKind, Request, Stat, StatField, StatPlace, no_attributes}
+use Rattle.tm_rules.specs.Prelude.{is_execute, is_symlink, may_have}
 use Rattle.tm_line.specs.Arguments.{kinded}
 use Rattle.tm_entry.specs.Attributes.{or_wrong, quoted, kind_word, attr_word}
 

@@ -1,9 +1,7 @@
 -- Reading a line of a trace, word by word, up to the first word at which it can't go on: the kind
 -- of fault that stands there is the line's.
 use Rattle.std.specs.Prelude.{ℕ, Option, Some, None, Result, Ok, Err}
-use Rattle.tm_types.specs.declared.entry.LineKind.{LineKind}
-use Rattle.tm_types.specs.declared.request.TraceKind.{TraceKind}
-use Rattle.tm_types.specs.declared.request.TraceFault.{TraceFault}
+use Rattle.tm_rules.specs.Types.{LineKind, TraceFault, TraceKind}
 
 -- the line and the kind of a fault; want of memory has none
 abbrev pub trace_cause : TraceFault → Option (ℕ × TraceKind)

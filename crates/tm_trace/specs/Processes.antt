@@ -1,10 +1,8 @@
 -- Pids and ids.
 use Rattle.std.specs.Prelude.{ℕ, ◌^◌, ◌==◌, if◌then◌else◌, List, Result, Ok, Err}
-use Rattle.tm_word.specs.Words.{Text}
-use Rattle.tm_types.specs.declared.entry.LineKind.{LineKind}
-use Rattle.tm_types.specs.declared.request.Ids.{Ids}
+use Rattle.tm_word.specs.Prelude.{Text, ◌>>=◌}
+use Rattle.tm_rules.specs.Types.{Ids, LineKind}
 use Rattle.tm_line.specs.Lines.{ended, word_at}
-use Rattle.tm_word.specs.Gives.{◌>>=◌}
 use Rattle.tm_line.specs.Arguments.{plain_word}
 
 -- a pid isn't 0

@@ -1,21 +1,13 @@
 -- The lines of a trace: what reading gives, or the first faulty line and the kind of its fault.
 use Rattle.std.specs.Prelude.{ℕ, suc, ◌-◌, ◌==◌, if◌then◌else◌, Bool, false, List, [], ◌∷◌, codes, Option, Some, None, Result, Ok, Err}
-use Rattle.tm_word.specs.Words.{Text}
-use Rattle.tm_word.specs.Spelling.{words_of}
-use Rattle.tm_types.specs.declared.entry.Args.{Args}
-use Rattle.tm_types.specs.declared.request.Item.{Item}
-use Rattle.tm_types.specs.declared.request.Request.{Request}
-use Rattle.tm_types.specs.declared.request.TraceKind.{TraceKind}
-use Rattle.tm_types.specs.declared.request.Tree.{Tree}
-use Rattle.tm_rules.specs.Words.{Trace}
-use Rattle.tm_word.specs.Texts.{texts_equal, lines_of}
+use Rattle.tm_word.specs.Prelude.{Text, lines_of, texts_equal, words_of, ◌>>=◌}
+use Rattle.tm_rules.specs.Types.{Args, Item, Request, TraceKind, Tree, no_attributes}
+use Rattle.tm_rules.specs.Prelude.{Trace}
 use Rattle.tm_line.specs.Lines.{word_at}
 use Rattle.tm_line.specs.Domains.{domain_to_end}
-use Rattle.tm_word.specs.Gives.{◌>>=◌}
 use Rattle.tm_trace.specs.Lines.{in_trace}
 use Rattle.tm_line.specs.Lines.{ended}
 use Rattle.tm_trace.specs.Requests.{request_line}
-use Rattle.tm_types.specs.Request.{no_attributes}
 use Rattle.tm_trace.specs.Attributes.{request, attributes_from}
 use Rattle.tm_trace.specs.Processes.{pid_word, ids_to_end}
 use Rattle.tm_trace.specs.Trees.{tree_pids, trace_pids, is_among, Trees, no_trees, all_trees, new_tree, with_tree, with_record}

@@ -2,21 +2,14 @@
 -- single address. A wrong word is never an unfinished one.
 use Rattle.std.specs.Prelude.{ℕ, ◌==◌, ◌&&◌, not, if◌then◌else◌, List, [], ◌∷◌, codes, Option, Some, None, Result, Ok, Err}
 use Rattle.std.specs.List.{position}
-use Rattle.tm_word.specs.Words.{Text, Pattern}
-use Rattle.tm_word.specs.Printing.{literal}
+use Rattle.tm_word.specs.Prelude.{Pattern, Text, begins_with_byte, literal, texts_equal, ◌>>=◌}
 use Rattle.tm_number.specs.Numbers.{number_of}
 use Rattle.tm_number.specs.Numbers as numbers
 use Rattle.tm_addr.specs.Reading.{addr_of}
 use Rattle.tm_addr.specs.Reading as addresses
-use Rattle.tm_types.specs.declared.entry.Args.{Args}
-use Rattle.tm_types.specs.declared.entry.LineKind.{LineKind}
-use Rattle.tm_types.specs.declared.unions.NameUnion.{NameUnion}
-use Rattle.tm_types.specs.declared.unions.NumberUnion.{NumberUnion}
-use Rattle.tm_types.specs.declared.unions.AddrUnion.{AddrUnion}
-use Rattle.tm_word.specs.Texts.{texts_equal, begins_with_byte}
+use Rattle.tm_rules.specs.Types.{AddrUnion, Args, LineKind, NameUnion, NumberUnion}
 use Rattle.tm_line.specs.declared.permissions.Row.{Row}
 use Rattle.tm_line.specs.Lines.{word_at}
-use Rattle.tm_word.specs.Gives.{◌>>=◌}
 use Rattle.tm_line.specs.Permissions.{names}
 use Rattle.tm_line.specs.Arguments.{kinded, group_word}
 use Rattle.tm_line.specs.Domains.{domain_at}

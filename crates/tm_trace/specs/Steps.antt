@@ -2,18 +2,10 @@
 use Rattle.std.specs.Prelude.{◌≡◌, ℕ, ◌||◌, List, [], ◌∷◌, Option, Some, None, Result, Ok, Err}
 use Rattle.std.specs.Ordering.{nat_cmp}
 use Rattle.std.specs.BTreeSet.{BTreeSet, contains}
-use Rattle.tm_word.specs.Words.{Text}
-use Rattle.tm_word.specs.Gives.{◌>>=◌}
-use Rattle.tm_types.specs.declared.entry.Args.{Args}
-use Rattle.tm_types.specs.declared.request.Item.{Item}
-use Rattle.tm_types.specs.declared.request.Request.{Request}
-use Rattle.tm_types.specs.declared.request.TraceFault.{TraceFault}
-use Rattle.tm_types.specs.declared.request.TraceKind.{TraceKind}
-use Rattle.tm_types.specs.declared.request.Tree.{Tree}
-use Rattle.tm_types.specs.declared.step.LineFault.{LineFault}
+use Rattle.tm_word.specs.Prelude.{Text, ◌>>=◌}
+use Rattle.tm_rules.specs.Types.{Args, Item, LineFault, Request, TraceFault, TraceKind, Tree, no_attributes}
 use Rattle.tm_trace.specs.declared.faults.StepFault.{StepFault}
 use Rattle.tm_trace.specs.Lines.{fault_of, in_trace}
-use Rattle.tm_types.specs.Request.{no_attributes}
 use Rattle.tm_trace.specs.Attributes.{request, attributes_from}
 use Rattle.tm_trace.specs.Trees.{is_among, tree_pids, Trees, with_record}
 use Rattle.tm_trace.specs.Reading.{process_at}

@@ -2,15 +2,9 @@
 use Rattle.std.specs.Prelude.{◌≡◌, ℕ, ◌^◌, ◌==◌, nat_lt, Bool, true, ◌&&◌, not, List, [], ◌∷◌, ◌++◌}
 use Rattle.std.specs.Bool.{IsTrue}
 use Rattle.std.specs.List.{list_all, AllByRecursion, IsDistinct}
-use Rattle.tm_word.specs.Words.{Word}
-use Rattle.tm_types.specs.declared.request.Ids.{Ids}
-use Rattle.tm_types.specs.declared.request.Item.{Item}
-use Rattle.tm_types.specs.declared.request.Request.{Request}
-use Rattle.tm_types.specs.declared.request.Stat.{Stat}
-use Rattle.tm_types.specs.declared.request.Tree.{Tree}
-use Rattle.tm_rules.specs.Requests.{is_request}
-use Rattle.tm_rules.specs.Transition.{is_domain_name}
-use Rattle.tm_rules.specs.Words.{Trace}
+use Rattle.tm_word.specs.Prelude.{Word}
+use Rattle.tm_rules.specs.Types.{Ids, Item, Request, Stat, Tree}
+use Rattle.tm_rules.specs.Prelude.{Trace, is_domain_name, is_request}
 use Rattle.tm_line.specs.Names.{is_path}
 use Rattle.tm_entry.specs.Written.{is_name_byte, has_field, has_type}
 use Rattle.tm_trace.specs.Attributes.{stat_rank, has_name}

@@ -1,9 +1,9 @@
 //! Reading the attributes of a request: words `NAME=VALUE` in any order.
 ghost use Rattle.std.specs.Prelude.{◌≡◌, ◌==◌};
 ghost use Rattle.std.specs.List.{position};
-ghost use Rattle.tm_word.specs.Gives.{Gives, GivesNow};
+ghost use Rattle.tm_word.specs.Prelude.{Gives, GivesNow};
 ghost use Rattle.tm_line.specs.Lines.{line_cause};
-ghost use Rattle.tm_types.specs.Request.{no_attributes};
+ghost use Rattle.tm_rules.specs.Types.{no_attributes};
 ghost use Rattle.tm_trace.specs.Attributes.{executes, links, quoted_word, value_word, has_name, with_argument, with_real_path, with_name, with_target, with_stat, with_attribute, with_sides, with_word, is_complete, attributes_from};
 
 use crate::stat::{has_stat, may_have, put_stat};
@@ -65,8 +65,8 @@ fn value_word(text: &[u8]) -> Result<u64, LineFault>
     }
 }
 
-// Whether the environment has this name.
-fn has_name(name: &Word, envp: &[(Word, Word)]) -> bool
+/// Whether an environment has this name. Takes no memory.
+pub fn has_name(name: &Word, envp: &[(Word, Word)]) -> bool
     ensures { result ≡ has_name name.now envp.now }
 {
     for (other, _) in envp {

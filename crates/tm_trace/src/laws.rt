@@ -1,16 +1,11 @@
 //! Laws of traces: what is printed is read again, and what is read can be asked.
 ghost use Rattle.std.specs.Prelude.{◌≡◌, ◌<◌, ◌++◌, ℕ, true, List, length, Ok, IsSome};
 ghost use Rattle.std.specs.List.{list_all};
-ghost use Rattle.tm_word.specs.Words.{Text, Word};
-ghost use Rattle.tm_word.specs.Spelling.{words_of, joined};
-ghost use Rattle.tm_types.specs.declared.request.Request.{Request};
-ghost use Rattle.tm_rules.specs.Condition.{is_execute};
-ghost use Rattle.tm_rules.specs.Learned.{learned_line};
-ghost use Rattle.tm_rules.specs.Words.{Trace};
-ghost use Rattle.tm_rules.specs.Requests.{is_path_word, is_request, item_is_request};
+ghost use Rattle.tm_word.specs.Prelude.{Text, Word, is_word, joined, words_of};
+ghost use Rattle.tm_rules.specs.Types.{Request};
+ghost use Rattle.tm_rules.specs.Prelude.{Trace, is_execute, is_path_word, is_request, item_is_request, learned_line};
 ghost use Rattle.tm_line.specs.Names.{is_path};
 ghost use Rattle.tm_line.specs.DomainWords.{ends_domain};
-ghost use Rattle.tm_word.specs.Texts.{is_word};
 ghost use Rattle.tm_entry.specs.Entries.{is_entry};
 ghost use Rattle.tm_trace.specs.Printing.{request_words, request_text, attribute_words, attributes_text, trace_text};
 ghost use Rattle.tm_trace.specs.Reading.{request_at, request_of, trace_of, tree_line_at};

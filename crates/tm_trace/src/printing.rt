@@ -3,9 +3,9 @@ ghost use Rattle.std.specs.Prelude.{◌≡◌, ◌++◌, [], ◌∷◌, nat_lt, 
 ghost use Rattle.std.specs.List.{flat_map};
 ghost use Rattle.std.specs.Fmt.{decimal};
 ghost use Rattle.std.specs.Option.{option_copied};
-ghost use Rattle.tm_word.specs.Spelling.{joined};
-ghost use Rattle.tm_types.specs.declared.request.Item.{Item};
-ghost use Rattle.tm_rules.specs.Policy.{permission};
+ghost use Rattle.tm_word.specs.Prelude.{joined};
+ghost use Rattle.tm_rules.specs.Types.{Item};
+ghost use Rattle.tm_rules.specs.Prelude.{permission};
 ghost use Rattle.tm_line.specs.Lines.{spaced};
 ghost use Rattle.tm_entry.specs.Attributes.{attr_text};
 ghost use Rattle.tm_trace.specs.Named.{named_text};

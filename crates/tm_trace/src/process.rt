@@ -1,7 +1,6 @@
 //! Pids and ids.
 ghost use Rattle.std.specs.Prelude.{◌≡◌, ◌^◌};
-ghost use Rattle.tm_word.specs.Gives.{GivesNow};
-ghost use Rattle.tm_word.specs.Spelling.{words_of};
+ghost use Rattle.tm_word.specs.Prelude.{GivesNow, words_of};
 ghost use Rattle.tm_line.specs.Lines.{ended, line_cause, word_at};
 ghost use Rattle.tm_trace.specs.Processes.{pid_word, id_at, ids_to_end};
 

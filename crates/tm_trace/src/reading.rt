@@ -1,8 +1,7 @@
 //! Reading traces, line by line.
 ghost use Rattle.std.specs.Prelude.{◌≡◌, [], ◌++◌, Ok, IfOk, option_to_list};
-ghost use Rattle.tm_word.specs.Spelling.{words_of};
-ghost use Rattle.tm_types.specs.declared.request.Item.{Item};
-ghost use Rattle.tm_word.specs.Gives.{Gives, GivesNow};
+ghost use Rattle.tm_word.specs.Prelude.{Gives, GivesNow, words_of};
+ghost use Rattle.tm_rules.specs.Types.{Item};
 ghost use Rattle.tm_trace.specs.Attributes.{request};
 ghost use Rattle.tm_trace.specs.Lines.{trace_cause};
 ghost use Rattle.tm_trace.specs.Trees.{made_by, new_tree, with_tree, no_trees, all_trees, with_item};

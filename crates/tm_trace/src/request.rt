@@ -1,8 +1,7 @@
 //! Reading requests: an ACL line with one permission, literal names, single numbers and a single
 //! address.
 ghost use Rattle.std.specs.Prelude.{◌≡◌, Some, None, IfSome, MatchOption};
-ghost use Rattle.tm_word.specs.Spelling.{words_of};
-ghost use Rattle.tm_word.specs.Gives.{Gives, GivesNow};
+ghost use Rattle.tm_word.specs.Prelude.{Gives, GivesNow, words_of};
 ghost use Rattle.tm_line.specs.Lines.{line_cause, word_at};
 ghost use Rattle.tm_entry.specs.FileLines.{row_of};
 ghost use Rattle.tm_entry.specs.NetLines.{inet_kind, unix_kind};
@@ -18,8 +17,9 @@ use tm_types::step::LineFault;
 use tm_types::unions::{AddrUnion, NameUnion, NumberUnion};
 use tm_word::{Pattern, Text, bytes_equal, cut_word, has_byte};
 
-// The words after this one.
-fn only_at<'a>(keyword: &[u8], words: &'a [Text]) -> Result<&'a [Text], LineFault>
+/// The words after this one, which has to stand next. Errors: `Arity` where no word is left,
+/// `Keyword`. Takes no memory.
+pub fn only_at<'a>(keyword: &[u8], words: &'a [Text]) -> Result<&'a [Text], LineFault>
     ensures { GivesNow line_cause (λ rest. rest.now) result (only_at keyword.now words.now) }
 {
     match words {

@@ -2,13 +2,10 @@
 use Rattle.std.proofs.Common.{◌≡◌, ℕ, List, [], ◌∷◌, ◌++◌, refl, ap, append-nil}
 use Rattle.std.specs.Prelude.{codes}
 use Rattle.std.specs.Fmt.{decimal}
-use Rattle.tm_word.specs.Words.{Text}
-use Rattle.tm_word.specs.Spelling.{joined, spell}
-use Rattle.tm_word.specs.Printing.{spelled_pattern}
+use Rattle.tm_word.specs.Prelude.{Text, joined, spell, spelled_pattern}
 use Rattle.tm_line.specs.Lines.{spaced}
 use Rattle.tm_line.specs.Namespaces.{line_text}
-use Rattle.tm_types.specs.declared.policy.ExceptRule.{ExceptRule}
-use Rattle.tm_types.specs.declared.entry.Entry.{Entry}
+use Rattle.tm_rules.specs.Types.{Entry, ExceptRule}
 use Rattle.tm_entry.specs.Entries.{entry_words}
 use Rattle.tm_policy_line.specs.Printing.{printed_line, group_line_words, acl_group_words}
 use Rattle.tm_except.specs.Printing.{line_words, rule_words, range_text, addr_range_text, kind_text, program_text, domain_words, path_group_words, number_group_words, address_group_words, aggregator_words, control_words}

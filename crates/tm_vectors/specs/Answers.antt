@@ -2,21 +2,11 @@
 -- patterns and controls.
 use Rattle.std.specs.Prelude.{Bool, true, false, List, [], ◌∷◌, codes, Option, Some, None, is_some, option_map, option_and_then, unwrap_or}
 use Rattle.std.specs.Result.{result_ok}
-use Rattle.tm_word.specs.Words.{Text}
-use Rattle.tm_word.specs.Texts.{pieces}
-use Rattle.tm_word.specs.Spelling.{joined, spelled_word}
-use Rattle.tm_word.specs.Matching.{matches}
+use Rattle.tm_word.specs.Prelude.{Text, joined, matches, pieces, spelled_word}
 use Rattle.tm_pattern.specs.Reading.{pattern_of}
-use Rattle.tm_types.specs.declared.policy.Control.{Control}
-use Rattle.tm_types.specs.declared.entry.Entry.{Entry}
-use Rattle.tm_types.specs.declared.policy.DomainRule.{DomainRule}
-use Rattle.tm_types.specs.declared.policy.ExceptRule.{ExceptRule}
-use Rattle.tm_types.specs.declared.policy.GroupLine.{GroupLine}
-use Rattle.tm_types.specs.declared.policy.Namespace.{Namespace}
-use Rattle.tm_types.specs.declared.policy.PolicyLine.{PolicyLine}
-use Rattle.tm_types.specs.declared.step.FileKind.{FileKind}
-use Rattle.tm_rules.specs.Words.{DomainName}
-use Rattle.tm_rules.specs.Transition.{By_control, control_kind, target_name}
+use Rattle.tm_rules.specs.Types.{Control, DomainRule, Entry, ExceptRule, FileKind, GroupLine, Namespace, PolicyLine}
+use Rattle.tm_rules.specs.Prelude.{DomainName, control_kind, target_name}
+use Rattle.tm_rules.specs.Transition.{By_control}
 use Rattle.tm_domain.specs.Names.{domain_of}
 use Rattle.tm_entry.specs.Entries.{entry_words}
 use Rattle.tm_except.specs.Printing.{rule_words}

@@ -1,9 +1,7 @@
 -- What is said of a table: the rows that differ, and how many agree.
 use Rattle.std.specs.Prelude.{ℕ, ◌+◌, ◌-◌, ◌==◌, Bool, true, false, if◌then◌else◌, List, [], ◌∷◌, ◌++◌, length, take, slice_get, codes, unwrap_or, decimal}
 use Rattle.std.specs.List.{filter}
-use Rattle.tm_word.specs.Words.{Text}
-use Rattle.tm_word.specs.Spelling.{joined}
-use Rattle.tm_word.specs.Texts.{texts_equal, pieces, lines_of}
+use Rattle.tm_word.specs.Prelude.{Text, joined, lines_of, pieces, texts_equal}
 use Rattle.tm_vectors.specs.declared.table.Table.{Table}
 use Rattle.tm_vectors.specs.declared.rows.Judgement.{Judgement}
 use Rattle.tm_vectors.specs.declared.rows.Judgement.TheVariants.{NoRow, Agrees, Differs}

@@ -1,9 +1,8 @@
 -- What is said of a recorded trace: whether it is read, and printed as it was.
 use Rattle.std.specs.Prelude.{ℕ, if◌then◌else◌, ◌++◌, codes, decimal, Result, Ok, Err}
-use Rattle.tm_word.specs.Words.{Text}
-use Rattle.tm_word.specs.Texts.{texts_equal}
-use Rattle.tm_rules.specs.Words.{Trace}
-use Rattle.tm_types.specs.declared.request.TraceKind.{TraceKind}
+use Rattle.tm_word.specs.Prelude.{Text, texts_equal}
+use Rattle.tm_rules.specs.Prelude.{Trace}
+use Rattle.tm_rules.specs.Types.{TraceKind}
 use Rattle.tm_types.specs.Texts.{trace_text as kind_text}
 use Rattle.tm_trace.specs.Reading.{trace_of}
 use Rattle.tm_trace.specs.Printing.{trace_text}

@@ -1,7 +1,7 @@
 //! Lines of policy files, read and printed again.
 ghost use Rattle.std.specs.Prelude.{◌≡◌, [], ◌∷◌, ◌++◌, ℕ, List, false, IfOk};
 ghost use Rattle.std.specs.Option.{option_copied};
-ghost use Rattle.tm_word.specs.Spelling.{joined};
+ghost use Rattle.tm_word.specs.Prelude.{joined};
 ghost use Rattle.tm_entry.specs.Entries.{entry_words};
 ghost use Rattle.tm_except.specs.Printing.{rule_words};
 ghost use Rattle.tm_vectors.specs.Answers.{said_by, group_rule, added_entry, added_text, entry_text, rule_text, exception_text};

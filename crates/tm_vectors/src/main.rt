@@ -2,9 +2,11 @@
 //! answered, row by row of recorded tables, and reads and prints a recorded boot.
 //! Stands on the crates of patterns, domain names, policy lines and traces; rows of lines with
 //! `\(dir\)`, which neither that kernel nor Linux 6.12 takes, are left out.
+//! Of its own, on readers and printers alone, so that no change of looks or plays proves it anew.
 //! Promises that the report on a text is the defined one: of a table a line for each row whose
 //! recorded answer isn't ours, and how many agree and differ; of a trace whether it is printed as
 //! it was.
+//! Only tested: that our answers agree with the real TOMOYO's, which is what it is for.
 #![tactic(auto)]
 
 mod answers;

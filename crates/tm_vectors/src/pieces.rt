@@ -1,6 +1,6 @@
 //! Texts cut at one byte.
 ghost use Rattle.std.specs.Prelude.{◌≡◌, IfOk};
-ghost use Rattle.tm_word.specs.Texts.{pieces};
+ghost use Rattle.tm_word.specs.Prelude.{pieces};
 
 use std::alloc::Global;
 use tm_list::{NoMemory, Seq};

@@ -1,6 +1,6 @@
 //! Rows of a table, and what is said of those that differ.
 ghost use Rattle.std.specs.Prelude.{◌≡◌, ◌++◌, IfOk, OnOk, decimal};
-ghost use Rattle.tm_word.specs.Texts.{lines_of};
+ghost use Rattle.tm_word.specs.Prelude.{lines_of};
 ghost use Rattle.tm_vectors.specs.Reports.{recorded, question, agreeing, differing, judgement, line_place, both_answers, difference, said, all_said, counts, report};
 
 use crate::answers::answer;

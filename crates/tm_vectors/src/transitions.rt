@@ -1,6 +1,7 @@
 //! Where an execute leads.
 ghost use Rattle.std.specs.Prelude.{◌≡◌, ℕ, List, IfOk, unwrap_or};
-ghost use Rattle.tm_rules.specs.Transition.{By_control, target_name};
+ghost use Rattle.tm_rules.specs.Prelude.{target_name};
+ghost use Rattle.tm_rules.specs.Transition.{By_control};
 ghost use Rattle.tm_domain.specs.Names.{preferred_name};
 ghost use Rattle.tm_vectors.specs.Answers.{control_of, said_control, control_line, controls_of, bar_lines, kernel_with, domain_after};
 

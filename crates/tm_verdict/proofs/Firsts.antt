@@ -3,18 +3,8 @@ use Rattle.std.proofs.Common.{◌≡◌, ℕ, suc, ◌+◌, List, [], ◌∷◌,
 use Rattle.std.specs.Prelude.{Option, Some, None, option_map, unwrap_or, slice_get, flat_map}
 use Rattle.std.specs.List.{AllByRecursion}
 use Rattle.std.specs.Option.{option_or}
-use Rattle.tm_types.specs.declared.unions.NamePlace.{NamePlace}
-use Rattle.tm_types.specs.declared.unions.Groups.{Groups}
-use Rattle.tm_types.specs.declared.entry.Entry.{Entry}
-use Rattle.tm_types.specs.declared.verdict.EntryPlace.{EntryPlace}
-use Rattle.tm_types.specs.declared.policy.Namespace.{Namespace}
-use Rattle.tm_types.specs.declared.policy.Domain.{Domain}
-use Rattle.tm_types.specs.declared.request.Proc.{Proc}
-use Rattle.tm_types.specs.declared.request.Request.{Request}
-use Rattle.tm_rules.specs.Audit.{entry_at}
-use Rattle.tm_rules.specs.Condition.{first_of_all}
-use Rattle.tm_rules.specs.Policy.{at_key}
-use Rattle.tm_rules.specs.Search.{Granting, grants, granting, placed, entries_of, first, searched, found_of}
+use Rattle.tm_rules.specs.Types.{Domain, Entry, EntryPlace, Groups, NamePlace, Namespace, Proc, Request}
+use Rattle.tm_rules.specs.Prelude.{Granting, at_key, entries_of, entry_at, first, first_of_all, found_of, granting, grants, placed, searched}
 use Rattle.tm_verdict.specs.Leading.{granting_at}
 
 All-append : {A : Type 0} (P : A → Type 0) (xs ys : List A) → AllByRecursion P xs → AllByRecursion P ys → AllByRecursion P (xs ++ ys)

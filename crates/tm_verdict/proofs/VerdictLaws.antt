@@ -3,34 +3,12 @@ use Rattle.std.proofs.Common.{◌≡◌, ℕ, ◌<◌, ◌≤◌, Bool, true, fa
 use Rattle.std.specs.Prelude.{Option, Some, None, Result, Ok, Err, IfOk, option_map, is_some, if◌then◌else◌}
 use Rattle.std.specs.Option.{option_and_then}
 use Rattle.std.proofs.lemmas.Option.{slice_get_within}
-use Rattle.tm_word.specs.Words.{Text, Word}
-use Rattle.tm_rules.specs.Words.{DomainName}
-use Rattle.tm_types.specs.declared.entry.Args.{Args}
-use Rattle.tm_types.specs.declared.entry.Entry.{Entry}
-use Rattle.tm_types.specs.declared.entry.InetKind.{InetKind}
-use Rattle.tm_types.specs.declared.entry.UnixKind.{UnixKind}
-use Rattle.tm_types.specs.declared.policy.Function.{Function}
-use Rattle.tm_types.specs.declared.policy.Mode.{Mode}
-use Rattle.tm_types.specs.declared.policy.Namespace.{Namespace}
-use Rattle.tm_types.specs.declared.policy.Domain.{Domain}
-use Rattle.tm_types.specs.declared.policy.Policy.{Policy}
-use Rattle.tm_types.specs.declared.request.Request.{Request}
-use Rattle.tm_types.specs.declared.verdict.Move.{Move}
-use Rattle.tm_types.specs.declared.verdict.Reason.{Reason}
-use Rattle.tm_types.specs.declared.verdict.Verdict.{Verdict}
-use Rattle.tm_types.specs.Functions.{function_of, row_functions}
-use Rattle.tm_types.specs.declared.policy.Profile.{Profile}
-use Rattle.tm_types.specs.declared.request.Proc.{Proc}
-use Rattle.tm_types.specs.declared.verdict.Found.{Found}
+use Rattle.tm_word.specs.Prelude.{Text, Word}
+use Rattle.tm_rules.specs.Prelude.{DomainName, Granting, are_literal, can_enter, candidate, decision, domain_at, first, found_of, is_domain_name, is_execute, is_manual, is_request, learned_line, line_of, namespace_of, profile_of}
+use Rattle.tm_rules.specs.Types.{Args, Domain, Entry, Found, Function, InetKind, Mode, Move, Namespace, Policy, Proc, Profile, Reason, Request, UnixKind, Verdict, function_of, row_functions}
 use Rattle.tm_rules.proofs.EqualityLaws.{both}
-use Rattle.tm_rules.specs.Policy.{domain_at, profile_of, namespace_of}
-use Rattle.tm_rules.specs.Requests.{is_request, are_literal}
-use Rattle.tm_rules.specs.Condition.{is_execute, is_manual}
-use Rattle.tm_rules.specs.Learned.{learned_line, line_of}
 use Rattle.tm_rep.specs.Standing.{Standing, StandsIn}
-use Rattle.tm_rules.specs.Search.{Granting, first, found_of}
-use Rattle.tm_rules.specs.Transition.{candidate, decision, is_domain_name, can_enter}
-use Rattle.tm_legal.specs.Verdict.{is_enforcing, made, denied, by_entry, by_mode, move_to, manual_verdict, execute_verdict, verdict_in, verdict}
+use Rattle.tm_legal.specs.Prelude.{by_entry, by_mode, denied, execute_verdict, is_enforcing, made, manual_verdict, move_to, verdict, verdict_in}
 use Rattle.tm_verdict.specs.declared.targets.Way.{Way}
 use Rattle.tm_verdict.specs.Leading.{granting_at, way_to, way_by}
 use Rattle.tm_verdict.specs.Bare.{bare_of, completed}

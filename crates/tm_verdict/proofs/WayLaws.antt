@@ -2,17 +2,10 @@
 use Rattle.std.proofs.Common.{◌≡◌, ℕ, ◌+◌, List, [], ◌∷◌, Bool, true, false, ◌&&◌, refl, sym, ap, ◌∙◌}
 use Rattle.std.specs.Prelude.{Option, Some, None, Ok, Err}
 use Rattle.std.specs.List.{AllByRecursion, position_from}
-use Rattle.tm_word.specs.Words.{Text}
-use Rattle.tm_word.specs.Texts.{texts_equal}
-use Rattle.tm_rules.specs.Words.{DomainName}
-use Rattle.tm_types.specs.declared.policy.Domain.{Domain}
-use Rattle.tm_types.specs.declared.policy.Policy.{Policy}
-use Rattle.tm_types.specs.declared.verdict.Move.{Move}
-use Rattle.tm_rules.specs.Policy.{live_domain, namespace_word}
-use Rattle.tm_rules.specs.Transition.{is_domain_name, can_enter}
-use Rattle.tm_legal.specs.Verdict.{made, move_to}
-use Rattle.tm_legal.specs.Play.{IsNamed}
-use Rattle.tm_word.specs.Gives.{Fails}
+use Rattle.tm_word.specs.Prelude.{Fails, Text, texts_equal}
+use Rattle.tm_rules.specs.Prelude.{DomainName, can_enter, is_domain_name, live_domain, namespace_word}
+use Rattle.tm_rules.specs.Types.{Domain, Move, Policy}
+use Rattle.tm_legal.specs.Prelude.{IsNamed, made, move_to}
 use Rattle.tm_domain.specs.declared.DomainFault.{DomainFault}
 use Rattle.tm_domain.specs.declared.DomainFault.TheVariants.{NoMemory, NoNamespace, BadPath, TooLong}
 use Rattle.tm_domain.specs.Names.{domain_cause, domain_of, is_path, is_read}

@@ -1,11 +1,7 @@
 -- Bare verdicts: what a verdict is but for its line.
 use Rattle.std.specs.Prelude.{Bool, true, false, Option, Some, None, if◌then◌else◌}
-use Rattle.tm_types.specs.declared.entry.Entry.{Entry}
-use Rattle.tm_types.specs.declared.policy.Namespace.{Namespace}
-use Rattle.tm_types.specs.declared.request.Request.{Request}
-use Rattle.tm_types.specs.declared.verdict.Reason.{Reason}
-use Rattle.tm_types.specs.declared.verdict.Verdict.{Verdict}
-use Rattle.tm_rules.specs.Learned.{line_of}
+use Rattle.tm_rules.specs.Types.{Entry, Namespace, Reason, Request, Verdict}
+use Rattle.tm_rules.specs.Prelude.{line_of}
 use Rattle.tm_verdict.specs.declared.targets.BareVerdict.{BareVerdict}
 
 -- a verdict without its line

@@ -1,15 +1,9 @@
 -- What a search's answer tells, and where a decision leads.
 use Rattle.std.specs.Prelude.{Bool, Option, Some, None, option_map}
-use Rattle.tm_word.specs.Words.{Text}
-use Rattle.tm_rules.specs.Words.{DomainName}
-use Rattle.tm_types.specs.declared.policy.Namespace.{Namespace}
-use Rattle.tm_types.specs.declared.policy.Domain.{Domain}
-use Rattle.tm_types.specs.declared.policy.Policy.{Policy}
-use Rattle.tm_types.specs.declared.verdict.Found.{Found}
-use Rattle.tm_rules.specs.Audit.{entry_at}
-use Rattle.tm_rules.specs.Search.{Granting}
-use Rattle.tm_rules.specs.Transition.{Decision, target_name, is_strict}
-use Rattle.tm_legal.specs.Verdict.{made, move_to, is_ready}
+use Rattle.tm_word.specs.Prelude.{Text}
+use Rattle.tm_rules.specs.Prelude.{Decision, DomainName, Granting, entry_at, is_strict, target_name}
+use Rattle.tm_rules.specs.Types.{Domain, Found, Namespace, Policy}
+use Rattle.tm_legal.specs.Prelude.{is_ready, made, move_to}
 use Rattle.tm_verdict.specs.declared.targets.Way.{Way}
 
 -- the entry that a search found, by its place

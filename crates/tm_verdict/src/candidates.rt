@@ -1,11 +1,8 @@
 //! What a search tells of the entry that grants, and the candidate of an execute.
 ghost use Rattle.std.specs.Prelude.{◌≡◌, true, IfOk};
 ghost use Rattle.std.specs.Option.{option_copied};
-ghost use Rattle.tm_word.specs.Spelling.{spell};
-ghost use Rattle.tm_word.specs.Printing.{spelled_pattern};
-ghost use Rattle.tm_rules.specs.Condition.{is_execute};
-ghost use Rattle.tm_rules.specs.Search.{found_of, union_name, written_name, preference};
-ghost use Rattle.tm_rules.specs.Transition.{candidate};
+ghost use Rattle.tm_word.specs.Prelude.{spell, spelled_pattern};
+ghost use Rattle.tm_rules.specs.Prelude.{candidate, found_of, is_execute, preference, union_name, written_name};
 ghost use Rattle.tm_verdict.specs.Leading.{granting_at};
 
 use std::alloc::Global;
@@ -30,7 +27,7 @@ pub(crate) struct Granting<'a> {
 }
 
 impl<'a> Model for Granting<'a> {
-    ghost use Rattle.tm_rules.specs.Search.{Granting};
+    ghost use Rattle.tm_rules.specs.Prelude.{Granting};
 
     ghost Value = { Granting };
 

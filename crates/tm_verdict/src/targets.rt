@@ -1,12 +1,10 @@
 //! Where an execute or a manual transition leads.
 ghost use Rattle.std.specs.Prelude.{◌≡◌, true, false, Some, None, IfOk};
-ghost use Rattle.tm_word.specs.Words.{Text};
-ghost use Rattle.tm_word.specs.Gives.{Gives};
+ghost use Rattle.tm_word.specs.Prelude.{Gives, Text};
 ghost use Rattle.tm_domain.specs.Names.{domain_cause, domain_of, is_path};
-ghost use Rattle.tm_rules.specs.Few.{IsFew};
-ghost use Rattle.tm_rules.specs.Condition.{is_execute};
-ghost use Rattle.tm_rules.specs.Transition.{By_preference, By_control, candidate, decision, is_domain_name};
-ghost use Rattle.tm_legal.specs.Play.{IsNamed};
+ghost use Rattle.tm_rules.specs.Prelude.{IsFew, candidate, decision, is_domain_name, is_execute};
+ghost use Rattle.tm_rules.specs.Transition.{By_preference, By_control};
+ghost use Rattle.tm_legal.specs.Prelude.{IsNamed};
 ghost use Rattle.tm_verdict.specs.Leading.{way_to, way_by};
 
 use crate::candidates::{Access, candidate};

@@ -1,21 +1,11 @@
 //! The verdict on one request.
 ghost use Rattle.std.specs.Prelude.{◌≡◌, ◌<◌, not, ◌&&◌, ◌||◌, true, None, Some, IfOk, option_map};
-ghost use Rattle.tm_types.specs.Functions.{function_of};
-ghost use Rattle.tm_rules.specs.Mode.{mode_of};
-ghost use Rattle.tm_types.specs.declared.request.Proc.{Proc};
+ghost use Rattle.tm_rules.specs.Types.{Entry, Proc, function_of};
+ghost use Rattle.tm_rules.specs.Prelude.{IsFew, first, is_domain_name, is_execute, is_request, line_of, mode_of, namespace_of};
 ghost use Rattle.tm_domain.specs.Names.{is_path};
 ghost use Rattle.tm_rep.specs.Tomoyo.{tomoyo_grammar};
 ghost use Rattle.tm_rep.specs.Standing.{StandsIn};
-ghost use Rattle.tm_rules.specs.Few.{IsFew};
-ghost use Rattle.tm_rules.specs.Condition.{is_execute};
-ghost use Rattle.tm_types.specs.declared.entry.Entry.{Entry};
-ghost use Rattle.tm_rules.specs.Learned.{line_of};
-ghost use Rattle.tm_rules.specs.Policy.{namespace_of};
-ghost use Rattle.tm_rules.specs.Requests.{is_request};
-ghost use Rattle.tm_rules.specs.Search.{first};
-ghost use Rattle.tm_rules.specs.Transition.{is_domain_name};
-ghost use Rattle.tm_legal.specs.Play.{IsNamed};
-ghost use Rattle.tm_legal.specs.Verdict.{is_enforcing, made, moving, denied, by_entry, by_mode, in_mode, manual_verdict, execute_verdict, verdict_in, verdict};
+ghost use Rattle.tm_legal.specs.Prelude.{IsNamed, by_entry, by_mode, denied, execute_verdict, in_mode, is_enforcing, made, manual_verdict, moving, verdict, verdict_in};
 ghost use Rattle.tm_verdict.specs.Bare.{bare_of, completed, with_line_of};
 
 use crate::candidates::{Access, Granting, found_entry};

@@ -2,21 +2,17 @@
 use Rattle.std.proofs.Common.{◌≡◌, ℕ, suc, List, [], ◌∷◌, length, map, take, drop, true, sym, ap, subst, ◌∙◌}
 use Rattle.std.specs.List.{AllByRecursion, list_all}
 use Rattle.std.proofs.lemmas.Bool.{and_parts}
-use Rattle.tm_types.specs.declared.policy.Policy.{Policy}
-use Rattle.tm_types.specs.declared.request.Item.{Item}
-use Rattle.tm_types.specs.declared.step.Look.{Look}
-use Rattle.tm_types.specs.declared.step.Take.{Take}
-use Rattle.tm_rules.specs.Words.{Trace}
-use Rattle.tm_rules.specs.Requests.{is_request, item_is_request}
+use Rattle.tm_rules.specs.Types.{Item, Look, Policy, Take}
+use Rattle.tm_rules.specs.Prelude.{Trace, is_request, item_is_request}
 use Rattle.tm_core.specs.Tomoyo.{tomoyo_grammar}
-use Rattle.tm_legal.specs.Run.{Situations, with_situation, with_ids, forked, after_take, at_start, Case, tree_cases, cases_from, cases, do_pids}
+use Rattle.tm_legal.specs.Prelude.{Case, Situations, after_take, at_start, cases, cases_from, cases_of, do_pids, forked, tree_cases, with_ids, with_situation}
 use Rattle.tm_legal.proofs.Asked.{All-append}
-use Rattle.tm_legal.specs.Legal.{cases_of}
 use Rattle.tm_verify_notes.specs.declared.given.Given.{Given}
 use Rattle.tm_verify_notes.specs.declared.notes.LookNote.{LookNote}
 use Rattle.tm_verify_notes.specs.declared.notes.PartNote.{PartNote}
 use Rattle.tm_verify_notes.specs.Given.{scene_of, history_of, run_of}
-use Rattle.tm_verify_notes.specs.Noting.{Asks, LookOn, looks_on, all_looks, EachWith, IsPartNote, IsLookNote}
+use Rattle.tm_take.specs.Each.{EachWith}
+use Rattle.tm_verify_notes.specs.Noting.{Asks, LookOn, looks_on, all_looks, IsPartNote, IsLookNote}
 use Rattle.tm_verify_notes.specs.Sums.{Completes}
 use Rattle.tm_verify_notes.proofs.SumLaws.{completed_notes}
 use Rattle.tm_verify.specs.Asking.{IsAsking}

@@ -1,30 +1,20 @@
 -- A machine that makes given steps one after another.
-use Rattle.std.proofs.Common.{◌≡◌, ◌+◌, ℕ, Bool, true, false, List, [], ◌∷◌, ◌++◌, length, take, Option, Some, None, refl, sym, ap, ◌∙◌, subst, arith}
+use Rattle.std.proofs.Common.{◌≡◌, ◌+◌, ℕ, false, List, [], ◌∷◌, ◌++◌, length, take, Option, Some, None, refl, sym, ap, ◌∙◌, subst, arith}
 use Rattle.std.specs.Prelude.{slice_get, is_some, ◌↔◌}
 use Rattle.std.proofs.lemmas.Option.{slice_get_within, get_or_from_slice_get}
 use Rattle.std.proofs.lemmas.List.{take_more, take_all, append_assoc, append-nil}
-use Rattle.tm_types.specs.declared.step.Step.{Step}
-use Rattle.tm_types.specs.declared.step.Reply.{Reply}
-use Rattle.tm_types.specs.declared.step.Book.{Book}
-use Rattle.tm_types.specs.declared.policy.Policy.{Policy}
-use Rattle.tm_types.specs.declared.step.Editor.{Editor}
-use Rattle.tm_rules.specs.Queries.{first_query}
+use Rattle.tm_rules.specs.Types.{Reply, Step}
 use Rattle.tm_core.specs.Tomoyo.{tomoyo_grammar}
 use Rattle.tm_core.proofs.IsOne.{is_one}
-use Rattle.tm_legal.specs.Steps.{State, apply, after}
-use Rattle.tm_legal.specs.Run.{History}
-use Rattle.tm_legal.specs.Legal.{Scene, opening_of}
-use Rattle.tm_core.specs.Machine.{Course, course_from}
-use Rattle.tm_legal.specs.Play.{IsNamed}
+use Rattle.tm_legal.specs.Prelude.{History, IsNamed, Scene, State, apply, newest}
 use Rattle.tm_legal.proofs.Named.{step_keeps_names}
-use Rattle.tm_verify_laws.specs.Desk.{state_after}
 use Rattle.tm_verify_laws.proofs.Stays.{state_more}
 use Rattle.tm_verify_laws.proofs.Unfit.{unfit_leaves}
 use Rattle.tm_verify_notes.specs.declared.given.Given.{Given}
 use Rattle.tm_verify_notes.specs.declared.steps.StepNote.{StepNote}
 use Rattle.tm_verify.specs.declared.pass.Pass as code
 use Rattle.tm_verify_notes.specs.Given.{scene_of, history_of}
-use Rattle.tm_verify_notes.specs.Stepping.{suits, IsNotedIn, IsStepNote, AreNoted}
+use Rattle.tm_verify_notes.specs.Stepping.{IsNotedIn, IsStepNote, AreNoted}
 use Rattle.tm_verify.specs.Passing.{IsAt}
 
 -- a step that is passed over has no reply and leaves the state
@@ -70,7 +60,7 @@ one_more given old new step reply note at there version state notes noted =
     let here : IsStepNote (scene_of given) front pair note = subst (λ s. IsNotedIn (scene_of given).book s step reply note) before noted in
     record {
       within = omega (arith, within, version);
-      state = state ∙ ap (λ s. (apply tomoyo_grammar s step).state) before ∙ sym (state_more (scene_of given) front pair) ∙ ap (state_after (scene_of given)) (sym more);
+      state = state ∙ ap (λ s. (apply tomoyo_grammar s step).state) before ∙ sym (state_more (scene_of given) front pair) ∙ ap (newest (scene_of given)) (sym more);
       named = subst (λ s. IsNamed tomoyo_grammar.is_path s.policy) (sym state) (step_keeps_names tomoyo_grammar old.machine.state step is_one at.named);
       noted = subst (λ hs. AreNoted (scene_of given) [] hs new.notes.items) (sym more) (subst (λ ns. AreNoted (scene_of given) [] (front ++ pair ∷ []) ns) (sym notes) (noted_more (scene_of given) [] front old.notes.items pair note at.noted here));
     }
@@ -78,30 +68,3 @@ one_more given old new step reply note at there version state notes noted =
 -- at the last version all steps are noted
 pub all_noted : {R : Type 0} (given : Given) (pass : code.Pass R) → IsAt given pass → pass.version ≡ length (history_of given) → AreNoted (scene_of given) [] (history_of given) pass.notes.items
 all_noted given pass at last = subst (λ hs. AreNoted (scene_of given) [] hs pass.notes.items) (ap (λ v. take v (history_of given)) last ∙ take_all (length (history_of given)) (history_of given) (omega arith)) at.noted
-
--- ---- one step
-
--- what is noted of a step that was made, or passed over
-pub noted_in : (book : Option Book) (s : State) (step : Step) (given : Reply) (reply : Option Reply) (replied fits : Bool) → reply ≡ (apply tomoyo_grammar s step).reply
-    → (replied ≡ true) ↔ (reply ≡ Some given) → fits ≡ suits book (first_query s.queries) step → IsNotedIn book s step given (record { replied = replied; suits = fits })
-noted_in book s step given reply replied fits r h f = record { replied = (λ e. sym r ∙ h.0 e, λ e. h.1 (r ∙ e)); suits = f }
-
--- ---- the start
-
--- a machine that has made no step
-pub started : {R : Type 0} (given : Given) (pass : code.Pass R) (policy : Policy) (editors : List Editor) (trees : ℕ) (desk : Bool)
-    → pass.machine ≡ course_from (record { policy = policy; editors = editors; trees = trees; desk = desk })
-    → policy ≡ given.opening.now → editors ≡ given.editors.now → trees ≡ length given.trace.now → desk ≡ is_some (scene_of given).book
-    → pass.version ≡ 0 → pass.notes.items ≡ [] → IsNamed tomoyo_grammar.is_path policy → IsAt given pass
-unfolding after
-started given pass policy editors trees desk made p e t d version notes named =
-    let begun : course_from (record { policy = policy; editors = editors; trees = trees; desk = desk }) ≡ course_from (record { policy = given.opening.now; editors = given.editors.now; trees = length given.trace.now; desk = is_some (scene_of given).book }) = rw (p, e, t, d) refl in
-    let state : pass.machine.state ≡ opening_of (scene_of given) = ap (λ (course : Course). course.state) (made ∙ begun) in
-    let none : take pass.version (history_of given) ≡ [] = ap (λ k. take k (history_of given)) version in
-    let policy_of : pass.machine.state.policy ≡ policy = ap (λ (s : State). s.policy) state ∙ sym p in
-    record {
-      within = omega (arith, version);
-      state = state ∙ ap (state_after (scene_of given)) (sym none);
-      named = subst (λ (q : Policy). IsNamed tomoyo_grammar.is_path q) (sym policy_of) named;
-      noted = subst (λ hs. AreNoted (scene_of given) [] hs pass.notes.items) (sym none) (subst (λ ns. AreNoted (scene_of given) [] [] ns) (sym notes) tt);
-    }

@@ -1,31 +1,19 @@
 -- A look beside the verdict of its version, and what it has heard.
-use Rattle.std.proofs.Common.{◌≡◌, ◌≤◌, ℕ, zero, suc, Bool, true, false, List, [], ◌∷◌, length, take, map, Option, Some, None, refl, sym, ap, ◌∙◌, subst}
+use Rattle.std.proofs.Common.{◌≡◌, ◌≤◌, ℕ, zero, suc, Bool, true, false, [], ◌∷◌, length, take, map, Option, Some, None, refl, sym, ap, ◌∙◌, subst}
 use Rattle.std.specs.Prelude.{◌↔◌, option_map, Result, Ok, Err, IfOk}
 use Rattle.std.specs.Option.{IfSome}
-use Rattle.tm_types.specs.declared.request.Proc.{Proc}
-use Rattle.tm_types.specs.declared.request.Request.{Request}
-use Rattle.tm_types.specs.declared.verdict.Reason.{Reason}
-use Rattle.tm_types.specs.declared.verdict.Verdict.{Verdict}
-use Rattle.tm_types.specs.declared.step.Reply.{Reply}
-use Rattle.tm_types.specs.declared.step.Held.{Held}
-use Rattle.tm_types.specs.declared.step.Heard.{Heard}
-use Rattle.tm_types.specs.declared.step.Answered.{Answered}
-use Rattle.tm_types.specs.declared.step.Look.{Look}
-use Rattle.tm_rules.specs.Audit.{audit_text}
-use Rattle.tm_rules.specs.Queries.{answer_of}
+use Rattle.tm_rules.specs.Types.{Answered, Heard, Held, Look, Proc, Reply, Request, Verdict}
+use Rattle.tm_rules.specs.Prelude.{answer_of, audit_text}
 use Rattle.tm_core.specs.Tomoyo.{tomoyo_grammar}
-use Rattle.tm_legal.specs.Steps.{State, after}
-use Rattle.tm_legal.specs.Run.{History, Case, step_at, reply_at, steps_of}
+use Rattle.tm_legal.specs.Prelude.{Case, Hears, History, IsShown, LookHolds, MakesAfterYes, OwnSteps, RisesFrom, Scene, State, after, look_grants, newest, opening_of, retry_written, state_at, step_at, steps_asked, steps_of, subject_of}
 use Rattle.tm_legal.specs.Legal as legal
-use Rattle.tm_legal.specs.Legal.{Scene, opening_of, subject_of, state_at, IsShown, LookHolds, OwnSteps, steps_asked, retry_written, look_grants, RisesFrom, MakesAfterYes, Hears, LookHears}
-use Rattle.tm_core.specs.declared.judging.Judged.{Judged}
-use Rattle.tm_core.specs.Judging.{judged, verdict_at}
-use Rattle.tm_verify_laws.specs.Desk.{state_after}
+use Rattle.tm_take.specs.declared.judged.Judged.{Judged}
+use Rattle.tm_core.specs.Judging.{judged}
+use Rattle.tm_take.specs.Looking.{verdict_at}
 use Rattle.tm_verify_notes.specs.declared.given.Given.{Given}
 use Rattle.tm_verify_notes.specs.declared.notes.VerdictNote.{VerdictNote}
 use Rattle.tm_verify_notes.specs.Given.{scene_of, history_of}
-use Rattle.tm_verify_notes.specs.declared.notes.PartNote.{PartNote}
-use Rattle.tm_verify_notes.specs.Noting.{LookOn, IsVerdictNote, IsSeen, IsHeard, IsPartNote}
+use Rattle.tm_verify_notes.specs.Noting.{IsVerdictNote, IsSeen}
 use Rattle.tm_verify.specs.Seeing.{IsNotedBeside}
 
 -- ---- at a version
@@ -37,11 +25,11 @@ steps_up_to (suc k) [] = refl
 steps_up_to (suc k) (pair ∷ history) = ap (λ steps. pair.0 ∷ steps) (steps_up_to k history)
 
 -- the state after so many steps is that of the version
-pub state_at_is : (scene : Scene) (history : History) (k : ℕ) → state_after scene (take k history) ≡ state_at scene history k
+pub state_at_is : (scene : Scene) (history : History) (k : ℕ) → newest scene (take k history) ≡ state_at scene history k
 state_at_is scene history k = ap (after scene.grammar (opening_of scene)) (steps_up_to k history)
 
 -- at its version the machine's state is that of the version
-pub at_version : (scene : Scene) (history : History) (s : State) (k version : ℕ) → s ≡ state_after scene (take k history) → k ≡ version → s ≡ state_at scene history version
+pub at_version : (scene : Scene) (history : History) (s : State) (k version : ℕ) → s ≡ newest scene (take k history) → k ≡ version → s ≡ state_at scene history version
 at_version scene history s k version e same = e ∙ state_at_is scene history k ∙ ap (state_at scene history) same
 
 -- what was found is the verdict with its audit text
@@ -134,7 +122,7 @@ seen_none given c look s owns at e order =
 
 -- a look beside what its version shows
 pub seen_beside : (given : Given) (c : Case) (look : Look) (s : State) (k : ℕ) (found : Option Judged) (note : VerdictNote)
-    → s ≡ state_after (scene_of given) (take k (history_of given)) → k ≡ look.version
+    → s ≡ newest (scene_of given) (take k (history_of given)) → k ≡ look.version
     → found ≡ judged s c.taken.before c.now.process c.request
     → IsNotedBeside (history_of given) c look found note
     → IsSeen (scene_of given) (history_of given) (c, look) note
@@ -147,7 +135,7 @@ seen_beside given c look s k (Some found) note at same e n =
 
 -- where memory was given
 pub seen_made : {E : Type 0} (given : Given) (c : Case) (look : Look) (s : State) (k : ℕ) (found : Option Judged) (made : Result VerdictNote E)
-    → s ≡ state_after (scene_of given) (take k (history_of given)) → k ≡ look.version
+    → s ≡ newest (scene_of given) (take k (history_of given)) → k ≡ look.version
     → found ≡ judged s c.taken.before c.now.process c.request
     → IfOk made (IsNotedBeside (history_of given) c look found)
     → IfOk made (IsSeen (scene_of given) (history_of given) (c, look))
@@ -155,14 +143,6 @@ seen_made given c look s k found (Ok note) at same e n = seen_beside given c loo
 seen_made given c look s k found (Err fault) at same e n = tt
 
 -- ---- what was heard
-
--- a look that asks
-pub hears_of_ask : (scene : Scene) (history : History) (look : Look) (number : ℕ) (rest : List ℕ) (hears : Bool) → look.reason ≡ Reason.Ask → look.own ≡ number ∷ rest
-    → (hears ≡ true) ↔ Hears scene history number (reply_at history number) look.heard → (hears ≡ true) ↔ LookHears scene history look
-hears_of_ask scene history look number rest hears e f h = rw (e, f) h
-
-pub hears_of_none : (scene : Scene) (history : History) (look : Look) → look.reason ≡ Reason.Ask → look.own ≡ [] → (false ≡ true) ↔ LookHears scene history look
-hears_of_none scene history look e f = rw (e, f) (λ h. absurd cc, λ h. absurd h)
 
 -- what was heard has one answer and one version
 abbrev heard_of : Answered → ℕ → Option Heard
@@ -184,13 +164,3 @@ hears_is scene history s number serial version answer b at low high h = (
       let there : answer_of (state_at scene history version).queries serial ≡ Some p.0 = subst (λ (v : ℕ). answer_of (state_at scene history v).queries serial ≡ Some p.0) (sym same.1) p.5 in
       h.1 (subst (λ (t : State). answer_of t.queries serial ≡ Some answer) (sym at) (there ∙ ap (λ (a : Answered). Some a) (sym same.0))),
 )
-
--- ---- what was noted so far
-
-pub part_heard : (scene : Scene) (history : History) (on : LookOn) (part : PartNote) (hears : Bool) → IsPartNote scene history on part → (hears ≡ true) ↔ LookHears scene history on.1
-    → IsPartNote scene history on (record { verdict = part.verdict; hears = Some hears })
-part_heard scene history on part hears h k = record { seen = h.seen; heard = λ b e. let same : hears ≡ b = cc in subst (λ (x : Bool). IsHeard scene history on x) same k }
-
-pub part_seen : (scene : Scene) (history : History) (on : LookOn) (part : PartNote) (note : VerdictNote) → IsPartNote scene history on part → IsSeen scene history on note
-    → IsPartNote scene history on (record { verdict = Some note; hears = part.hears })
-part_seen scene history on part note h k = record { seen = λ n e. let same : note ≡ n = cc in subst (λ (x : VerdictNote). IsSeen scene history on x) same k; heard = h.heard }

@@ -1,12 +1,9 @@
 -- What the judge answers of a run that was given in parts.
 use Rattle.std.proofs.Common.{◌≡◌, List, Option, refl, subst}
 use Rattle.std.specs.Option.{option_copied}
-use Rattle.tm_rules.specs.Words.{Trace}
-use Rattle.tm_types.specs.declared.policy.Policy.{Policy}
-use Rattle.tm_types.specs.declared.step.Book.{Book}
-use Rattle.tm_types.specs.declared.step.Editor.{Editor}
-use Rattle.tm_types.specs.declared.step.Run.{Run}
-use Rattle.tm_legal.specs.Legal.{Scene}
+use Rattle.tm_rules.specs.Prelude.{Trace}
+use Rattle.tm_rules.specs.Types.{Book, Editor, Policy, Run}
+use Rattle.tm_legal.specs.Prelude.{Scene}
 use Rattle.tm_verify_laws.specs.declared.broken.Broken.{Broken}
 use Rattle.tm_verify_notes.specs.declared.given.Given.{Given}
 use Rattle.tm_verify_notes.specs.Given.{scene_of, run_of}

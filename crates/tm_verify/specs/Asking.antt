@@ -1,9 +1,8 @@
 -- What a trace asks.
 use Rattle.std.specs.Prelude.{IsTrue}
 use Rattle.std.specs.List.{AllByRecursion, list_all}
-use Rattle.tm_types.specs.declared.request.Tree.{Tree}
-use Rattle.tm_rules.specs.Words.{Trace}
-use Rattle.tm_rules.specs.Requests.{item_is_request}
+use Rattle.tm_rules.specs.Types.{Tree}
+use Rattle.tm_rules.specs.Prelude.{Trace, item_is_request}
 use Rattle.tm_core.specs.Tomoyo.{tomoyo_grammar}
 
 -- each `do` line asks a request

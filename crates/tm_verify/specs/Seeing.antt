@@ -1,9 +1,8 @@
 -- What is noted of a look beside what its version shows.
 use Rattle.std.specs.Prelude.{◌≡◌, ◌↔◌, true, false, Option, Some, None}
-use Rattle.tm_types.specs.declared.step.Look.{Look}
-use Rattle.tm_core.specs.declared.judging.Judged.{Judged}
-use Rattle.tm_legal.specs.Run.{History, Case}
-use Rattle.tm_legal.specs.Legal.{RisesFrom, MakesAfterYes}
+use Rattle.tm_rules.specs.Types.{Look}
+use Rattle.tm_take.specs.declared.judged.Judged.{Judged}
+use Rattle.tm_legal.specs.Prelude.{Case, History, MakesAfterYes, RisesFrom}
 use Rattle.tm_verify_notes.specs.declared.notes.VerdictNote.{VerdictNote}
 use Rattle.tm_verify_notes.specs.Noting.{IsVerdictNote}
 

@@ -1,12 +1,9 @@
 -- What the judge of a run answers.
 use Rattle.std.specs.Prelude.{List, Option, MatchOption}
-use Rattle.tm_rules.specs.Words.{Trace}
-use Rattle.tm_types.specs.declared.policy.Policy.{Policy}
-use Rattle.tm_types.specs.declared.step.Book.{Book}
-use Rattle.tm_types.specs.declared.step.Editor.{Editor}
-use Rattle.tm_types.specs.declared.step.Run.{Run}
+use Rattle.tm_rules.specs.Prelude.{Trace}
+use Rattle.tm_rules.specs.Types.{Book, Editor, Policy, Run}
 use Rattle.tm_core.specs.Tomoyo.{tomoyo_grammar}
-use Rattle.tm_legal.specs.Legal.{Scene, Legal}
+use Rattle.tm_legal.specs.Prelude.{Legal, Scene}
 use Rattle.tm_verify_laws.specs.declared.broken.Broken.{Broken}
 use Rattle.tm_verify_laws.specs.Broken.{IsFirstBroken}
 

@@ -1,17 +1,18 @@
 //! Looks judged at the versions that they name, as one machine passes them.
 ghost use Rattle.std.specs.Prelude.{◌≡◌, ◌↔◌, ◌++◌, true, Some, None, IfOk, OnOk};
 ghost use Rattle.std.specs.List.{AllByRecursion};
-ghost use Rattle.tm_legal.specs.Run.{reply_at};
-ghost use Rattle.tm_legal.specs.Legal.{Hears, LookHears};
+ghost use Rattle.tm_legal.specs.Prelude.{Hears, LookHears, reply_at};
 ghost use Rattle.tm_verify_notes.specs.Given.{scene_of, history_of};
 ghost use Rattle.tm_verify.specs.Passing.{IsAt};
 ghost use Rattle.tm_verify.specs.Seeing.{IsNotedBeside};
-ghost use Rattle.tm_verify_notes.specs.Noting.{looks_on, all_looks, Asks, IsSeen, IsHeard, IsPartNote, IsVerdictNote, EachWith};
+ghost use Rattle.tm_take.specs.Each.{EachWith};
+ghost use Rattle.tm_verify_notes.specs.Noting.{looks_on, all_looks, Asks, IsSeen, IsHeard, IsPartNote, IsVerdictNote};
 
 use crate::pass::Pass;
 use std::alloc::{AllocError, Global};
-use tm_core::{Judged, judge};
+use tm_core::judge;
 use tm_list::{NoMemory, Same};
+use tm_take::Judged;
 use tm_types::step::{Answered, Heard, Held, Look, Reply};
 use tm_types::verdict::Reason;
 use tm_verify_notes::rep::Rep;

@@ -1,12 +1,9 @@
 //! One machine that makes the given steps, each once.
 ghost use Rattle.std.specs.Prelude.{◌≡◌, [], ◌+◌, ◌≤◌, ◌<◌, ◌^◌, length, Some, IfOk, OnOk};
 ghost use Rattle.std.specs.Option.{option_copied};
-ghost use Rattle.tm_rules.specs.Few.{IsFew};
-ghost use Rattle.tm_rules.specs.Book.{book_answer, code_of};
-ghost use Rattle.tm_rules.specs.Queries.{first_query};
+ghost use Rattle.tm_rules.specs.Prelude.{IsFew, book_answer, code_of, first_query};
 ghost use Rattle.tm_core.specs.Tomoyo.{tomoyo_grammar};
-ghost use Rattle.tm_legal.specs.Play.{IsNamed};
-ghost use Rattle.tm_legal.specs.Steps.{apply};
+ghost use Rattle.tm_legal.specs.Prelude.{IsNamed, apply};
 ghost use Rattle.tm_verify_laws.specs.Desk.{is_answered_so};
 ghost use Rattle.tm_verify_notes.specs.Given.{scene_of, history_of};
 ghost use Rattle.tm_verify_notes.specs.Stepping.{suits, IsNotedIn, AreNoted};

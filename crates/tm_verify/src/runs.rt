@@ -2,14 +2,13 @@
 ghost use Rattle.std.specs.Prelude.{◌≡◌, ◌+◌, ◌<◌, ◌^◌, [], length, IfOk};
 ghost use Rattle.std.specs.Option.{option_copied};
 ghost use Rattle.std.specs.List.{AllByRecursion};
-ghost use Rattle.tm_rules.specs.Few.{IsFew};
+ghost use Rattle.tm_rules.specs.Prelude.{IsFew};
 ghost use Rattle.tm_core.specs.Tomoyo.{tomoyo_grammar};
-ghost use Rattle.tm_legal.specs.Run.{all_do_pids};
-ghost use Rattle.tm_legal.specs.Legal.{cases_of};
-ghost use Rattle.tm_legal.specs.Play.{IsNamed};
+ghost use Rattle.tm_legal.specs.Prelude.{IsNamed, all_do_pids, cases_of};
 ghost use Rattle.tm_verify_notes.specs.Given.{scene_of, history_of, run_of};
 ghost use Rattle.tm_verify_notes.specs.Stepping.{AreNoted};
-ghost use Rattle.tm_verify_notes.specs.Noting.{all_looks, Asks, EachWith, IsPartNote, IsTakeNote};
+ghost use Rattle.tm_take.specs.Each.{EachWith};
+ghost use Rattle.tm_verify_notes.specs.Noting.{all_looks, Asks, IsPartNote, IsTakeNote};
 ghost use Rattle.tm_verify_steps.specs.Clauses.{HoldBelow, IsJudged, NotesTakes};
 ghost use Rattle.tm_verify.specs.Asking.{IsAsking};
 ghost use Rattle.tm_verify.specs.Verified.{IsVerified, judged_scene};

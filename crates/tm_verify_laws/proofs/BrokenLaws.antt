@@ -2,10 +2,8 @@
 use Rattle.std.proofs.Common.{◌≡◌, ◌≤◌, ◌<◌, ℕ, zero, suc, List, [], ◌∷◌, length, map, sym, ap, ◌∙◌, subst, arith, inl, inr, ◌⊎◌}
 use Rattle.std.specs.List.{AllByRecursion}
 use Rattle.std.proofs.lemmas.Bool.{cases_lt}
-use Rattle.tm_types.specs.declared.step.Take.{Take}
-use Rattle.tm_types.specs.declared.step.Run.{Run}
-use Rattle.tm_legal.specs.Run.{all_do_pids}
-use Rattle.tm_legal.specs.Legal.{Scene, Legal, cases_of, TakeHolds, TakeHears, StepsHavePlaces, SupervisorActs}
+use Rattle.tm_rules.specs.Types.{Run, Take}
+use Rattle.tm_legal.specs.Prelude.{Legal, Scene, StepsHavePlaces, SupervisorActs, TakeHears, TakeHolds, all_do_pids, cases_of}
 use Rattle.tm_verify_laws.specs.Desk.{DeskFails}
 use Rattle.tm_verify_laws.specs.Placed.{IsPlaced, PlacesFail}
 use Rattle.tm_verify_laws.specs.Broken.{PairsFail, TakeRises, TakeOwns, TakeEnds, Clause, Breaks, IsFirstBroken}

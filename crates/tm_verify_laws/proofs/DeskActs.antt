@@ -4,19 +4,12 @@ use Rattle.std.specs.Prelude.{if◌then◌else◌, MatchOption, is_some}
 use Rattle.std.specs.Option.{option_or, IfSome}
 use Rattle.std.specs.List.{AllByRecursion}
 use Rattle.std.proofs.lemmas.Bool.{ltb-true, lt-ltb}
-use Rattle.tm_word.specs.Matching.{is_empty}
-use Rattle.tm_types.specs.declared.step.Step.{Step}
-use Rattle.tm_types.specs.declared.step.Reply.{Reply}
-use Rattle.tm_types.specs.declared.step.Query.{Query}
-use Rattle.tm_types.specs.declared.step.Book.{Book}
-use Rattle.tm_types.specs.declared.step.Take.{Take}
-use Rattle.tm_types.specs.declared.step.Run.{Run}
-use Rattle.tm_rules.specs.Queries.{first_query}
-use Rattle.tm_rules.specs.Book.{book_answer, code_of}
-use Rattle.tm_legal.specs.Run.{History, places}
-use Rattle.tm_legal.specs.Legal.{Scene, is_attach, is_detach, is_answer, is_end, is_of_supervisor, seen_by_tree, SupervisorActs}
+use Rattle.tm_word.specs.Prelude.{is_empty}
+use Rattle.tm_rules.specs.Types.{Book, Query, Reply, Run, Step, Take}
+use Rattle.tm_rules.specs.Prelude.{book_answer, code_of, first_query}
+use Rattle.tm_legal.specs.Prelude.{History, Scene, SupervisorActs, is_answer, is_attach, is_detach, is_end, is_of_supervisor, newest, places, seen_by_tree}
 use Rattle.tm_verify_laws.specs.First.{AllAfter, FirstFailsAfter, first_failing_after}
-use Rattle.tm_verify_laws.specs.Desk.{state_after, HasSome, IsThere, AllEnded, MayAct, IsAllowed, IsComplete, NeedsNoSupervisor, DeskHolds, DeskFails, has_some, is_there, trees_ended, has_room, is_stop, is_answered_so, may_leave, is_above, may_act, is_complete, desk_fault, EndsAreOfTrees}
+use Rattle.tm_verify_laws.specs.Desk.{HasSome, IsThere, AllEnded, MayAct, IsAllowed, IsComplete, NeedsNoSupervisor, DeskHolds, DeskFails, has_some, is_there, trees_ended, has_room, is_stop, is_answered_so, may_leave, is_above, may_act, is_complete, desk_fault, EndsAreOfTrees}
 use Rattle.tm_verify_laws.proofs.FirstLaws.{some_is, scan_all, scan_none, scan_fails, fails_scan, fails_front, after_all, after_none, after_fails, fails_after, after_front}
 use Rattle.tm_verify_laws.proofs.Splits.{not_false, not_true}
 use Rattle.tm_verify_laws.proofs.DeskLaws.{both, all, either, right_of, tree_ended, trees_all, below_all, all_below, stop_is, is_stop_of, none_is}
@@ -85,7 +78,7 @@ module _ (scene : Scene) (run : Run) (book : Book) (before : History) where
   answers = length (places is_answer before)
 
   abbrev asked : Option Query
-  asked = first_query (state_after scene before).queries
+  asked = first_query (newest scene before).queries
 
   leaves : may_leave scene book before ≡ true → (book.stop ≡ Some answers) ⊎ (AllEnded scene before × (asked ≡ None))
   leaves e = by_reason (either (is_stop book.stop answers) _ e)

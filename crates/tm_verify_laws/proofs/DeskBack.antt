@@ -5,17 +5,11 @@ use Rattle.std.specs.Prelude.{if◌then◌else◌, is_some}
 use Rattle.std.specs.Option.{option_or, IfSome}
 use Rattle.std.specs.List.{AllByRecursion}
 use Rattle.std.proofs.lemmas.Bool.{lt-ltb}
-use Rattle.tm_types.specs.declared.step.Step.{Step}
-use Rattle.tm_types.specs.declared.step.Reply.{Reply}
-use Rattle.tm_types.specs.declared.step.Query.{Query}
-use Rattle.tm_types.specs.declared.step.Book.{Book}
-use Rattle.tm_types.specs.declared.step.Run.{Run}
-use Rattle.tm_rules.specs.Queries.{first_query, numbered}
-use Rattle.tm_rules.specs.Book.{book_answer, code_of}
-use Rattle.tm_legal.specs.Run.{History, step_at, places, places_from}
-use Rattle.tm_legal.specs.Legal.{Scene, is_attach, is_detach, is_answer, is_some_end, is_end, is_of_supervisor, seen_by_tree, DetachIsDue, Supervised, TreesEnd, SupervisorActs}
+use Rattle.tm_rules.specs.Types.{Book, Query, Reply, Run, Step}
+use Rattle.tm_rules.specs.Prelude.{book_answer, code_of, first_query, numbered}
+use Rattle.tm_legal.specs.Prelude.{DetachIsDue, History, Scene, Supervised, SupervisorActs, TreesEnd, is_answer, is_attach, is_detach, is_end, is_of_supervisor, is_some_end, newest, places, places_from, seen_by_tree, step_at}
 use Rattle.tm_verify_laws.specs.First.{first_failing, AllAfter, first_failing_after}
-use Rattle.tm_verify_laws.specs.Desk.{state_after, has_some, is_there, trees_ended, has_room, is_stop, is_answered_so, may_leave, is_above, may_act, is_complete, desk_fault, EndsAreOfTrees}
+use Rattle.tm_verify_laws.specs.Desk.{has_some, is_there, trees_ended, has_room, is_stop, is_answered_so, may_leave, is_above, may_act, is_complete, desk_fault, EndsAreOfTrees}
 use Rattle.tm_verify_laws.proofs.FirstLaws.{after_all, after_none, of_splits}
 use Rattle.tm_verify_laws.proofs.Splits.{not_true, Only, only, is_before, is_later, all_before, place_at, count_below, step_here}
 use Rattle.tm_verify_laws.proofs.DeskLaws.{all, right_of, end_some, trees_all, some_tree, all_below, place_cut, state_before, is_stop_of, supervised}
@@ -47,10 +41,10 @@ module _ (scene : Scene) (run : Run) (book : Book) (trees : EndsAreOfTrees scene
       let number : step_at run.steps (suc (length before)) ≡ Some (Step.Answer serial code) = ap (λ h. step_at h (suc (length before))) e ∙ step_here before (Step.Answer serial code, reply) rest in
       let fact = sup.by_book (length before) serial code number in
       let same = state_before scene run.steps before (Step.Answer serial code, reply) rest e in
-      let query : first_query (state_after scene before).queries ≡ Some fact.0 = ap (λ s. first_query s.queries) (sym same) ∙ fact.1 in
+      let query : first_query (newest scene before).queries ≡ Some fact.0 = ap (λ s. first_query s.queries) (sym same) ∙ fact.1 in
       all (is_there before) _ (all (has_some is_attach before) (not (has_some is_detach before)) came (not_true (has_some is_detach before) stays))
       (all (has_room book.stop (length (places is_answer before))) _ (room book.stop (length (places is_answer before)) sup.answers_enough fewer)
-      (answered_so book (first_query (state_after scene before).queries) fact.0 serial code query fact.2 fact.3))
+      (answered_so book (first_query (newest scene before).queries) fact.0 serial code query fact.2 fact.3))
 
   below_detach : (ns : List ℕ) (n : ℕ) → sup.detach ≡ n → AllByRecursion (λ k. (sup.attach < k) × (k < sup.detach)) ns → AllByRecursion (λ k. k < n) ns
   below_detach [] n e h = tt
@@ -86,7 +80,7 @@ module _ (scene : Scene) (run : Run) (book : Book) (trees : EndsAreOfTrees scene
           rw reached refl
       leaves (inr (below, none)) =
           let state = state_before scene run.steps before (Step.Detach, reply) rest e in
-          let unasked : first_query (state_after scene before).queries ≡ None = ap (λ s. first_query s.queries) (sym state) ∙ none (length before) (sym o.here) in
+          let unasked : first_query (newest scene before).queries ≡ None = ap (λ s. first_query s.queries) (sym state) ∙ none (length before) (sym o.here) in
           let ended : trees_ended 1 scene.trace before ≡ true =
           trees_all 1 scene.trace before (λ k tree at.
           let one = ends (suc k) tree at in
@@ -94,7 +88,7 @@ module _ (scene : Scene) (run : Run) (book : Book) (trees : EndsAreOfTrees scene
           let lower : one.0 < suc (length before) = (let here = o.here in omega (arith, here, lt)) in
           subst (λ n. has_some (is_end n) before ≡ true) (let same : suc k ≡ 1 + k = omega arith in same)
           (some_of (is_end (suc k)) before one.0 (is_before (is_end (suc k)) before (Step.Detach, reply) rest one.0 refl (ap (places (is_end (suc k))) (sym e) ∙ one.1) lower))) in
-          right_of (is_stop book.stop (length (places is_answer before))) _ (all (trees_ended 1 scene.trace before) _ ended (not_true (is_some (first_query (state_after scene before).queries)) (some_there (first_query (state_after scene before).queries) unasked)))
+          right_of (is_stop book.stop (length (places is_answer before))) _ (all (trees_ended 1 scene.trace before) _ ended (not_true (is_some (first_query (newest scene before).queries)) (some_there (first_query (newest scene before).queries) unasked)))
 
   end_may : (before : History) (t : ℕ) (reply : Reply) (rest : History) → run.steps ≡ before ++ (Step.End t, reply) ∷ rest → may_act scene run book before (Step.End t) ≡ true
   unfolding may_act

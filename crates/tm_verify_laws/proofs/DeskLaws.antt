@@ -5,21 +5,13 @@ use Rattle.std.specs.Prelude.{if◌then◌else◌, IsSome, is_some, slice_get}
 use Rattle.std.specs.Option.{IfSome}
 use Rattle.std.specs.List.{AllByRecursion, list_all}
 use Rattle.std.proofs.lemmas.Bool.{ltb-true, lt-ltb}
-use Rattle.tm_rules.specs.Words.{Trace}
-use Rattle.tm_types.specs.declared.request.Tree.{Tree}
-use Rattle.tm_types.specs.declared.step.Step.{Step}
-use Rattle.tm_types.specs.declared.step.Reply.{Reply}
-use Rattle.tm_types.specs.declared.step.Query.{Query}
-use Rattle.tm_types.specs.declared.step.Book.{Book}
-use Rattle.tm_types.specs.declared.step.Run.{Run}
-use Rattle.tm_rules.specs.Queries.{first_query, numbered}
-use Rattle.tm_rules.specs.Book.{book_answer, code_of}
-use Rattle.tm_legal.specs.Run.{History, step_at, places, places_from}
-use Rattle.tm_legal.specs.Legal.{Scene, state_at, is_attach, is_detach, is_answer, is_some_end, is_end, seen_by_tree, AnswersByBook, DetachIsDue, Supervised, TreesEnd}
+use Rattle.tm_rules.specs.Prelude.{Trace, book_answer, code_of, first_query, numbered}
+use Rattle.tm_rules.specs.Types.{Book, Query, Reply, Run, Step, Tree}
+use Rattle.tm_legal.specs.Prelude.{AnswersByBook, DetachIsDue, History, Scene, Supervised, TreesEnd, is_answer, is_attach, is_detach, is_end, is_some_end, newest, places, places_from, seen_by_tree, state_at, step_at}
 use Rattle.tm_legal.proofs.Laws.{state_at-later}
 use Rattle.tm_legal.proofs.Histories.{state_at-newest}
 use Rattle.tm_verify_laws.specs.First.{AllAfter}
-use Rattle.tm_verify_laws.specs.Desk.{state_after, has_some, is_there, trees_ended, has_room, is_stop, is_answered_so, may_leave, is_above, may_act, is_complete, EndsAreOfTrees}
+use Rattle.tm_verify_laws.specs.Desk.{has_some, is_there, trees_ended, has_room, is_stop, is_answered_so, may_leave, is_above, may_act, is_complete, EndsAreOfTrees}
 use Rattle.tm_verify_laws.proofs.FirstLaws.{at_split, of_splits}
 use Rattle.tm_verify_laws.proofs.Splits.{not_false, only, stands_before, stands_later, all_before, all_places, OnlyFirst, single, counted, step_here, cut_at}
 
@@ -186,7 +178,7 @@ module _ (scene : Scene) (run : Run) (book : Book) (before : History) where
   detach_due (Step.Edit by file line) m e = absurd cc
   detach_due (Step.End tree) m e = absurd cc
 
-  answer_so : (serial code : ℕ) → may_act scene run book before (Step.Answer serial code) ≡ true → is_answered_so book (first_query (state_after scene before).queries) serial code ≡ true
+  answer_so : (serial code : ℕ) → may_act scene run book before (Step.Answer serial code) ≡ true → is_answered_so book (first_query (newest scene before).queries) serial code ≡ true
   unfolding may_act
   answer_so serial code m = (both (has_room book.stop (length (places is_answer before))) _ (both (is_there before) _ m).1).1
 
@@ -276,7 +268,7 @@ place_cut test m (pair ∷ history) n ns e = go (test pair.0) refl e (λ f. plac
         record { before = pair ∷ c.before; pair = c.pair; rest = c.rest; cut = ap (λ h. pair ∷ h) c.cut; passes = c.passes; number = (let same = c.number in omega (arith, same)) }
 
 -- the state before a step of a history
-pub state_before : (scene : Scene) (history before : History) (pair : Step × Reply) (rest : History) → history ≡ before ++ pair ∷ rest → state_at scene history (length before) ≡ state_after scene before
+pub state_before : (scene : Scene) (history before : History) (pair : Step × Reply) (rest : History) → history ≡ before ++ pair ∷ rest → state_at scene history (length before) ≡ newest scene before
 state_before scene history before pair rest e =
     ap (λ h. state_at scene h (length before)) e ∙ state_at-later scene before (pair ∷ rest) (length before) (omega arith) ∙ state_at-newest scene before
 
@@ -358,8 +350,8 @@ module _ (scene : Scene) (run : Run) (book : Book) (trees : EndsAreOfTrees scene
         omega (arith, lt))
         [] run.steps acts)
 
-    answered : (before : History) (serial code : ℕ) (o : Option Query) → first_query (state_after scene before).queries ≡ o → is_answered_so book o serial code ≡ true
-        → (query : Query) × (first_query (state_after scene before).queries ≡ Some query) × (query.serial ≡ serial) × (code_of (book_answer book query) ≡ code)
+    answered : (before : History) (serial code : ℕ) (o : Option Query) → first_query (newest scene before).queries ≡ o → is_answered_so book o serial code ≡ true
+        → (query : Query) × (first_query (newest scene before).queries ≡ Some query) × (query.serial ≡ serial) × (code_of (book_answer book query) ≡ code)
     answered before serial code None e so = absurd cc
     answered before serial code (Some query) e so =
         let t = both (query.serial == serial) _ so in
@@ -370,8 +362,8 @@ module _ (scene : Scene) (run : Run) (book : Book) (trees : EndsAreOfTrees scene
         let c = cut_at run.steps version (Step.Answer serial code) is in
         let m = here c.before (Step.Answer serial code, c.reply) c.rest c.cut in
         let so = answer_so scene run book c.before serial code m in
-        let same : state_at scene run.steps version ≡ state_after scene c.before = ap (state_at scene run.steps) (sym c.number) ∙ state_before scene run.steps c.before (Step.Answer serial code, c.reply) c.rest c.cut in
-        let f = answered c.before serial code (first_query (state_after scene c.before).queries) refl so in
+        let same : state_at scene run.steps version ≡ newest scene c.before = ap (state_at scene run.steps) (sym c.number) ∙ state_before scene run.steps c.before (Step.Answer serial code, c.reply) c.rest c.cut in
+        let f = answered c.before serial code (first_query (newest scene c.before).queries) refl so in
         (f.0, rw same f.1, f.2, f.3)
 
     ends : (t : ℕ) (tree : Tree) → numbered scene.trace t ≡ Some tree → (end : ℕ) × (places (is_end t) run.steps ≡ end ∷ []) × AllByRecursion (λ version. version < end) (seen_by_tree scene run t)
@@ -402,7 +394,7 @@ module _ (scene : Scene) (run : Run) (book : Book) (trees : EndsAreOfTrees scene
     due : DetachIsDue scene run.steps book detach.0
     due = by_reason (either (is_stop book.stop (length (places is_answer cut_detach.before))) _ (detach_due scene run book cut_detach.before cut_detach.pair.0 may_detach cut_detach.passes))
       where
-        by_reason : (is_stop book.stop (length (places is_answer cut_detach.before)) ≡ true) ⊎ ((trees_ended 1 scene.trace cut_detach.before && not (is_some (first_query (state_after scene cut_detach.before).queries))) ≡ true)
+        by_reason : (is_stop book.stop (length (places is_answer cut_detach.before)) ≡ true) ⊎ ((trees_ended 1 scene.trace cut_detach.before && not (is_some (first_query (newest scene cut_detach.before).queries))) ≡ true)
             → DetachIsDue scene run.steps book detach.0
         by_reason (inl stop) =
             let answers : AllByRecursion (λ k. k < suc (length cut_detach.before)) (places is_answer (cut_detach.before ++ cut_detach.pair ∷ cut_detach.rest)) =
@@ -421,8 +413,8 @@ module _ (scene : Scene) (run : Run) (book : Book) (trees : EndsAreOfTrees scene
                   (of_splits (λ before (pair : Step × Reply). is_some_end pair.0 ≡ true → suc (length before) < detach.0) run.steps [] (λ before pair rest e is. end_below t.0 before pair rest e is)),
               (λ version is.
                   let same : version ≡ length cut_detach.before = (let d = detach_number in omega (arith, is, d)) in
-                  let state : state_at scene run.steps version ≡ state_after scene cut_detach.before = ap (state_at scene run.steps) same ∙ state_before scene run.steps cut_detach.before cut_detach.pair cut_detach.rest cut_detach.cut in
-                  rw state (none_is (first_query (state_after scene cut_detach.before).queries) t.1)),
+                  let state : state_at scene run.steps version ≡ newest scene cut_detach.before = ap (state_at scene run.steps) same ∙ state_before scene run.steps cut_detach.before cut_detach.pair cut_detach.rest cut_detach.cut in
+                  rw state (none_is (first_query (newest scene cut_detach.before).queries) t.1)),
             )
 
     pub supervised : Supervised scene run.steps book × TreesEnd scene run

@@ -3,11 +3,8 @@ use Rattle.std.proofs.Common.{◌≡◌, ◌<◌, ℕ, suc, ◌+◌, nat_lt, Boo
 use Rattle.std.specs.Prelude.{◌↔◌}
 use Rattle.std.specs.List.{AllByRecursion, list_all}
 use Rattle.std.proofs.lemmas.Bool.{ltb-true, lt-ltb}
-use Rattle.tm_types.specs.declared.verdict.Reason.{Reason}
-use Rattle.tm_types.specs.declared.step.Heard.{Heard}
-use Rattle.tm_types.specs.declared.step.Look.{Look}
-use Rattle.tm_legal.specs.Run.{History}
-use Rattle.tm_legal.specs.Legal.{RisesFrom, AfterAnswer, AsksWith, LooksFollow, retry_written, is_retry}
+use Rattle.tm_rules.specs.Types.{Heard, Look, Reason}
+use Rattle.tm_legal.specs.Prelude.{AfterAnswer, AsksWith, History, LooksFollow, RisesFrom, is_retry, retry_written}
 use Rattle.tm_verify_laws.specs.Looks.{rises_from, is_after_answer, asks_so, goes_on, do_follow}
 use Rattle.tm_verify_laws.proofs.Splits.{not_false, not_true}
 

@@ -3,18 +3,11 @@ use Rattle.std.proofs.Common.{◌≡◌, ℕ, zero, suc, ◌==◌, Bool, true, f
 use Rattle.std.specs.Prelude.{if◌then◌else◌, IsSome, is_some, slice_get, unwrap_or}
 use Rattle.std.specs.Option.{option_map_or}
 use Rattle.std.specs.List.{AllByRecursion, cons_option}
-use Rattle.tm_word.specs.Words.{Text}
-use Rattle.tm_types.specs.declared.step.FileKind.{FileKind}
-use Rattle.tm_types.specs.declared.step.Step.{Step}
-use Rattle.tm_types.specs.declared.step.Reply.{Reply}
-use Rattle.tm_types.specs.declared.step.Editor.{Editor}
-use Rattle.tm_types.specs.declared.step.Run.{Run}
-use Rattle.tm_rules.specs.Queries.{numbered}
-use Rattle.tm_legal.specs.Steps.{apply, after, unfit, edit_step}
-use Rattle.tm_legal.specs.Run.{History, step_at}
-use Rattle.tm_legal.specs.Legal.{Scene, own_numbers, times, times_owned, edit_line, lines_of_editor, StepsHavePlaces}
+use Rattle.tm_word.specs.Prelude.{Text}
+use Rattle.tm_rules.specs.Types.{Editor, FileKind, Reply, Run, Step}
+use Rattle.tm_rules.specs.Prelude.{numbered}
+use Rattle.tm_legal.specs.Prelude.{History, Scene, StepsHavePlaces, after, apply, edit_line, edit_step, lines_of_editor, newest, own_numbers, step_at, times, times_owned, unfit}
 use Rattle.tm_verify_laws.specs.First.{AllAfter}
-use Rattle.tm_verify_laws.specs.Desk.{state_after}
 use Rattle.tm_verify_laws.specs.Placed.{IsNextLine, IsPlaced, NoLineMissing, OwnAreSteps}
 use Rattle.tm_verify_laws.proofs.FirstLaws.{at_split, of_splits}
 use Rattle.tm_verify_laws.proofs.Splits.{cut_at, step_here}
@@ -40,23 +33,23 @@ get_at [] x ys = refl
 get_at (z ∷ xs) x ys = get_at xs x ys
 
 -- an edit with a reply is of an editor that is there
-editor_of : (scene : Scene) (before : History) (e : ℕ) (file : FileKind) (line : Text) (reply : Reply) → (apply scene.grammar (state_after scene before) (Step.Edit e file line)).reply ≡ Some reply → (editor : Editor) × (numbered scene.editors e ≡ Some editor)
+editor_of : (scene : Scene) (before : History) (e : ℕ) (file : FileKind) (line : Text) (reply : Reply) → (apply scene.grammar (newest scene before) (Step.Edit e file line)).reply ≡ Some reply → (editor : Editor) × (numbered scene.editors e ≡ Some editor)
 unfolding apply
 editor_of scene before zero file line reply r = absurd cc
 editor_of scene before (suc e) file line reply r = go (slice_get scene.editors e) refl
   where
-    stay : (state_after scene before).editors ≡ scene.editors
+    stay : (newest scene before).editors ≡ scene.editors
     stay = editors_stay scene before
 
     go : (o : Option Editor) → slice_get scene.editors e ≡ o → (editor : Editor) × (slice_get scene.editors e ≡ Some editor)
     go (Some editor) is = (editor, is)
     go None is =
-        let none : slice_get (state_after scene before).editors e ≡ None = rw stay is in
-        let unfit_ : option_map_or (λ editor. edit_step scene.grammar (state_after scene before) e file line editor (unwrap_or (slice_get (state_after scene before).cursors e) None)) (slice_get (state_after scene before).editors e) (unfit (state_after scene before)) ≡ unfit (state_after scene before) = rw none refl in
+        let none : slice_get (newest scene before).editors e ≡ None = rw stay is in
+        let unfit_ : option_map_or (λ editor. edit_step scene.grammar (newest scene before) e file line editor (unwrap_or (slice_get (newest scene before).cursors e) None)) (slice_get (newest scene before).editors e) (unfit (newest scene before)) ≡ unfit (newest scene before) = rw none refl in
         let no : None ≡ Some reply = sym (ap (λ a. a.reply) unfit_) ∙ r in
         absurd cc
 
-next_line : (scene : Scene) (run : Run) (h : StepsHavePlaces scene run) (before : History) (step : Step) (reply : Reply) (rest : History) → run.steps ≡ before ++ (step, reply) ∷ rest → (apply scene.grammar (state_after scene before) step).reply ≡ Some reply → IsNextLine scene before step
+next_line : (scene : Scene) (run : Run) (h : StepsHavePlaces scene run) (before : History) (step : Step) (reply : Reply) (rest : History) → run.steps ≡ before ++ (step, reply) ∷ rest → (apply scene.grammar (newest scene before) step).reply ≡ Some reply → IsNextLine scene before step
 next_line scene run h before (Step.Learn d entry) reply rest e r = tt
 next_line scene run h before (Step.Make d name) reply rest e r = tt
 next_line scene run h before (Step.Fail d) reply rest e r = tt

@@ -3,26 +3,14 @@ use Rattle.std.proofs.Common.{◌≡◌, ◌≤◌, ◌<◌, ℕ, zero, suc, ◌
 use Rattle.std.specs.Prelude.{if◌then◌else◌, slice_get}
 use Rattle.std.specs.List.{AllByRecursion}
 use Rattle.std.proofs.lemmas.List.{append_assoc, length-append}
-use Rattle.tm_word.specs.Matching.{is_empty}
-use Rattle.tm_types.specs.declared.step.Step.{Step}
-use Rattle.tm_types.specs.declared.step.Reply.{Reply}
-use Rattle.tm_legal.specs.Run.{History, step_at, places, places_from}
+use Rattle.tm_word.specs.Prelude.{is_empty}
+use Rattle.tm_rules.specs.Types.{Reply, Step}
+use Rattle.tm_legal.specs.Prelude.{History, places, places_from, step_at}
 use Rattle.tm_legal.proofs.Histories.{places-le}
 use Rattle.tm_verify_laws.specs.First.{AllAfter}
 use Rattle.tm_verify_laws.specs.Desk.{has_some}
 
--- a list that was cut at this step
-abbrev pub Cut : History → History → Step × Reply → History → Type 0
-Cut history before pair rest = history ≡ before ++ pair ∷ rest
-
 -- ---- lists
-
-pub empty_is : {A : Type 0} (xs : List A) → is_empty xs ≡ true → xs ≡ []
-empty_is [] e = refl
-empty_is (x ∷ xs) e = absurd cc
-
-pub is_none : {A : Type 0} (xs : List A) → xs ≡ [] → is_empty xs ≡ true
-is_none xs e = rw e refl
 
 pub not_false : (b : Bool) → not b ≡ true → b ≡ false
 not_false true e = absurd cc
@@ -32,10 +20,6 @@ pub not_true : (b : Bool) → b ≡ false → not b ≡ true
 not_true true e = absurd cc
 not_true false e = refl
 
-pub All-front : {A : Type 0} (P : A → Type 0) (xs ys : List A) → AllByRecursion P (xs ++ ys) → AllByRecursion P xs
-All-front P [] ys all = tt
-All-front P (x ∷ xs) ys all = (all.0, All-front P xs ys all.1)
-
 pub All-back : {A : Type 0} (P : A → Type 0) (xs ys : List A) → AllByRecursion P (xs ++ ys) → AllByRecursion P ys
 All-back P [] ys all = all
 All-back P (x ∷ xs) ys all = All-back P xs ys all.1
@@ -43,9 +27,6 @@ All-back P (x ∷ xs) ys all = All-back P xs ys all.1
 pub All-join : {A : Type 0} (P : A → Type 0) (xs ys : List A) → AllByRecursion P xs → AllByRecursion P ys → AllByRecursion P (xs ++ ys)
 All-join P [] ys all more = more
 All-join P (x ∷ xs) ys all more = (all.0, All-join P xs ys all.1 more)
-
-abbrev one : ℕ → List ℕ
-one n = n ∷ []
 
 no_more : (x : ℕ) (xs ys : List ℕ) (a : ℕ) → x ∷ (xs ++ ys) ≡ a ∷ [] → (x ≡ a) × (xs ≡ []) × (ys ≡ [])
 no_more x [] [] a e = (cc, refl, refl)

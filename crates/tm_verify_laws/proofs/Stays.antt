@@ -5,23 +5,12 @@ use Rattle.std.specs.Prelude.{if◌then◌else◌, IsSome, slice_get, slice_set,
 use Rattle.std.specs.Option.{option_map_or}
 use Rattle.std.proofs.lemmas.List.{map-append}
 use Rattle.std.proofs.lemmas.Bool.{leb-true}
-use Rattle.tm_word.specs.Words.{Text}
-use Rattle.tm_rules.specs.Words.{DomainName}
-use Rattle.tm_types.specs.declared.policy.Policy.{Policy}
-use Rattle.tm_types.specs.declared.step.FileKind.{FileKind}
-use Rattle.tm_types.specs.declared.step.Step.{Step}
-use Rattle.tm_types.specs.declared.step.Reply.{Reply}
-use Rattle.tm_types.specs.declared.step.Editor.{Editor}
-use Rattle.tm_types.specs.declared.step.EditReply.{EditReply}
-use Rattle.tm_rules.specs.Grammar.{Grammar}
-use Rattle.tm_rules.specs.Edit.{Edited, apply_line, put_member}
-use Rattle.tm_rules.specs.Changes.{in_domain, learn, make, fail, is_manager}
-use Rattle.tm_rules.specs.Queries.{ask, numbered}
-use Rattle.tm_legal.specs.Steps.{State, Applied, apply, after, unfit, on_policy, on_queries, fits_entry, fits_name, edit_step}
-use Rattle.tm_legal.specs.Run.{History, steps_of}
-use Rattle.tm_legal.specs.Legal.{Scene, opening_of, Replies}
+use Rattle.tm_word.specs.Prelude.{Text}
+use Rattle.tm_rules.specs.Prelude.{DomainName, Edited, Grammar, apply_line, ask, fail, in_domain, is_manager, learn, make, numbered, put_member}
+use Rattle.tm_rules.specs.Types.{EditReply, Editor, FileKind, Policy, Reply, Step}
+use Rattle.tm_legal.specs.Prelude.{Applied, History, Replies, Scene, State, after, apply, edit_step, fits_entry, fits_name, newest, on_policy, on_queries, opening_of, steps_of, unfit}
 use Rattle.tm_verify_laws.specs.First.{AllAfter}
-use Rattle.tm_verify_laws.specs.Desk.{state_after, EndsAreOfTrees}
+use Rattle.tm_verify_laws.specs.Desk.{EndsAreOfTrees}
 use Rattle.tm_verify_laws.proofs.Splits.{cut_at}
 use Rattle.tm_verify_laws.proofs.FirstLaws.{at_split}
 
@@ -87,10 +76,10 @@ all_stay g s (step ∷ steps) =
     let rest = all_stay g (apply g s step).state steps in
     record { editors = rest.editors ∙ first.editors; trees = rest.trees ∙ first.trees }
 
-pub editors_stay : (scene : Scene) (before : History) → (state_after scene before).editors ≡ scene.editors
+pub editors_stay : (scene : Scene) (before : History) → (newest scene before).editors ≡ scene.editors
 editors_stay scene before = (all_stay scene.grammar (opening_of scene) (steps_of before)).editors
 
-pub trees_stay : (scene : Scene) (before : History) → (state_after scene before).trees ≡ length scene.trace
+pub trees_stay : (scene : Scene) (before : History) → (newest scene before).trees ≡ length scene.trace
 trees_stay scene before = (all_stay scene.grammar (opening_of scene) (steps_of before)).trees
 
 -- ---- one step more
@@ -100,19 +89,19 @@ unfolding after
 after_more g s [] step = refl
 after_more g s (x ∷ xs) step = after_more g (apply g s x).state xs step
 
-pub state_more : (scene : Scene) (before : History) (pair : Step × Reply) → state_after scene (before ++ pair ∷ []) ≡ (apply scene.grammar (state_after scene before) pair.0).state
+pub state_more : (scene : Scene) (before : History) (pair : Step × Reply) → newest scene (before ++ pair ∷ []) ≡ (apply scene.grammar (newest scene before) pair.0).state
 state_more scene before pair =
     ap (after scene.grammar (opening_of scene)) (map-append (λ (p : Step × Reply). p.0) before (pair ∷ [])) ∙ after_more scene.grammar (opening_of scene) (steps_of before) pair.0
 
 -- each step has its reply after those before it
 abbrev pub RepliesAt : Scene → History → Step × Reply → Type 0
-RepliesAt scene before pair = (apply scene.grammar (state_after scene before) pair.0).reply ≡ Some pair.1
+RepliesAt scene before pair = (apply scene.grammar (newest scene before) pair.0).reply ≡ Some pair.1
 
-pub replies_at : (scene : Scene) (rest before : History) → Replies scene.grammar (state_after scene before) rest → AllAfter (RepliesAt scene) before rest
+pub replies_at : (scene : Scene) (rest before : History) → Replies scene.grammar (newest scene before) rest → AllAfter (RepliesAt scene) before rest
 replies_at scene [] before h = tt
 replies_at scene (pair ∷ rest) before h = (h.0, replies_at scene rest (before ++ pair ∷ []) (subst (λ s. Replies scene.grammar s rest) (sym (state_more scene before pair)) h.1))
 
-pub at_replies : (scene : Scene) (rest before : History) → AllAfter (RepliesAt scene) before rest → Replies scene.grammar (state_after scene before) rest
+pub at_replies : (scene : Scene) (rest before : History) → AllAfter (RepliesAt scene) before rest → Replies scene.grammar (newest scene before) rest
 at_replies scene [] before h = tt
 at_replies scene (pair ∷ rest) before h = (h.0, subst (λ s. Replies scene.grammar s rest) (state_more scene before pair) (at_replies scene rest (before ++ pair ∷ []) h.1))
 
@@ -134,12 +123,12 @@ end_there : (s : State) (t : ℕ) (b : Bool) (r : Reply) → (let a : Applied = 
 end_there s t true r e = refl
 end_there s t false r e = absurd cc
 
-tree_there : (scene : Scene) (before : History) (t : ℕ) (r : Reply) → (apply scene.grammar (state_after scene before) (Step.End t)).reply ≡ Some r → IsSome (numbered scene.trace t)
+tree_there : (scene : Scene) (before : History) (t : ℕ) (r : Reply) → (apply scene.grammar (newest scene before) (Step.End t)).reply ≡ Some r → IsSome (numbered scene.trace t)
 unfolding apply
 tree_there scene before zero r e = absurd cc
 tree_there scene before (suc k) r e =
-    let b = end_there (state_after scene before) (suc k) (nat_lt 0 (suc k) && nat_le (suc k) (state_after scene before).trees) r e in
-    let le = leb-true (suc k) (state_after scene before).trees (both (nat_lt 0 (suc k)) _ b).1 in
+    let b = end_there (newest scene before) (suc k) (nat_lt 0 (suc k) && nat_le (suc k) (newest scene before).trees) r e in
+    let le = leb-true (suc k) (newest scene before).trees (both (nat_lt 0 (suc k)) _ b).1 in
     let long = trees_stay scene before in
     there_in scene.trace k (omega (arith, le, long))
 

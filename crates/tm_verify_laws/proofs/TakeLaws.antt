@@ -5,17 +5,10 @@ use Rattle.std.specs.Option.{IfSome}
 use Rattle.std.specs.List.{AllByRecursion}
 use Rattle.std.proofs.lemmas.Bool.{leb-true, le-leb}
 use Rattle.std.proofs.lemmas.List.{map-append, length-append, length-map, length-take-le, take-append-drop}
-use Rattle.tm_word.specs.Matching.{is_empty}
-use Rattle.tm_rules.specs.Words.{Trace}
-use Rattle.tm_types.specs.declared.policy.Policy.{Policy}
-use Rattle.tm_types.specs.declared.request.Item.{Item}
-use Rattle.tm_types.specs.declared.verdict.Verdict.{Verdict}
-use Rattle.tm_types.specs.declared.step.Step.{Step}
-use Rattle.tm_types.specs.declared.step.Look.{Look}
-use Rattle.tm_types.specs.declared.step.Take.{Take}
-use Rattle.tm_types.specs.declared.step.Run.{Run}
-use Rattle.tm_legal.specs.Run.{History, step_at, seen, raised, Situations, with_situation, with_ids, forked, after_take, at_start, Case, tree_cases, cases_from, do_pids, all_do_pids}
-use Rattle.tm_legal.specs.Legal.{Scene, Subject, cases_of, subject_of, TakesInOrder, VerdictsHold, StepsAreAsked, TakeHolds, LookHolds, OwnSteps, LooksRise, own_numbers, verdict_at, steps_asked, retry_written, look_grants}
+use Rattle.tm_word.specs.Prelude.{is_empty}
+use Rattle.tm_rules.specs.Prelude.{Trace}
+use Rattle.tm_rules.specs.Types.{Item, Look, Policy, Run, Step, Take, Verdict}
+use Rattle.tm_legal.specs.Prelude.{Case, History, LookHolds, LooksRise, OwnSteps, Scene, Situations, StepsAreAsked, Subject, TakeHolds, TakesInOrder, VerdictsHold, after_take, all_do_pids, at_start, cases_from, cases_of, do_pids, forked, look_grants, own_numbers, raised, retry_written, seen, step_at, steps_asked, subject_of, tree_cases, verdict_at, with_ids, with_situation}
 use Rattle.tm_legal.proofs.Legality.{cases_take}
 use Rattle.tm_verify_laws.specs.Placed.{OwnAreSteps}
 use Rattle.tm_verify_laws.specs.Broken.{Belongs, PairsFail}
@@ -103,9 +96,6 @@ pairs_none n (t ∷ takes) (pid ∷ pids) h =
     let same : t.pid ≡ pid = cc in
     let rest : map (λ (x : Take). x.pid) takes ≡ pids = cc in
     rw (does_belong t pid (same, h.1.0)) (pairs_none (suc n) takes pids (rest, h.1.1))
-
-some : ℕ → Option ℕ
-some k = Some k
 
 pairs_first : (n : ℕ) (takes : List Take) (pids : List ℕ) (k : ℕ) → pairs_fault n takes pids ≡ Some k → PairsFail n takes pids k
 pairs_first n [] [] k e = absurd cc

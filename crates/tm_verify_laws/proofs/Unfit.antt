@@ -2,19 +2,10 @@
 use Rattle.std.proofs.Common.{◌≡◌, ℕ, zero, suc, Bool, true, false, ◌&&◌, not, nat_lt, nat_le, List, [], ◌∷◌, Option, Some, None, refl}
 use Rattle.std.specs.Prelude.{if◌then◌else◌, is_some, slice_get, slice_set, unwrap_or}
 use Rattle.std.specs.Option.{option_map_or}
-use Rattle.tm_word.specs.Words.{Text}
-use Rattle.tm_rules.specs.Words.{DomainName}
-use Rattle.tm_types.specs.declared.policy.Policy.{Policy}
-use Rattle.tm_types.specs.declared.step.FileKind.{FileKind}
-use Rattle.tm_types.specs.declared.step.EditReply.{EditReply}
-use Rattle.tm_types.specs.declared.step.Step.{Step}
-use Rattle.tm_types.specs.declared.step.Reply.{Reply}
-use Rattle.tm_types.specs.declared.step.Editor.{Editor}
-use Rattle.tm_rules.specs.Grammar.{Grammar}
-use Rattle.tm_rules.specs.Edit.{Edited, apply_line, put_member}
-use Rattle.tm_rules.specs.Changes.{in_domain, learn, make, fail, is_manager}
-use Rattle.tm_rules.specs.Queries.{ask}
-use Rattle.tm_legal.specs.Steps.{State, Applied, apply, unfit, on_policy, on_queries, fits_entry, fits_name, edit_step}
+use Rattle.tm_word.specs.Prelude.{Text}
+use Rattle.tm_rules.specs.Prelude.{DomainName, Edited, Grammar, apply_line, ask, fail, in_domain, is_manager, learn, make, put_member}
+use Rattle.tm_rules.specs.Types.{EditReply, Editor, FileKind, Policy, Reply, Step}
+use Rattle.tm_legal.specs.Prelude.{Applied, State, apply, edit_step, fits_entry, fits_name, on_policy, on_queries, unfit}
 
 -- where it has no reply, it leaves the state
 abbrev Leaves : State → Applied → Type 0

@@ -2,10 +2,8 @@
 use Rattle.std.specs.Prelude.{◌≡◌, ℕ, zero, suc, ◌⊎◌, ◌<◌, ⊤, List, [], ◌∷◌, length}
 use Rattle.std.specs.Option.{IfSome}
 use Rattle.std.specs.List.{AllByRecursion}
-use Rattle.tm_types.specs.declared.step.Take.{Take}
-use Rattle.tm_types.specs.declared.step.Run.{Run}
-use Rattle.tm_legal.specs.Run.{Case, all_do_pids}
-use Rattle.tm_legal.specs.Legal.{Scene, Legal, cases_of, subject_of, LooksRise, TakeHolds, OwnSteps, TakeHears, EndsWith, last_look, TakesInOrder, VersionsRise, VerdictsHold, StepsAreAsked, StepsHavePlaces, SupervisorActs, AnswersAreHeard, OutcomesHold}
+use Rattle.tm_rules.specs.Types.{Run, Take}
+use Rattle.tm_legal.specs.Prelude.{AnswersAreHeard, Case, EndsWith, Legal, LooksRise, OutcomesHold, OwnSteps, Scene, StepsAreAsked, StepsHavePlaces, SupervisorActs, TakeHears, TakeHolds, TakesInOrder, VerdictsHold, VersionsRise, all_do_pids, cases_of, last_look, subject_of}
 use Rattle.tm_verify_laws.specs.First.{FirstFails}
 use Rattle.tm_verify_laws.specs.Placed.{PlacesFail}
 use Rattle.tm_verify_laws.specs.Desk.{DeskFails}

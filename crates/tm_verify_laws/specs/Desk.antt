@@ -3,24 +3,11 @@
 use Rattle.std.specs.Prelude.{◌≡◌, ◌↔◌, ◌⊎◌, ◌<◌, ⊤, ℕ, suc, ◌==◌, ◌&&◌, ◌||◌, not, nat_lt, Bool, true, false, [], ◌∷◌, length, take, Option, Some, None, IsSome, is_some, if◌then◌else◌}
 use Rattle.std.specs.Option.{option_or, IfSome}
 use Rattle.std.specs.List.{AllByRecursion, list_all}
-use Rattle.tm_word.specs.Matching.{is_empty}
-use Rattle.tm_rules.specs.Words.{Trace}
-use Rattle.tm_types.specs.declared.request.Tree.{Tree}
-use Rattle.tm_types.specs.declared.step.Step.{Step}
-use Rattle.tm_types.specs.declared.step.Reply.{Reply}
-use Rattle.tm_types.specs.declared.step.Query.{Query}
-use Rattle.tm_types.specs.declared.step.Book.{Book}
-use Rattle.tm_types.specs.declared.step.Run.{Run}
-use Rattle.tm_rules.specs.Queries.{first_query, numbered}
-use Rattle.tm_rules.specs.Book.{book_answer, code_of}
-use Rattle.tm_legal.specs.Steps.{State, after}
-use Rattle.tm_legal.specs.Run.{History, steps_of, step_at, places}
-use Rattle.tm_legal.specs.Legal.{Scene, opening_of, is_attach, is_detach, is_answer, is_end, is_of_supervisor, seen_by_tree, Replies, SupervisorActs}
+use Rattle.tm_word.specs.Prelude.{is_empty}
+use Rattle.tm_rules.specs.Prelude.{Trace, book_answer, code_of, first_query, numbered}
+use Rattle.tm_rules.specs.Types.{Book, Query, Reply, Run, Step, Tree}
+use Rattle.tm_legal.specs.Prelude.{History, Replies, Scene, SupervisorActs, is_answer, is_attach, is_detach, is_end, is_of_supervisor, newest, opening_of, places, seen_by_tree, step_at}
 use Rattle.tm_verify_laws.specs.First.{FirstFails, first_failing, AllAfter, FirstFailsAfter, first_failing_after}
-
--- the state after these steps
-abbrev pub state_after : Scene → History → State
-state_after scene before = after scene.grammar (opening_of scene) (steps_of before)
 
 -- ---- what may be done
 
@@ -43,7 +30,7 @@ AllEnded scene before =
 pub record MayAnswer (scene : Scene) (book : Book) (before : History) (serial code : ℕ) : Type 0 where
   pub there : IsThere before
   pub room : IfSome book.stop (λ stop. length (places is_answer before) < stop)
-  pub by_book : (query : Query) × (first_query (state_after scene before).queries ≡ Some query)
+  pub by_book : (query : Query) × (first_query (newest scene before).queries ≡ Some query)
       × (query.serial ≡ serial) × (code_of (book_answer book query) ≡ code)
 
 -- the supervisor may leave: after the book's number of answers, or after all trees' ends with no
@@ -51,7 +38,7 @@ pub record MayAnswer (scene : Scene) (book : Book) (before : History) (serial co
 pub record MayLeave (scene : Scene) (book : Book) (before : History) : Type 0 where
   pub there : IsThere before
   pub due : (book.stop ≡ Some (length (places is_answer before)))
-      ⊎ (AllEnded scene before × (first_query (state_after scene before).queries ≡ None))
+      ⊎ (AllEnded scene before × (first_query (newest scene before).queries ≡ None))
 
 -- tree t may end: it hasn't yet, and all that its takes have seen is below the next step's number
 pub record MayEnd (scene : Scene) (run : Run) (before : History) (t : ℕ) : Type 0 where
@@ -136,7 +123,7 @@ abbrev pub may_leave : Scene → Book → History → Bool
 may_leave scene book before =
     is_stop book.stop (length (places is_answer before))
     || (trees_ended 1 scene.trace before
-    && not (is_some (first_query (state_after scene before).queries)))
+    && not (is_some (first_query (newest scene before).queries)))
 
 -- all that a tree's takes have seen is below this number
 abbrev pub is_above : Scene → Run → ℕ → ℕ → Bool
@@ -148,7 +135,7 @@ may_act scene run book before Step.Attach = not (has_some is_attach before)
 may_act scene run book before (Step.Answer serial code) =
     is_there before
     && (has_room book.stop (length (places is_answer before))
-    && is_answered_so book (first_query (state_after scene before).queries) serial code)
+    && is_answered_so book (first_query (newest scene before).queries) serial code)
 may_act scene run book before Step.Detach = is_there before && may_leave scene book before
 may_act scene run book before (Step.End t) =
     not (has_some (is_end t) before) && is_above scene run t (suc (length before))

@@ -1,16 +1,10 @@
 -- With which step the steps of a run have no place.
 use Rattle.std.specs.Prelude.{◌≡◌, ◌↔◌, ℕ, suc, ◌⊎◌, ⊤, [], length, Some, IsSome, slice_get}
 use Rattle.std.specs.List.{AllByRecursion}
-use Rattle.tm_types.specs.declared.step.Step.{Step}
-use Rattle.tm_types.specs.declared.step.Reply.{Reply}
-use Rattle.tm_types.specs.declared.step.Editor.{Editor}
-use Rattle.tm_types.specs.declared.step.Run.{Run}
-use Rattle.tm_rules.specs.Queries.{numbered}
-use Rattle.tm_legal.specs.Steps.{apply}
-use Rattle.tm_legal.specs.Run.{History, step_at}
-use Rattle.tm_legal.specs.Legal.{Scene, own_numbers, times, times_owned, lines_of_editor, StepsHavePlaces}
+use Rattle.tm_rules.specs.Types.{Editor, Reply, Run, Step}
+use Rattle.tm_rules.specs.Prelude.{numbered}
+use Rattle.tm_legal.specs.Prelude.{History, Scene, StepsHavePlaces, apply, lines_of_editor, newest, own_numbers, step_at, times, times_owned}
 use Rattle.tm_verify_laws.specs.First.{AllAfter, FirstFailsAfter}
-use Rattle.tm_verify_laws.specs.Desk.{state_after}
 
 -- an edit is its editor's next line after these steps
 abbrev pub IsNextLine : Scene → History → Step → Type 0
@@ -22,7 +16,7 @@ IsNextLine scene before _ = ⊤
 pub record IsPlaced (scene : Scene) (run : Run) (before : History) (pair : Step × Reply) : Type 0 where
   pub own : times (suc (length before)) (own_numbers run.takes) ≡ times_owned (Some pair.0)
   pub next : IsNextLine scene before pair.0
-  pub reply : (apply scene.grammar (state_after scene before) pair.0).reply ≡ Some pair.1
+  pub reply : (apply scene.grammar (newest scene before) pair.0).reply ≡ Some pair.1
 
 -- no editor's line is missing
 abbrev pub NoLineMissing : Scene → History → Type 0

@@ -1,12 +1,9 @@
 -- Tests of the first clauses, and the numbers that they find.
 use Rattle.std.specs.Prelude.{◌≡◌, ◌↔◌, ℕ, suc, ◌==◌, ◌&&◌, ◌<◌, nat_le, Bool, true, List, [], ◌∷◌, length, map, Option, Some, None, if◌then◌else◌, not}
 use Rattle.std.specs.List.{AllByRecursion}
-use Rattle.tm_word.specs.Matching.{is_empty}
-use Rattle.tm_types.specs.declared.step.Look.{Look}
-use Rattle.tm_types.specs.declared.step.Take.{Take}
-use Rattle.tm_types.specs.declared.step.Run.{Run}
-use Rattle.tm_legal.specs.Run.{Case, History, seen, raised}
-use Rattle.tm_legal.specs.Legal.{Scene, cases_of, LooksRise, TakesInOrder, VerdictsHold, StepsAreAsked}
+use Rattle.tm_word.specs.Prelude.{is_empty}
+use Rattle.tm_rules.specs.Types.{Look, Run, Take}
+use Rattle.tm_legal.specs.Prelude.{Case, History, LooksRise, Scene, StepsAreAsked, TakesInOrder, VerdictsHold, cases_of, raised, seen}
 use Rattle.tm_verify_laws.specs.Placed.{OwnAreSteps}
 use Rattle.tm_verify_laws.specs.Broken.{PairsFail}
 

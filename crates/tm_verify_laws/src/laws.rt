@@ -1,8 +1,8 @@
 //! Laws of runs that aren't legal.
 ghost use Rattle.std.specs.Prelude.{◌≡◌, None};
-ghost use Rattle.tm_types.specs.declared.step.Step.{Step};
-ghost use Rattle.tm_rules.specs.Grammar.{Grammar};
-ghost use Rattle.tm_legal.specs.Steps.{State, apply};
+ghost use Rattle.tm_rules.specs.Types.{Step};
+ghost use Rattle.tm_rules.specs.Prelude.{Grammar};
+ghost use Rattle.tm_legal.specs.Prelude.{State, apply};
 ghost use Rattle.tm_verify_laws.specs.Broken.{BrokenIsNotLegal, BrokenOnce};
 ghost use Rattle.tm_verify_laws.specs.Desk.{DeskDecides, DeskFaultFinds, DeskFaultStays};
 ghost use Rattle.tm_verify_laws.specs.Looks.{OwnOrderDecides, FollowingDecides};

@@ -5,7 +5,7 @@ use Rattle.std.specs.Prelude.{slice_get, set, get_or, if◌then◌else◌, ◌�
 use Rattle.std.specs.List.{AllByRecursion, list_all, slice_index_or}
 use Rattle.tm_verify_laws.specs.First.{FirstFails, first_failing}
 use Rattle.tm_verify_laws.proofs.FirstLaws.{some_is}
-use Rattle.tm_verify_notes.specs.Noting.{EachWith}
+use Rattle.tm_take.specs.Each.{EachWith}
 
 pub each_at : {A B : Type 0} (P : A → B → Type 0) (xs : List A) (ys : List B) (k : ℕ) (x : A) (y : B) → EachWith P xs ys → slice_get xs k ≡ Some x → slice_get ys k ≡ Some y → P x y
 each_at P [] ys k x y h e f = absurd cc
@@ -79,12 +79,6 @@ each_some P t n (x ∷ xs) (y ∷ ys) k h e = go (t y) refl e (each_some P t (su
     go : (b : Bool) → t y ≡ b → (if b then first_failing t (suc n) ys else Some n) ≡ Some k → (first_failing t (suc n) ys ≡ Some k → FirstFails P (suc n) xs k) → FirstFails P n (x ∷ xs) k
     go true is f more = inr (h.0.0 is, more f)
     go false is f more = inl (sym (some_is n k f), λ p. let yes : t y ≡ true = h.0.1 p in absurd cc)
-
--- what holds of all holds of each
-pub all_at : {A : Type 0} (P : A → Type 0) (xs : List A) (k : ℕ) (x : A) → AllByRecursion P xs → slice_get xs k ≡ Some x → P x
-all_at P [] k x h e = absurd cc
-all_at P (y ∷ xs) zero x h e = let same : y ≡ x = cc in subst P same h.0
-all_at P (y ∷ xs) (suc k) x h e = all_at P xs k x h.1 e
 
 -- a relation that follows from another
 pub each_as : {A B : Type 0} (P Q : A → B → Type 0) → ((x : A) (y : B) → P x y → Q x y) → (xs : List A) (ys : List B) → EachWith P xs ys → EachWith Q xs ys

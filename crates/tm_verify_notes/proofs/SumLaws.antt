@@ -4,25 +4,25 @@ use Rattle.std.specs.Prelude.{◌↔◌, slice_get, replicate}
 use Rattle.std.specs.Option.{IfSome}
 use Rattle.std.specs.List.{AllByRecursion, list_all}
 use Rattle.std.proofs.lemmas.List.{length-map}
-use Rattle.tm_types.specs.declared.step.Look.{Look}
-use Rattle.tm_legal.specs.Run.{History, Case}
-use Rattle.tm_legal.specs.Legal.{Scene, subject_of, last_look, last_number, LookHolds, OwnSteps, LookHears, LooksFollow, EndsWith}
+use Rattle.tm_rules.specs.Types.{Look}
+use Rattle.tm_legal.specs.Prelude.{Case, EndsWith, History, LookHears, LookHolds, LooksFollow, OwnSteps, Scene, last_from, last_look, last_number, subject_of}
 use Rattle.tm_verify_laws.specs.Looks.{do_follow}
 use Rattle.tm_verify_laws.proofs.LookLaws.{following}
 use Rattle.tm_verify_notes.specs.declared.notes.LookNote.{LookNote}
 use Rattle.tm_verify_notes.specs.declared.notes.PartNote.{PartNote}
 use Rattle.tm_verify_notes.specs.declared.sums.TakeNote.{TakeNote}
-use Rattle.tm_verify_notes.specs.Noting.{EachWith, LookOn, looks_on, all_looks, IsLookNote, IsPartNote, IsTakeNote}
-use Rattle.tm_verify_notes.specs.Sums.{Completes, last_of}
+use Rattle.tm_take.specs.Each.{EachWith}
+use Rattle.tm_verify_notes.specs.Noting.{LookOn, looks_on, all_looks, IsLookNote, IsPartNote, IsTakeNote}
+use Rattle.tm_verify_notes.specs.Sums.{Completes}
 use Rattle.tm_verify_notes.proofs.EachLaws.{each_all, each_as, each_mapped, each_then, each_at, each_front, each_rest}
 use Rattle.tm_verify_notes.proofs.NoteLaws.{both_decide}
 
 -- the last of several is found by going over them
-pub last_number_is : (own : List ℕ) → last_of 0 own ≡ last_number own
+pub last_number_is : (own : List ℕ) → last_from 0 own ≡ last_number own
 last_number_is [] = refl
 last_number_is (n ∷ own) = go n own
   where
-    go : (n : ℕ) (own : List ℕ) → last_of n own ≡ last_number (n ∷ own)
+    go : (n : ℕ) (own : List ℕ) → last_from n own ≡ last_number (n ∷ own)
     go n [] = refl
     go n (m ∷ own) = go m own
 

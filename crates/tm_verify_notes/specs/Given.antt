@@ -1,9 +1,8 @@
 -- The scene that a run is judged by, and its steps.
 use Rattle.std.specs.Option.{option_copied}
 use Rattle.tm_take.specs.Tomoyo.{tomoyo_grammar}
-use Rattle.tm_types.specs.declared.step.Run.{Run}
-use Rattle.tm_legal.specs.Run.{History}
-use Rattle.tm_legal.specs.Legal.{Scene}
+use Rattle.tm_rules.specs.Types.{Run}
+use Rattle.tm_legal.specs.Prelude.{History, Scene}
 use Rattle.tm_verify_notes.specs.declared.given.Given.{Given}
 
 -- what the run is judged against

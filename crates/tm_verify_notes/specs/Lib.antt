@@ -3,7 +3,4 @@ pub mod Cases
 pub mod Noting
 pub mod Sums
 pub mod Stepping
-pub use Rattle.tm_take.specs.Entries
-pub use Rattle.tm_take.specs.declared.situations.ProcessSituation
-pub use Rattle.tm_take.specs.Situations
 pub use Rattle.tm_take.specs.Tomoyo

@@ -1,26 +1,16 @@
 -- What is noted of looks and of takes.
-use Rattle.std.specs.Prelude.{◌≡◌, ◌↔◌, ⊤, ℕ, Bool, true, List, [], ◌∷◌, map, flat_map, Option, Some}
+use Rattle.std.specs.Prelude.{◌≡◌, ◌↔◌, ℕ, Bool, true, List, map, flat_map, Option, Some}
 use Rattle.std.specs.Option.{IfSome}
 use Rattle.std.specs.List.{AllByRecursion}
-use Rattle.tm_word.specs.Words.{Text}
-use Rattle.tm_types.specs.declared.step.Look.{Look}
-use Rattle.tm_types.specs.declared.verdict.Verdict.{Verdict}
-use Rattle.tm_rules.specs.Audit.{audit_text}
-use Rattle.tm_rules.specs.Requests.{is_request}
+use Rattle.tm_word.specs.Prelude.{Text}
+use Rattle.tm_rules.specs.Types.{Look, Verdict}
+use Rattle.tm_rules.specs.Prelude.{audit_text, is_request}
 use Rattle.tm_take.specs.Tomoyo.{tomoyo_grammar}
-use Rattle.tm_legal.specs.Run.{History, Case, step_at}
-use Rattle.tm_legal.specs.Legal.{Scene, subject_of, state_at, verdict_at, IsShown, LookHolds, OwnSteps, steps_asked, retry_written, look_grants, RisesFrom, MakesAfterYes, LookHears, TakeHolds, TakeHears, EndsWith, last_look}
+use Rattle.tm_legal.specs.Prelude.{Case, EndsWith, History, IsShown, LookHears, LookHolds, MakesAfterYes, OwnSteps, RisesFrom, Scene, TakeHears, TakeHolds, last_look, look_grants, retry_written, state_at, step_at, steps_asked, subject_of, verdict_at}
 use Rattle.tm_verify_notes.specs.declared.notes.VerdictNote.{VerdictNote}
 use Rattle.tm_verify_notes.specs.declared.notes.LookNote.{LookNote}
 use Rattle.tm_verify_notes.specs.declared.notes.PartNote.{PartNote}
 use Rattle.tm_verify_notes.specs.declared.sums.TakeNote.{TakeNote}
-
--- P of each element and the one at its place in the other list, which is as long
-abbrev pub EachWith : {A B : Type 0} → (A → B → Type 0) → List A → List B → Type 0
-EachWith P [] [] = ⊤
-EachWith P [] (y ∷ ys) = ⊥
-EachWith P (x ∷ xs) [] = ⊥
-EachWith P (x ∷ xs) (y ∷ ys) = P x y × EachWith P xs ys
 
 -- a look beside the `do` line and the take that it belongs to
 abbrev pub LookOn : Type 0

@@ -1,15 +1,10 @@
 -- What is noted of steps.
 use Rattle.std.specs.Prelude.{◌≡◌, ◌↔◌, ⊤, Bool, true, not, List, [], ◌∷◌, ◌++◌, Option, Some, None, is_some}
-use Rattle.tm_types.specs.declared.step.Step.{Step}
-use Rattle.tm_types.specs.declared.step.Reply.{Reply}
-use Rattle.tm_types.specs.declared.step.Query.{Query}
-use Rattle.tm_types.specs.declared.step.Book.{Book}
-use Rattle.tm_rules.specs.Queries.{first_query}
+use Rattle.tm_rules.specs.Types.{Book, Query, Reply, Step}
+use Rattle.tm_rules.specs.Prelude.{first_query}
 use Rattle.tm_take.specs.Tomoyo.{tomoyo_grammar}
-use Rattle.tm_legal.specs.Steps.{State, apply}
-use Rattle.tm_legal.specs.Run.{History}
-use Rattle.tm_legal.specs.Legal.{Scene}
-use Rattle.tm_verify_laws.specs.Desk.{state_after, is_answered_so}
+use Rattle.tm_legal.specs.Prelude.{History, Scene, State, apply, newest}
+use Rattle.tm_verify_laws.specs.Desk.{is_answered_so}
 use Rattle.tm_verify_notes.specs.declared.steps.StepNote.{StepNote}
 
 -- with this first unanswered query, none or one, the book lets the supervisor make the step
@@ -34,7 +29,7 @@ pub record IsNotedIn (book : Option Book) (state : State) (step : Step) (reply :
 -- the same of a step after others
 abbrev pub IsStepNote : Scene → History → Step × Reply → StepNote → Type 0
 IsStepNote scene before pair note =
-    IsNotedIn scene.book (state_after scene before) pair.0 pair.1 note
+    IsNotedIn scene.book (newest scene before) pair.0 pair.1 note
 
 -- of each step, where these came before
 abbrev pub AreNoted : Scene → History → History → List StepNote → Type 0

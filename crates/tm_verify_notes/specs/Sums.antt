@@ -1,5 +1,5 @@
 -- Takes by the notes of their looks.
-use Rattle.std.specs.Prelude.{◌≡◌, ℕ, Bool, List, [], ◌∷◌, Some}
+use Rattle.std.specs.Prelude.{◌≡◌, Bool, Some}
 use Rattle.tm_verify_notes.specs.declared.notes.LookNote.{LookNote}
 use Rattle.tm_verify_notes.specs.declared.notes.PartNote.{PartNote}
 use Rattle.tm_verify_notes.specs.declared.sums.TakeNote.{TakeNote}
@@ -16,8 +16,3 @@ flag Flag.Holds note = note.holds
 flag Flag.Owns note = note.owns
 flag Flag.Hears note = note.hears
 flag Flag.Ends note = note.ends
-
--- the last number, or this one
-abbrev pub last_of : ℕ → List ℕ → ℕ
-last_of low [] = low
-last_of low (n ∷ ns) = last_of n ns

@@ -1,7 +1,8 @@
 //! The looks of all takes in one list.
 ghost use Rattle.std.specs.Prelude.{◌≡◌, ◌++◌, IfOk, OnOk};
 ghost use Rattle.tm_verify_notes.specs.Given.{scene_of, history_of};
-ghost use Rattle.tm_verify_notes.specs.Noting.{looks_on, all_looks, IsPartNote, EachWith};
+ghost use Rattle.tm_take.specs.Each.{EachWith};
+ghost use Rattle.tm_verify_notes.specs.Noting.{looks_on, all_looks, IsPartNote};
 
 use crate::cases::DoCase;
 use crate::given::Given;

@@ -2,9 +2,8 @@
 ghost use Rattle.std.specs.Prelude.{◌≡◌, nat_lt, Some};
 ghost use Rattle.std.specs.List.{list_all};
 ghost use Rattle.std.specs.Option.{option_copied};
-ghost use Rattle.tm_rules.specs.Queries.{numbered};
-ghost use Rattle.tm_legal.specs.Run.{step_at, reply_at};
-ghost use Rattle.tm_legal.specs.Legal.{retry_of, retry_written, is_retry};
+ghost use Rattle.tm_rules.specs.Prelude.{numbered};
+ghost use Rattle.tm_legal.specs.Prelude.{is_retry, reply_at, retry_of, retry_written, step_at};
 ghost use Rattle.tm_verify_laws.specs.Looks.{rises_from, is_after_answer, asks_so, is_followed, goes_on, do_follow};
 
 use tm_types::step::{Answered, Heard, Look, Reply, Step};

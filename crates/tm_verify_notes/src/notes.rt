@@ -1,13 +1,12 @@
 //! A look beside the verdict of its version.
 ghost use Rattle.std.specs.Prelude.{◌≡◌, ◌↔◌, ◌&&◌, true};
-ghost use Rattle.tm_legal.specs.Legal.{look_grants, is_yes, IsShown};
+ghost use Rattle.tm_legal.specs.Prelude.{IsShown};
 ghost use Rattle.tm_verify_laws.specs.Looks.{rises_from, is_after_answer};
 
 use crate::looks::{is_after_answer, rises_from};
 use tm_list::Same;
-use tm_take::grants;
-use tm_types::step::{Answered, Heard, Look};
-use tm_types::verdict::{Reason, Verdict};
+use tm_types::step::Look;
+use tm_types::verdict::Verdict;
 
 /// What is noted of a look beside the verdict of its version: whether it shows it, whether its own
 /// steps are those that it asks for, and whether its take has the audit text that goes with it.
@@ -30,29 +29,6 @@ pub struct LookNote {
 pub struct PartNote {
     pub verdict: Option<VerdictNote>,
     pub hears: Option<bool>,
-}
-
-// Whether the answer yes was heard.
-fn is_yes(heard: Option<Heard>) -> bool
-    ensures { result ≡ is_yes heard }
-{
-    match heard {
-        None => false,
-        Some(heard) => match heard.answer {
-            Some(Answered::Yes) => true,
-            _ => false,
-        },
-    }
-}
-
-/// Whether a look grants: by its reason, or by the answer yes.
-pub fn look_grants(look: &Look) -> bool
-    ensures { result ≡ look_grants look.now }
-{
-    match look.reason {
-        Reason::Ask => is_yes(look.heard),
-        _ => grants(&look.reason),
-    }
 }
 
 // Whether the own steps of a look stand above its version and its answer, in rising order.

@@ -2,18 +2,20 @@
 ghost use Rattle.std.specs.Prelude.{◌≡◌, ◌↔◌, ◌&&◌, true, Some, IfOk, take, drop};
 ghost use Rattle.std.specs.List.{list_all};
 ghost use Rattle.std.specs.Option.{IfSome};
-ghost use Rattle.tm_legal.specs.Legal.{look_grants, subject_of, last_look, last_number, made_number, domain_after, EndsWith};
+ghost use Rattle.tm_legal.specs.Prelude.{EndsWith, domain_after, last_look, last_number, look_grants, made_number, subject_of};
 ghost use Rattle.tm_verify_laws.specs.First.{first_failing};
 ghost use Rattle.tm_verify_notes.specs.Given.{scene_of, history_of};
-ghost use Rattle.tm_verify_notes.specs.Noting.{looks_on, all_looks, EachWith, IsLookNote, IsTakeNote};
+ghost use Rattle.tm_take.specs.Each.{EachWith};
+ghost use Rattle.tm_verify_notes.specs.Noting.{looks_on, all_looks, IsLookNote, IsTakeNote};
 ghost use Rattle.tm_verify_notes.specs.Sums.{Completes, flag};
 
 use crate::cases::DoCase;
 use crate::given::Given;
 use crate::looks::{do_follow, reply_at};
-use crate::notes::{LookNote, PartNote, look_grants};
+use crate::notes::{LookNote, PartNote};
 use std::alloc::{AllocError, Global};
 use tm_list::{NoMemory, Same};
+use tm_take::look_grants;
 use tm_types::step::{Look, MakeReply, Reply};
 use tm_types::verdict::Move;
 

@@ -1,12 +1,13 @@
 //! Takes and `do` lines, and the versions of looks.
 ghost use Rattle.std.specs.Prelude.{◌≡◌, ◌++◌, length, IfOk, OnOk};
-ghost use Rattle.tm_legal.specs.Run.{seen, raised, heard_version, do_pids, all_do_pids};
+ghost use Rattle.tm_legal.specs.Prelude.{all_do_pids, do_pids};
 ghost use Rattle.tm_verify_laws.specs.Scans.{do_belong, pairs_fault, do_rise};
 
 use std::alloc::Global;
 use tm_list::NoMemory;
+use tm_take::raised_by;
 use tm_types::request::{Item, Tree};
-use tm_types::step::{Heard, Look, Take};
+use tm_types::step::{Look, Take};
 
 /// Appends the pids of the `do` lines of a tree, in order.
 pub fn push_do_pids(items: &[Item], pids: &mut Vec<u32>) -> Result<(), NoMemory>
@@ -62,30 +63,6 @@ pub fn pairs_fault(takes: &[Take], pids: &[u32]) -> Option<u64>
         [] => None,
         [_, ..] => Some(number),
     }
-}
-
-/// The greater of a floor and the version at which an answer was taken.
-fn raised_by_heard(floor: u64, heard: Option<Heard>) -> u64
-    ensures { result ≡ raised floor (heard_version heard) }
-{
-    match heard {
-        None => floor,
-        Some(heard) => match heard.answer {
-            None => floor,
-            Some(_) => floor.max(heard.version),
-        },
-    }
-}
-
-/// The floor above all that a look has seen.
-pub fn raised_by(floor: u64, look: &Look) -> u64
-    ensures { result ≡ raised floor (seen look.now) }
-{
-    let mut high = floor.max(look.version);
-    for number in look.own.as_slice() {
-        high = high.max(*number);
-    }
-    raised_by_heard(high, look.heard)
 }
 
 /// Whether no look is below the floor that those before it have raised, or above the last version.

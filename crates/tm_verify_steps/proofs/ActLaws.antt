@@ -7,18 +7,13 @@ use Rattle.std.specs.List.{list_all}
 use Rattle.std.specs.Ordering.{nat_cmp}
 use Rattle.std.specs.BTreeSet.{contains}
 use Rattle.std.proofs.lemmas.List.{take_all}
-use Rattle.tm_word.specs.Matching.{is_empty}
-use Rattle.tm_rules.specs.Words.{Trace}
-use Rattle.tm_types.specs.declared.step.Step.{Step}
-use Rattle.tm_types.specs.declared.step.Reply.{Reply}
-use Rattle.tm_types.specs.declared.step.Book.{Book}
-use Rattle.tm_types.specs.declared.step.Run.{Run}
-use Rattle.tm_rules.specs.Queries.{first_query}
-use Rattle.tm_legal.specs.Run.{History, Case, places, seen, raised}
-use Rattle.tm_legal.specs.Legal.{Scene, is_attach, is_detach, is_answer, is_end, is_of_supervisor, cases_of, seen_by_tree}
+use Rattle.tm_word.specs.Prelude.{is_empty}
+use Rattle.tm_rules.specs.Prelude.{Trace, first_query}
+use Rattle.tm_rules.specs.Types.{Book, Reply, Run, Step}
+use Rattle.tm_legal.specs.Prelude.{Case, History, Scene, cases_of, is_answer, is_attach, is_detach, is_end, is_of_supervisor, newest, places, raised, seen, seen_by_tree}
 use Rattle.tm_legal.proofs.Histories.{places-push, places-other}
 use Rattle.tm_verify_laws.specs.First.{first_failing, first_failing_after}
-use Rattle.tm_verify_laws.specs.Desk.{state_after, has_some, is_there, trees_ended, has_room, is_stop, is_answered_so, may_leave, is_above, may_act, is_complete, desk_fault}
+use Rattle.tm_verify_laws.specs.Desk.{has_some, is_there, trees_ended, has_room, is_stop, is_answered_so, may_leave, is_above, may_act, is_complete, desk_fault}
 use Rattle.tm_verify_notes.specs.declared.steps.StepNote.{StepNote}
 use Rattle.tm_verify_notes.specs.Stepping.{suits, IsStepNote, AreNoted}
 use Rattle.tm_verify_steps.specs.declared.acts.Acts.{Acts}
@@ -77,7 +72,7 @@ is_complete_is scene history acts h = rw (h.came, h.left, have_ended_is history 
 
 -- what may be made is what may be done after these steps
 may_is : (scene : Scene) (run : Run) (book : Book) (before : History) (acts : Acts) (heights : ByTree) (number : ℕ) (b : Bool) (step : Step) → IsActing before acts → number ≡ suc (length before)
-    → b ≡ suits (Some book) (first_query (state_after scene before).queries) step → heights ≡ raised_all (λ t. 0) (cases_of scene run)
+    → b ≡ suits (Some book) (first_query (newest scene before).queries) step → heights ≡ raised_all (λ t. 0) (cases_of scene run)
     → may_make acts heights scene.trace book number b step ≡ may_act scene run book before step
 unfolding may_act
 may_is scene run book before acts heights number b (Step.Learn d entry) h n s e = refl
@@ -111,12 +106,6 @@ pub record IsPassing (scene : Scene) (run : Run) (book : Book) (k : ℕ) (acts :
   pub few : acts.answers ≤ k
   pub leads : first_failing_after (acts_so scene run book) (take k run.steps) (drop k run.steps) ≡ fault_of scene run book
 
-none_more : (before : History) (acts : Acts) → IsActing [] acts → acts.answers ≤ 0
-none_more before acts h = let none = h.answers in omega (arith, none)
-
-pub passing : (scene : Scene) (run : Run) (book : Book) (acts : Acts) → IsActing [] acts → IsPassing scene run book 0 acts
-passing scene run book acts h = record { acting = h; few = none_more [] acts h; leads = refl }
-
 few_more : (old new : Acts) (step : Step) (k : ℕ) → HasActed old new step → old.answers ≤ k → new.answers ≤ suc k
 few_more old new step k a h = go (is_answer step) a.answers
   where
@@ -129,7 +118,7 @@ may_at : (scene : Scene) (run : Run) (book : Book) (k : ℕ) (pair : Step × Rep
     → may_make acts heights scene.trace book (suc k) note.suits pair.0 ≡ acts_so scene run book (take k run.steps) pair
 may_at scene run book k pair note notes acts heights way by high noted at n =
     let here = noted_at scene [] run.steps notes k pair note noted at n in
-    let fits : note.suits ≡ suits (Some book) (first_query (state_after scene (take k run.steps)).queries) pair.0 = here.suits ∙ ap (λ o. suits o (first_query (state_after scene (take k run.steps)).queries) pair.0) by in
+    let fits : note.suits ≡ suits (Some book) (first_query (newest scene (take k run.steps)).queries) pair.0 = here.suits ∙ ap (λ o. suits o (first_query (newest scene (take k run.steps)).queries) pair.0) by in
     may_is scene run book (take k run.steps) acts heights (suc k) note.suits pair.0 way.acting (ap suc (sym (long_here run.steps k pair at))) fits high
 
 -- one step more

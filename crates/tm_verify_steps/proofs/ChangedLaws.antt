@@ -1,7 +1,7 @@
 -- A list with one place changed.
 use Rattle.std.proofs.Common.{◌≡◌, ◌≤◌, ◌<◌, ℕ, zero, suc, List, [], ◌∷◌, length, Some, refl, sym, ap, ◌∙◌, arith}
 use Rattle.std.specs.Prelude.{slice_get, slice_set, slice_index_or}
-use Rattle.tm_rules.specs.Policy.{changed_at}
+use Rattle.tm_rules.specs.Prelude.{changed_at}
 
 pub changed_same : {A : Type 0} (f : A → A) (xs : List A) (k : ℕ) (x : A) → slice_get xs k ≡ Some x → slice_get (changed_at k f xs) k ≡ Some (f x)
 changed_same f [] k x e = absurd cc

@@ -3,10 +3,8 @@ use Rattle.std.proofs.Common.{◌≡◌, ◌≤◌, ◌<◌, ◌+◌, ℕ, zero,
 use Rattle.std.specs.Prelude.{◌↔◌}
 use Rattle.std.specs.List.{AllByRecursion}
 use Rattle.std.proofs.lemmas.Bool.{cases_lt}
-use Rattle.tm_types.specs.declared.step.Take.{Take}
-use Rattle.tm_types.specs.declared.step.Run.{Run}
-use Rattle.tm_legal.specs.Run.{Case, all_do_pids}
-use Rattle.tm_legal.specs.Legal.{Scene, Legal, cases_of, TakeHolds, TakeHears, TakesInOrder, LooksRise}
+use Rattle.tm_rules.specs.Types.{Run, Take}
+use Rattle.tm_legal.specs.Prelude.{Case, Legal, LooksRise, Scene, TakeHears, TakeHolds, TakesInOrder, all_do_pids, cases_of}
 use Rattle.tm_legal.proofs.Legality.{cases_take}
 use Rattle.tm_verify_laws.specs.First.{FirstFails, first_failing, AllAfter}
 use Rattle.tm_verify_laws.specs.Desk.{DeskHolds, DeskFails}
@@ -23,7 +21,8 @@ use Rattle.tm_verify_notes.specs.declared.given.Given.{Given}
 use Rattle.tm_verify_notes.specs.declared.sums.Flag.{Flag}
 use Rattle.tm_verify_notes.specs.declared.sums.TakeNote.{TakeNote}
 use Rattle.tm_verify_notes.specs.Given.{scene_of, history_of, run_of}
-use Rattle.tm_verify_notes.specs.Noting.{EachWith, IsTakeNote}
+use Rattle.tm_take.specs.Each.{EachWith}
+use Rattle.tm_verify_notes.specs.Noting.{IsTakeNote}
 use Rattle.tm_verify_notes.specs.Sums.{flag}
 use Rattle.tm_verify_notes.proofs.EachLaws.{each_as, each_none, each_some}
 use Rattle.tm_verify_steps.specs.Clauses.{HoldBelow, IsJudged, NotesTakes}

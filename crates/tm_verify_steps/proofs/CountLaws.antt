@@ -2,11 +2,9 @@
 use Rattle.std.proofs.Common.{◌≡◌, ◌≤◌, ◌<◌, ◌+◌, ◌-◌, ℕ, zero, suc, Bool, true, false, ◌==◌, List, [], ◌∷◌, ◌++◌, length, Option, Some, None, refl, sym, ap, ◌∙◌, subst, arith, eqb-true, eq-eqb}
 use Rattle.std.proofs.lemmas.List.{at_drop_more}
 use Rattle.std.specs.Prelude.{get_or, drop, flat_map, slice_get, slice_set, slice_index_or, replicate, if◌then◌else◌}
-use Rattle.tm_types.specs.declared.step.Look.{Look}
-use Rattle.tm_types.specs.declared.step.Take.{Take}
-use Rattle.tm_rules.specs.Policy.{changed_at}
-use Rattle.tm_legal.specs.Run.{History}
-use Rattle.tm_legal.specs.Legal.{times, own_numbers}
+use Rattle.tm_rules.specs.Types.{Look, Take}
+use Rattle.tm_rules.specs.Prelude.{changed_at}
+use Rattle.tm_legal.specs.Prelude.{History, own_numbers, times}
 use Rattle.tm_verify_steps.specs.Counting.{capped, one_more, counted_one, counted, owned_counts}
 use Rattle.tm_verify_steps.proofs.ChangedLaws.{changed_same, changed_other, changed_past, changed_set}
 

@@ -3,12 +3,9 @@ use Rattle.std.proofs.Common.{◌≡◌, ◌≤◌, ◌<◌, ◌+◌, max, ℕ, 
 use Rattle.std.specs.Prelude.{if◌then◌else◌, flat_map}
 use Rattle.std.specs.List.{list_all}
 use Rattle.std.proofs.lemmas.Bool.{ltb-true, lt-ltb}
-use Rattle.std.proofs.lemmas.List.Sums.{fold-append}
-use Rattle.tm_legal.specs.Run.{Case, seen, raised}
+use Rattle.tm_legal.specs.Prelude.{Case, raised, seen}
+use Rattle.tm_take.proofs.RaisedLaws.{raised_more}
 use Rattle.tm_verify_steps.specs.Heights.{ByTree, with_height, raised_all, seen_in}
-
-pub raised_more : (floor : ℕ) (xs ys : List ℕ) → raised floor (xs ++ ys) ≡ raised (raised floor xs) ys
-raised_more floor xs ys = fold-append max floor xs ys
 
 -- a number that takes have raised is above all that they have seen
 pub raised_seen : (at : ByTree) (cs : List Case) (t : ℕ) → raised_all at cs t ≡ raised (at t) (seen_in cs t)

@@ -5,16 +5,10 @@ use Rattle.std.specs.Option.{option_and_then}
 use Rattle.std.specs.List.{cons_option}
 use Rattle.std.proofs.lemmas.List.{append-nil, append_assoc, take_more, take_all}
 use Rattle.std.proofs.lemmas.Option.{slice_get_within, get_or_from_slice_get}
-use Rattle.tm_word.specs.Words.{Text}
-use Rattle.tm_types.specs.declared.step.FileKind.{FileKind}
-use Rattle.tm_types.specs.declared.step.Step.{Step}
-use Rattle.tm_types.specs.declared.step.Reply.{Reply}
-use Rattle.tm_types.specs.declared.step.Editor.{Editor}
-use Rattle.tm_types.specs.declared.step.Run.{Run}
-use Rattle.tm_rules.specs.Queries.{numbered}
-use Rattle.tm_rules.specs.Policy.{changed_at}
-use Rattle.tm_legal.specs.Run.{History}
-use Rattle.tm_legal.specs.Legal.{Scene, edit_line, lines_of_editor}
+use Rattle.tm_word.specs.Prelude.{Text}
+use Rattle.tm_rules.specs.Types.{Editor, FileKind, Reply, Run, Step}
+use Rattle.tm_rules.specs.Prelude.{changed_at, numbered}
+use Rattle.tm_legal.specs.Prelude.{History, Scene, edit_line, lines_of_editor}
 use Rattle.tm_verify_laws.specs.First.{AllAfter}
 use Rattle.tm_verify_laws.specs.Placed.{IsNextLine, IsPlaced, NoLineMissing}
 use Rattle.tm_verify_steps.specs.Lines.{HasHad, next_line, IsDue, line_had, had_after, have_all}
@@ -63,9 +57,6 @@ other_line e by before file line reply ne = no_line_more e before (Step.Edit by 
     go : (b : Bool) → (by == e) ≡ b → line_if b (file, line) ≡ None
     go true is = absurd (ne (eqb-true by e is))
     go false is = refl
-
-abbrev had_of : Scene → History → ℕ → Option ℕ
-had_of scene before k = Some (length (lines_of_editor (suc k) before))
 
 -- what editors have had after one step more
 pub had_more : (scene : Scene) (before : History) (step : Step) (reply : Reply) (had : List ℕ) → HasHad scene before had → HasHad scene (before ++ (step, reply) ∷ []) (had_after had step)

@@ -2,17 +2,11 @@
 use Rattle.std.proofs.Common.{◌≡◌, ℕ, Bool, true, false, List, [], ◌∷◌, ◌++◌, ◌&&◌, map, Option, Some, None, refl, sym, ap, ◌∙◌, subst}
 use Rattle.std.specs.Prelude.{if◌then◌else◌, ⊤, ◌↔◌}
 use Rattle.std.proofs.lemmas.List.{append-nil}
-use Rattle.tm_word.specs.Words.{Text}
-use Rattle.tm_types.specs.declared.entry.Entry.{Entry}
-use Rattle.tm_types.specs.declared.step.Look.{Look}
-use Rattle.tm_types.specs.declared.step.Step.{Step}
-use Rattle.tm_types.specs.declared.verdict.EntryPlace.{EntryPlace}
-use Rattle.tm_types.specs.declared.verdict.Reason.{Reason}
-use Rattle.tm_types.specs.declared.verdict.Verdict.{Verdict}
-use Rattle.tm_rules.specs.Grammar.{Grammar}
+use Rattle.tm_word.specs.Prelude.{Text}
+use Rattle.tm_rules.specs.Types.{Entry, EntryPlace, Look, Reason, Step, Verdict}
+use Rattle.tm_rules.specs.Prelude.{Grammar}
 use Rattle.tm_verify_notes.specs.Tomoyo.{tomoyo_grammar}
-use Rattle.tm_legal.specs.Run.{History, step_at}
-use Rattle.tm_legal.specs.Legal.{steps_of_line, steps_of_move, steps_asked, retry_written, look_grants, IsShown, RisesFrom, MakesAfterYes}
+use Rattle.tm_legal.specs.Prelude.{History, IsShown, MakesAfterYes, RisesFrom, look_grants, retry_written, step_at, steps_asked, steps_of_line, steps_of_move}
 use Rattle.tm_verify_laws.specs.Looks.{rises_from, is_after_answer}
 use Rattle.tm_verify_notes.specs.declared.notes.VerdictNote.{VerdictNote}
 use Rattle.tm_verify_notes.specs.Noting.{IsVerdictNote}

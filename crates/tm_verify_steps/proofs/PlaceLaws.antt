@@ -1,13 +1,10 @@
 -- Steps that have their places.
 use Rattle.std.proofs.Common.{◌≡◌, ◌≤◌, ◌<◌, ◌+◌, ℕ, zero, suc, Bool, true, false, List, [], ◌∷◌, ◌++◌, length, take, drop, Option, Some, None, refl, sym, ap, ◌∙◌, subst, arith, inl, inr}
-use Rattle.std.specs.Prelude.{MatchOption, slice_get, slice_index_or, replicate, if◌then◌else◌, ◌↔◌, ◌⊎◌, get_or}
-use Rattle.std.proofs.lemmas.List.{take_more, take_all, append-nil, append_assoc}
+use Rattle.std.specs.Prelude.{MatchOption, slice_get, slice_index_or, if◌then◌else◌, ◌↔◌, ◌⊎◌, get_or}
+use Rattle.std.proofs.lemmas.List.{take_more, append-nil, append_assoc}
 use Rattle.std.proofs.lemmas.Option.{slice_get_within, get_or_from_slice_get}
-use Rattle.tm_types.specs.declared.step.Step.{Step}
-use Rattle.tm_types.specs.declared.step.Reply.{Reply}
-use Rattle.tm_types.specs.declared.step.Run.{Run}
-use Rattle.tm_legal.specs.Run.{History}
-use Rattle.tm_legal.specs.Legal.{Scene, own_numbers, times, times_owned, is_own}
+use Rattle.tm_rules.specs.Types.{Reply, Run, Step}
+use Rattle.tm_legal.specs.Prelude.{History, Scene, is_own, own_numbers, times, times_owned}
 use Rattle.tm_verify_laws.specs.First.{AllAfter, FirstFailsAfter, first_failing_after}
 use Rattle.tm_verify_laws.specs.Placed.{IsNextLine, IsPlaced, NoLineMissing, PlacesFail}
 use Rattle.tm_verify_notes.specs.declared.given.Given.{Given}
@@ -16,11 +13,16 @@ use Rattle.tm_verify_notes.specs.Given.{scene_of, history_of, run_of}
 use Rattle.tm_verify_notes.specs.Stepping.{IsStepNote, AreNoted}
 use Rattle.tm_verify_steps.specs.Counting.{capped, owned_counts}
 use Rattle.tm_verify_steps.specs.Lines.{HasHad, IsInPlace, IsDue, had_after, have_all}
-use Rattle.tm_verify_steps.specs.Leading.{LeadsOn}
 use Rattle.tm_verify_steps.proofs.CountLaws.{owned_at, capped_is, is_capped}
 use Rattle.tm_verify_steps.proofs.LineLaws.{had_more, is_next, lines_there, lines_all}
 
 -- ---- lists that are gone over by places
+
+-- what holds of the rest, after these before it, holds of the whole; and where it fails first, the
+-- whole does
+pub record LeadsOn {A : Type 0} (P : List A → A → Type 0) (before rest whole : List A) : Type 0 where
+  pub all : AllAfter P before rest → AllAfter P [] whole
+  pub fails : (k : ℕ) → FirstFailsAfter P before rest k → FirstFailsAfter P [] whole k
 
 pub cut_here : {A : Type 0} (xs : List A) (k : ℕ) (x : A) → slice_get xs k ≡ Some x → drop k xs ≡ x ∷ drop (suc k) xs
 cut_here [] k x e = absurd cc
@@ -52,9 +54,6 @@ none_left (x ∷ xs) (suc k) h = none_left xs k (omega (arith, h))
 
 -- ---- scans that go on
 
-pub leads_first : {A : Type 0} (P : List A → A → Type 0) (xs : List A) → LeadsOn P [] xs xs
-leads_first P xs = record { all = λ a. a; fails = λ k f. f }
-
 leads_next : {A : Type 0} (P : List A → A → Type 0) (before rest whole : List A) (x : A) → LeadsOn P before (x ∷ rest) whole → P before x → LeadsOn P (before ++ x ∷ []) rest whole
 leads_next P before rest whole x h p = record { all = λ a. h.all (p, a); fails = λ k f. h.fails k (inr (p, f)) }
 
@@ -67,9 +66,6 @@ pub leads_fails : {A : Type 0} (P : List A → A → Type 0) (xs : List A) (k : 
 leads_fails P xs k x at h fails =
     let here = subst (λ rest. LeadsOn P (take k xs) rest xs) (cut_here xs k x at) h in
     here.fails (suc k) (inl (ap suc (sym (long_here xs k x at)), fails))
-
-pub leads_all : {A : Type 0} (P : List A → A → Type 0) (xs : List A) (k : ℕ) → length xs ≤ k → LeadsOn P (take k xs) (drop k xs) xs → AllAfter P [] xs
-leads_all P xs k long h = (subst (λ rest. LeadsOn P (take k xs) rest xs) (none_left xs k long) h).all tt
 
 -- the same of tests
 pub scan_more : {A : Type 0} (test : List A → A → Bool) (xs : List A) (k : ℕ) (x : A) → slice_get xs k ≡ Some x → test (take k xs) x ≡ true
@@ -125,9 +121,6 @@ pub record IsUnderWay (given : Given) (k : ℕ) (had : List ℕ) : Type 0 where
   pub lines : HasHad (scene_of given) (take k (history_of given)) had
   pub leads : LeadsOn (IsPlaced (scene_of given) (run_of given)) (take k (history_of given)) (drop k (history_of given)) (history_of given)
 
-pub under_way : (given : Given) (had : List ℕ) → HasHad (scene_of given) [] had → IsUnderWay given 0 had
-under_way given had h = record { lines = h; leads = leads_first (IsPlaced (scene_of given) (run_of given)) (history_of given) }
-
 at_step : (given : Given) (k : ℕ) (pair : Step × Reply) (count : ℕ) (note : StepNote) (counts had : List ℕ) (notes : List StepNote) → IsUnderWay given k had
     → AreNoted (scene_of given) [] (history_of given) notes → counts ≡ owned_counts given.takes.now (history_of given)
     → slice_get (history_of given) k ≡ Some pair → slice_get notes k ≡ Some note → slice_get counts k ≡ Some count
@@ -165,22 +158,6 @@ step_misplaced given k number pair count note counts had notes b way noted are a
     subst (λ j. FirstFailsAfter (IsPlaced (scene_of given) (run_of given)) [] (history_of given) j) next
     (leads_fails (IsPlaced (scene_of given) (run_of given)) (history_of given) k pair at way.leads (λ p. let yes : b ≡ true = right.1 (both.1 p) in absurd cc))
 
--- at the end all are placed
-pub all_placed : (given : Given) (k : ℕ) (had : List ℕ) → IsUnderWay given k had → length (history_of given) ≤ k → AllAfter (IsPlaced (scene_of given) (run_of given)) [] (history_of given)
-all_placed given k had way long = leads_all (IsPlaced (scene_of given) (run_of given)) (history_of given) k long way.leads
-
-pub all_had : (given : Given) (k : ℕ) (had : List ℕ) → IsUnderWay given k had → length (history_of given) ≤ k → HasHad (scene_of given) (history_of given) had
-all_had given k had way long = subst (λ hs. HasHad (scene_of given) hs had) (take_all k (history_of given) long) way.lines
-
--- nothing was had before the first step
-pub none_had : (given : Given) (n : ℕ) → n ≡ length given.editors.now → HasHad (scene_of given) [] (replicate n 0)
-none_had given n long k lt = zeros n k (omega (arith, long, lt))
-  where
-    zeros : (m j : ℕ) → j < m → slice_get {X = ℕ} (replicate m 0) j ≡ Some 0
-    zeros zero j h = absurd (omega (arith, h))
-    zeros (suc m) zero h = refl
-    zeros (suc m) (suc j) h = zeros m j (omega (arith, h))
-
 -- all is in place where no line is missing
 pub all_in_place : (given : Given) (had : List ℕ) → AllAfter (IsPlaced (scene_of given) (run_of given)) [] (history_of given) → HasHad (scene_of given) (history_of given) had → have_all given.editors.now had ≡ true
     → AllAfter (IsPlaced (scene_of given) (run_of given)) [] (history_of given) × NoLineMissing (scene_of given) (history_of given)
@@ -189,9 +166,6 @@ all_in_place given had placed h all = (placed, lines_there (scene_of given) (run
 pub lines_missing : (given : Given) (had : List ℕ) → AllAfter (IsPlaced (scene_of given) (run_of given)) [] (history_of given) → HasHad (scene_of given) (history_of given) had → have_all given.editors.now had ≡ false
     → PlacesFail (scene_of given) (run_of given) 0
 lines_missing given had placed h less = inr (refl, placed, λ lines. let yes = lines_all (scene_of given) (history_of given) had h lines in absurd cc)
-
-pub place_fails : (given : Given) (k : ℕ) → FirstFailsAfter (IsPlaced (scene_of given) (run_of given)) [] (history_of given) k → PlacesFail (scene_of given) (run_of given) k
-place_fails given k f = inl f
 
 -- where all are placed, what is missing decides
 pub lines_decide : (given : Given) (had : List ℕ) (fault : Option ℕ) → AllAfter (IsPlaced (scene_of given) (run_of given)) [] (history_of given) → HasHad (scene_of given) (history_of given) had

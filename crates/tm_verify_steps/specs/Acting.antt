@@ -2,11 +2,9 @@
 use Rattle.std.specs.Prelude.{◌≡◌, ◌&&◌, ◌||◌, not, nat_lt, ℕ, suc, Bool, true, false, List, [], ◌∷◌, length, Option, Some, None, if◌then◌else◌}
 use Rattle.std.specs.Ordering.{nat_cmp}
 use Rattle.std.specs.BTreeSet.{contains}
-use Rattle.tm_rules.specs.Words.{Trace}
-use Rattle.tm_types.specs.declared.step.Step.{Step}
-use Rattle.tm_types.specs.declared.step.Book.{Book}
-use Rattle.tm_legal.specs.Run.{History, places}
-use Rattle.tm_legal.specs.Legal.{is_attach, is_detach, is_answer, is_end}
+use Rattle.tm_rules.specs.Prelude.{Trace}
+use Rattle.tm_rules.specs.Types.{Book, Step}
+use Rattle.tm_legal.specs.Prelude.{History, is_answer, is_attach, is_detach, is_end, places}
 use Rattle.tm_verify_laws.specs.Desk.{has_some, has_room, is_stop}
 use Rattle.tm_verify_steps.specs.Heights.{ByTree}
 use Rattle.tm_verify_steps.specs.declared.acts.Acts.{Acts}

@@ -1,13 +1,14 @@
 -- The clauses in their order.
 use Rattle.std.specs.Prelude.{◌≡◌, ℕ, suc, ◌<◌, List, Option, MatchOption}
-use Rattle.tm_types.specs.declared.step.Run.{Run}
-use Rattle.tm_legal.specs.Legal.{Scene, Legal, cases_of}
+use Rattle.tm_rules.specs.Types.{Run}
+use Rattle.tm_legal.specs.Prelude.{Legal, Scene, cases_of}
 use Rattle.tm_verify_laws.specs.declared.broken.Broken.{Broken}
 use Rattle.tm_verify_laws.specs.Broken.{Clause, IsFirstBroken}
 use Rattle.tm_verify_notes.specs.declared.given.Given.{Given}
 use Rattle.tm_verify_notes.specs.declared.sums.TakeNote.{TakeNote}
 use Rattle.tm_verify_notes.specs.Given.{scene_of, history_of, run_of}
-use Rattle.tm_verify_notes.specs.Noting.{EachWith, IsTakeNote}
+use Rattle.tm_take.specs.Each.{EachWith}
+use Rattle.tm_verify_notes.specs.Noting.{IsTakeNote}
 
 -- the clauses below this number hold
 pub record HoldBelow (given : Given) (n : ℕ) : Type 0 where

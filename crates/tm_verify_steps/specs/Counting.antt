@@ -1,9 +1,8 @@
 -- How often numbers stand in a list, up to two.
 use Rattle.std.specs.Prelude.{ℕ, zero, suc, List, [], ◌∷◌, if◌then◌else◌, ◌==◌, length, replicate}
-use Rattle.tm_rules.specs.Policy.{changed_at}
-use Rattle.tm_types.specs.declared.step.Take.{Take}
-use Rattle.tm_legal.specs.Run.{History}
-use Rattle.tm_legal.specs.Legal.{own_numbers}
+use Rattle.tm_rules.specs.Prelude.{changed_at}
+use Rattle.tm_rules.specs.Types.{Take}
+use Rattle.tm_legal.specs.Prelude.{History, own_numbers}
 
 -- two at most
 abbrev pub capped : ℕ → ℕ

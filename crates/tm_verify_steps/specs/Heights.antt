@@ -4,7 +4,7 @@ use Rattle.std.specs.Option.{option_or}
 use Rattle.std.specs.Prelude.{unwrap_or}
 use Rattle.std.specs.Ordering.{nat_cmp}
 use Rattle.std.specs.BTreeMap.{get}
-use Rattle.tm_legal.specs.Run.{Case, seen, raised}
+use Rattle.tm_legal.specs.Prelude.{Case, raised, seen}
 use Rattle.tm_verify_steps.specs.declared.heights.Heights.{Heights}
 
 -- a number for each tree

@@ -2,5 +2,4 @@ pub mod Counting
 pub mod Lines
 pub mod Heights
 pub mod Acting
-pub mod Leading
 pub mod Clauses

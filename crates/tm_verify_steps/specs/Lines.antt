@@ -1,14 +1,10 @@
 -- The lines that editors have had.
 use Rattle.std.specs.Prelude.{◌≡◌, ◌<◌, ◌==◌, ◌&&◌, ⊤, Bool, true, false, ℕ, zero, suc, List, [], ◌∷◌, length, Option, Some, slice_get}
 use Rattle.std.specs.Option.{option_and_then}
-use Rattle.tm_word.specs.Words.{Text}
-use Rattle.tm_types.specs.declared.step.FileKind.{FileKind}
-use Rattle.tm_types.specs.declared.step.Step.{Step}
-use Rattle.tm_types.specs.declared.step.Editor.{Editor}
-use Rattle.tm_rules.specs.Queries.{numbered}
-use Rattle.tm_rules.specs.Policy.{changed_at}
-use Rattle.tm_legal.specs.Run.{History}
-use Rattle.tm_legal.specs.Legal.{Scene, lines_of_editor, times_owned}
+use Rattle.tm_word.specs.Prelude.{Text}
+use Rattle.tm_rules.specs.Types.{Editor, FileKind, Step}
+use Rattle.tm_rules.specs.Prelude.{changed_at, numbered}
+use Rattle.tm_legal.specs.Prelude.{History, Scene, lines_of_editor, times_owned}
 
 -- how many lines each editor has had after these steps
 abbrev pub HasHad : Scene → History → List ℕ → Type 0

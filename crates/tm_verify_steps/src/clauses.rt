@@ -1,7 +1,6 @@
 //! The clauses in their order, by what was noted of looks and of steps.
 ghost use Rattle.std.specs.Prelude.{◌≡◌, ◌+◌, ◌<◌, ◌^◌, [], length, IfOk};
-ghost use Rattle.tm_legal.specs.Legal.{cases_of};
-ghost use Rattle.tm_legal.specs.Run.{Case};
+ghost use Rattle.tm_legal.specs.Prelude.{Case, cases_of};
 ghost use Rattle.tm_verify_laws.specs.First.{first_failing};
 ghost use Rattle.tm_verify_laws.specs.Scans.{do_rise};
 ghost use Rattle.tm_verify_notes.specs.Given.{scene_of, history_of, run_of};

@@ -2,8 +2,8 @@
 ghost use Rattle.std.specs.Prelude.{◌≡◌, IfOk, flat_map};
 ghost use Rattle.std.specs.Prelude.{slice_get};
 ghost use Rattle.std.specs.Option.{option_copied};
-ghost use Rattle.tm_types.specs.declared.step.Look.{Look};
-ghost use Rattle.tm_legal.specs.Legal.{own_numbers};
+ghost use Rattle.tm_rules.specs.Types.{Look};
+ghost use Rattle.tm_legal.specs.Prelude.{own_numbers};
 ghost use Rattle.tm_verify_steps.specs.Counting.{one_more, counted_one, counted, owned_counts};
 
 use std::alloc::Global;

@@ -1,58 +1,14 @@
 //! The greatest version that the takes of each tree have seen.
 ghost use Rattle.std.specs.Prelude.{◌≡◌, IfOk, OnOk, flat_map};
-ghost use Rattle.tm_legal.specs.Run.{seen, raised, heard_version};
+ghost use Rattle.tm_legal.specs.Prelude.{raised, seen};
 ghost use Rattle.tm_verify_steps.specs.Heights.{height, with_height, raised_all};
 
 use std::alloc::Global;
 use std::collections::BTreeMap;
 use tm_list::NoMemory;
-use tm_types::step::{Heard, Look, Take};
+use tm_take::raised_by_looks;
+use tm_types::step::Take;
 use tm_verify_notes::DoCase;
-
-// The greatest of a number and those of a list.
-fn raised_by_numbers(low: u64, numbers: &[u64]) -> u64
-    ensures { result ≡ raised low numbers.now }
-{
-    let mut high = low;
-    for number in numbers {
-        high = high.max(*number);
-    }
-    high
-}
-
-// The greater of a number and the version at which an answer was taken.
-fn raised_by_heard(low: u64, heard: Option<Heard>) -> u64
-    ensures { result ≡ raised low (heard_version heard) }
-{
-    match heard {
-        None => low,
-        Some(heard) => match heard.answer {
-            None => low,
-            Some(_) => low.max(heard.version),
-        },
-    }
-}
-
-// The greatest of a number and the versions that a look has seen.
-#[tactic(auto, using(crate::proofs::HeightLaws::raised_more))]
-fn raised_by(low: u64, look: &Look) -> u64
-    ensures { result ≡ raised low (seen look.now) }
-{
-    let high = raised_by_numbers(low.max(look.version), look.own.as_slice());
-    raised_by_heard(high, look.heard)
-}
-
-// The greatest of a number and the versions that several looks have seen.
-#[tactic(auto, using(crate::proofs::HeightLaws::raised_more))]
-fn raised_by_looks(low: u64, looks: &[Look]) -> u64
-    ensures { result ≡ raised low (flat_map seen looks.now) }
-{
-    let mut high = low;
-    for look in looks {
-        high = raised_by(high, look);
-    }
-    high
-}
 
 /// A number for each tree; one that isn't noted has 0.
 #[derive(Drop)]

@@ -1,23 +1,20 @@
-//! A look beside the verdict of its version; no step is made or copied.
+//! A look beside the verdict of its version; no step is made or copied. Throughout, `own` has the
+//! numbers in `steps`, from 1, of the look's own steps, and `before` is the domain it looked in.
 ghost use Rattle.std.specs.Prelude.{◌≡◌, ◌↔◌, ◌∷◌, ◌&&◌, [], true, IfOk, Some, map, if◌then◌else◌};
 ghost use Rattle.std.specs.Option.{option_copied};
-ghost use Rattle.tm_verify_notes.specs.Entries.{entry_words};
-ghost use Rattle.tm_word.specs.Spelling.{joined};
 ghost use Rattle.tm_verify_notes.specs.Tomoyo.{tomoyo_grammar};
-ghost use Rattle.tm_types.specs.declared.step.Step.{Step};
-ghost use Rattle.tm_types.specs.declared.verdict.Reason.{Reason};
-ghost use Rattle.tm_legal.specs.Run.{step_at};
-ghost use Rattle.tm_legal.specs.Legal.{steps_of_line, steps_of_move, steps_asked, look_grants, retry_written};
+ghost use Rattle.tm_rules.specs.Types.{Reason, Step};
+ghost use Rattle.tm_legal.specs.Prelude.{look_grants, retry_written, step_at, steps_asked, steps_of_line, steps_of_move};
 ghost use Rattle.tm_verify_notes.specs.Noting.{IsVerdictNote};
 
 use std::alloc::Global;
-use tm_list::{NoMemory, Same, Seq};
+use tm_list::{NoMemory, Same};
+use tm_take::{look_grants, printed};
 use tm_types::entry::Entry;
 use tm_types::step::{Look, Reply, Step};
 use tm_types::unions::DomainName;
 use tm_types::verdict::{Move, Reason, Verdict};
-use tm_verify_notes::entry::print_entry;
-use tm_verify_notes::{VerdictNote, is_shown, look_grants, owns_in_order, retry_written, step_at};
+use tm_verify_notes::{VerdictNote, is_shown, owns_in_order, retry_written, step_at};
 use tm_word::Text;
 
 // Whether this is the Learn of a line.
@@ -84,7 +81,7 @@ fn owns_make(steps: &[(Step, Reply)], own: &[u64], before: u32, name: &DomainNam
     }
 }
 
-// Whether these are the numbers of the Fail of a domain alone.
+// Whether this is one number alone, that of the Fail of the domain.
 fn owns_fail(steps: &[(Step, Reply)], own: &[u64], before: u32) -> bool
     ensures { (result ≡ true)
         ↔ (map (step_at steps.now) own.now ≡ map Some (Step.Fail before ∷ [])) }
@@ -126,15 +123,6 @@ fn owns_move_if(
     } else {
         owns_none(steps, own)
     }
-}
-
-// An entry as a query asks for it.
-fn printed(alloc: Global, entry: &Entry) -> Result<Text, NoMemory>
-    ensures { IfOk result (λ text. text ≡ joined (entry_words entry.now)) }
-{
-    let mut text = Vec::new(alloc);
-    print_entry(alloc, entry, &mut text)?;
-    Ok(Seq::from_vec(text))
 }
 
 // Whether these are the numbers of the Learn of this line, and of what is led to.

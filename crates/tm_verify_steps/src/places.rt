@@ -1,7 +1,7 @@
 //! Whether each step has its place: owned as often as its kind asks, the next line of its editor,
 //! and with the reply that it has there.
 ghost use Rattle.std.specs.Prelude.{◌≡◌, ◌↔◌, [], true, length, Some, None, IfOk, MatchOption, if◌then◌else◌};
-ghost use Rattle.tm_legal.specs.Legal.{is_own, times_owned};
+ghost use Rattle.tm_legal.specs.Prelude.{is_own, times_owned};
 ghost use Rattle.tm_verify_laws.specs.First.{AllAfter, FirstFailsAfter};
 ghost use Rattle.tm_verify_laws.specs.Placed.{IsPlaced, NoLineMissing, PlacesFail};
 ghost use Rattle.tm_verify_notes.specs.Given.{scene_of, history_of, run_of};

@@ -1,9 +1,8 @@
 //! With which step the supervisor's steps and the trees' ends can't go on any more.
 ghost use Rattle.std.specs.Prelude.{◌≡◌, ◌+◌, ◌<◌, ◌^◌, ◌&&◌, [], not, length, Some, IfOk, MatchOption};
 ghost use Rattle.std.specs.Option.{option_copied};
-ghost use Rattle.tm_types.specs.declared.step.Step.{Step};
-ghost use Rattle.tm_types.specs.declared.step.Reply.{Reply};
-ghost use Rattle.tm_legal.specs.Legal.{is_of_supervisor, cases_of};
+ghost use Rattle.tm_rules.specs.Types.{Reply, Step};
+ghost use Rattle.tm_legal.specs.Prelude.{cases_of, is_of_supervisor};
 ghost use Rattle.tm_verify_laws.specs.First.{first_failing};
 ghost use Rattle.tm_verify_laws.specs.Desk.{DeskHolds, DeskFails, desk_fault};
 ghost use Rattle.tm_verify_notes.specs.Given.{scene_of, history_of, run_of};

@@ -1,9 +1,7 @@
 -- What is read has the word that was read.
 use Rattle.std.proofs.Common.{◌≡◌, Bool, true, false, cond, List, [], ◌∷◌, Some, refl, ap, ◌∙◌}
-use Rattle.tm_word.specs.Words.{Text}
-use Rattle.tm_word.specs.Texts.{texts_equal}
+use Rattle.tm_word.specs.Prelude.{Text, of_word, texts_equal}
 use Rattle.tm_word.proofs.TextLaws.{texts_sound}
-use Rattle.tm_word.specs.Closed.{of_word}
 
 some_is : {V : Type 0} (x y : V) → Some x ≡ Some y → x ≡ y
 some_is x y e = cc

@@ -6,10 +6,7 @@ use Rattle.std.proofs.lemmas.List.Splits.{slice_split-cons_yes, slice_split-cons
 use Rattle.std.proofs.lemmas.Grind.{flat_map-append}
 use Rattle.std.specs.List.{list_any, list_all, onto_first, join_with_byte, flat_map}
 use Rattle.tm_word.specs.declared.Element.{Element}
-use Rattle.tm_word.specs.Words.{Word, Pattern}
-use Rattle.tm_word.specs.Spelling.{spelling_of, spell}
-use Rattle.tm_word.specs.Matching.{left_by, part_matches, component_matches, components_match, components, ends_in_slash, ends_blank, is_folder, matches}
-use Rattle.tm_word.specs.Printing.{spelled_part, spelled_component, spelled_pattern, is_byte, is_plain, is_literal, literal_component, literal, element_bytes, component_bytes, literal_word}
+use Rattle.tm_word.specs.Prelude.{Pattern, Word, component_bytes, component_matches, components, components_match, element_bytes, ends_blank, ends_in_slash, is_byte, is_folder, is_literal, is_plain, left_by, literal, literal_component, literal_word, matches, part_matches, spell, spelled_component, spelled_part, spelled_pattern, spelling_of}
 
 or-true : (b : Bool) → (b || false) ≡ true → b ≡ true
 or-true true h = refl

@@ -2,9 +2,7 @@
 -- that is none's.
 use Rattle.std.proofs.Common.{◌≡◌, Bool, true, false, cond, ◌&&◌, List, [], ◌∷◌, Some, refl}
 use Rattle.std.specs.List.{list_all}
-use Rattle.tm_word.specs.Words.{Text}
-use Rattle.tm_word.specs.Texts.{texts_equal}
-use Rattle.tm_word.specs.Closed.{named, or_else}
+use Rattle.tm_word.specs.Prelude.{Text, named, or_else, texts_equal}
 
 pub named_or : {V : Type 0} (p : V → Bool) (table : List (Text × V)) (word : Text) (other : V) → list_all (λ row. p row.1) table ≡ true → p other ≡ true → p (or_else (named table word) other) ≡ true
 named_or p [] word other all h = h

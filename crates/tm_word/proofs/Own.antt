@@ -6,8 +6,7 @@ use Rattle.std.proofs.lemmas.Grind.{flat_map-append}
 use Rattle.std.proofs.lemmas.List.{take_more, append-nil, append_assoc}
 use Rattle.std.proofs.Math.Seq.{take-add}
 use Rattle.std.proofs.Common.{get_or}
-use Rattle.tm_word.specs.Words.{Text}
-use Rattle.tm_word.specs.Spelling.{are_bytes, spelling_of, spell, is_own_spelling, are_own_spellings, word_of}
+use Rattle.tm_word.specs.Prelude.{Text, are_bytes, are_own_spellings, is_own_spelling, spell, spelling_of, word_of}
 use Rattle.tm_word.proofs.Spelled.{read_again}
 
 both : (a b : Bool) → (a && b) ≡ true → (a ≡ true) × (b ≡ true)

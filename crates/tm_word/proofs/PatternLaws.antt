@@ -4,9 +4,7 @@ use Rattle.std.proofs.Common.{sym, ap, ◌∙◌, subst}
 use Rattle.std.specs.Bool.{IsTrue}
 use Rattle.tm_word.specs.declared.Component.{Component}
 use Rattle.tm_word.specs.declared.pattern.Form.{Form}
-use Rattle.tm_word.specs.Words.{Word, Pattern}
-use Rattle.tm_word.specs.Printing.{literal}
-use Rattle.tm_word.specs.Patterns.{IsNoLiteral, components_of, IsKept}
+use Rattle.tm_word.specs.Prelude.{IsKept, IsNoLiteral, Pattern, Word, components_of, literal}
 use Rattle.tm_word.proofs.Literals.{literal-distinct}
 
 -- the pattern of a kept name

@@ -5,9 +5,7 @@ use Rattle.std.specs.Prelude.{if◌then◌else◌}
 use Rattle.std.specs.List.{position, filter, slice_split, list_all, onto_first}
 use Rattle.std.proofs.lemmas.List.Splits.{slice_split-cons_no, slice_split-cons_yes}
 use Rattle.tm_word.proofs.Cuts.{cut_some, cut_none}
-use Rattle.tm_word.specs.Words.{Text}
-use Rattle.tm_word.specs.Spelling.{is_separator, words_of}
-use Rattle.tm_word.specs.Texts.{if_word, is_solid, is_word}
+use Rattle.tm_word.specs.Prelude.{Text, if_word, is_separator, is_solid, is_word, words_of}
 
 both : (a b : Bool) → (a && b) ≡ true → (a ≡ true) × (b ≡ true)
 both true b e = (refl, e)

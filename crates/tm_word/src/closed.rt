@@ -1,16 +1,14 @@
 //! Closed sets of values that are written as words: one table a set, by which it is read and
 //! printed.
 ghost use Rattle.std.specs.Prelude.{◌≡◌, map, Some, None, MatchOption};
-ghost use Rattle.tm_word.specs.Words.{Text};
-ghost use Rattle.tm_word.specs.Closed.{row_of, named, begins_row, name_of, of_word};
+ghost use Rattle.tm_word.specs.Prelude.{Text, begins_row, name_of, named, of_word, row_of};
 
 use crate::texts::{begins, bytes_equal};
 
 /// A closed set of values that are written as words, each as another one.
 pub trait Closed: Copy + 'static {
     ghost use Rattle.std.specs.Prelude.{List, ◌≡◌, map, Some};
-    ghost use Rattle.tm_word.specs.Words.{Text};
-    ghost use Rattle.tm_word.specs.Closed.{row_of, of_word};
+    ghost use Rattle.tm_word.specs.Prelude.{Text, of_word, row_of};
 
     ghost all: { List Self };
 
@@ -28,13 +26,6 @@ pub fn of_word<T: Closed>(word: &[u8]) -> Option<T>
     ensures { result ≡ of_word T.text T.all word.now }
 {
     value_of(T::table(), word)
-}
-
-/// Whether a text is a front of a value's word, or one.
-pub fn begins_word<T: Closed>(front: &[u8]) -> bool
-    ensures { result ≡ begins_row (map (row_of T.text) T.all) front.now }
-{
-    begins_in(T::table(), front)
 }
 
 /// Reading and writing, as laws: a value is read again from its word, and what is read has this

@@ -1,8 +1,7 @@
 //! Patterns as data: a literal is kept as the bytes of its name, any other pattern as its
 //! components.
 ghost use Rattle.std.specs.Prelude.{◌≡◌, IfOk, IfErr};
-ghost use Rattle.tm_word.specs.Printing.{literal};
-ghost use Rattle.tm_word.specs.Patterns.{IsNoLiteral};
+ghost use Rattle.tm_word.specs.Prelude.{IsNoLiteral, literal};
 
 use crate::{Component, Word};
 use std::alloc::Global;
@@ -29,7 +28,7 @@ pub struct Pattern {
 impl Model for Pattern {
     ghost use Rattle.std.specs.Prelude.{List};
     ghost use Rattle.tm_word.specs.declared.Component.{Component};
-    ghost use Rattle.tm_word.specs.Patterns.{components_of, IsKept};
+    ghost use Rattle.tm_word.specs.Prelude.{IsKept, components_of};
 
     ghost Value = { List Component };
 

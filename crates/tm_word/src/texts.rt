@@ -2,8 +2,7 @@
 //! here takes memory.
 ghost use Rattle.std.specs.Prelude.{◌≡◌, ◌<◌, ◌≤◌, ◌==◌, ◌∷◌, ◌++◌, [], length, Some, None, IsTrue, MatchOption};
 ghost use Rattle.std.specs.List.{list_any, position};
-ghost use Rattle.tm_word.specs.Spelling.{spell, spelling_of, is_separator, words_of};
-ghost use Rattle.tm_word.specs.Texts.{texts_equal, begins_with_byte, begins, after, pieces, IsCut, if_word};
+ghost use Rattle.tm_word.specs.Prelude.{IsCut, after, begins, begins_with_byte, if_word, is_separator, pieces, spell, spelling_of, texts_equal, words_of};
 
 use crate::Text;
 use tm_list::Same;
@@ -162,7 +161,7 @@ pub struct Words<'a> {
 }
 
 impl<'a> Words<'a> {
-    ghost use Rattle.tm_word.specs.Texts.{words_left};
+    ghost use Rattle.tm_word.specs.Prelude.{words_left};
 
     /// All words of a line.
     #[tactic(auto, unfolding(crate::specs::Texts::words_left))]
@@ -175,7 +174,7 @@ impl<'a> Words<'a> {
 
 impl<'a> Iterator for Words<'a> {
     ghost use Rattle.std.specs.Iterator.{item_count, YieldsFirstBy};
-    ghost use Rattle.tm_word.specs.Texts.{words_left};
+    ghost use Rattle.tm_word.specs.Prelude.{words_left};
 
     type Item = &'a [u8];
 

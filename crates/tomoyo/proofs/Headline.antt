@@ -3,7 +3,7 @@ use Rattle.std.proofs.Common.{◌≡◌, ◌∙◌, ℕ, ◌∷◌, [], ◌++◌
 use Rattle.std.specs.Prelude.{Option, Some, None}
 use Rattle.std.specs.List.{AllByRecursion, list_all}
 use Rattle.std.proofs.lemmas.Bool.{and_parts}
-use Rattle.tm_types.specs.declared.policy.Policy.{Policy}
+use Rattle.tm_rules.specs.Types.{Policy, ScriptKind}
 use Rattle.tm_io.specs.declared.names.FileName.{FileName}
 use Rattle.tm_io.specs.Names.{same_name}
 use Rattle.tm_io.specs.Files.{FileState, Files}
@@ -35,8 +35,7 @@ use Rattle.tm_call.proofs.Others.{changed-other, not-first, not-later, stored-ot
 use Rattle.tm_call.proofs.Told.{texts-told}
 use Rattle.tm_call.specs.Fetches.{content}
 use Rattle.tm_call.specs.declared.status.What.{What}
-use Rattle.tm_types.specs.declared.request.ScriptKind.{ScriptKind}
-use Rattle.tm_word.specs.Gives.{◌>>=◌}
+use Rattle.tm_word.specs.Prelude.{◌>>=◌}
 use Rattle.tm_sort.specs.declared.record.Record.{Record}
 use Rattle.tm_sort.specs.declared.rules.Rule.{Rule}
 use Rattle.tm_sort.specs.declared.parts.Part.{Part}

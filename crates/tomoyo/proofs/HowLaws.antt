@@ -1,7 +1,7 @@
 -- What is read and refused, however it is played.
 use Rattle.std.proofs.Common.{◌≡◌, ap}
 use Rattle.std.specs.Prelude.{Some, None, Ok}
-use Rattle.tm_rules.specs.Few.{IsFew}
+use Rattle.tm_rules.specs.Prelude.{IsFew}
 use Rattle.tm_io.specs.declared.names.FileName.{FileName}
 use Rattle.tm_trace.proofs.TraceRead.{trace_read}
 use Rattle.tm_call.specs.declared.words.How.{How}

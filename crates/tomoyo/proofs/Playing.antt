@@ -1,13 +1,8 @@
 -- What was read is played, and what was played is what the files ask for.
 use Rattle.std.proofs.Common.{◌≡◌, List, [], refl, sym, subst}
 use Rattle.std.specs.Prelude.{Result, Ok, Err, IfOk}
-use Rattle.tm_types.specs.declared.policy.Policy.{Policy}
-use Rattle.tm_types.specs.declared.step.Book.{Book}
-use Rattle.tm_types.specs.declared.step.Run.{Run}
-use Rattle.tm_types.specs.declared.step.Start.{Start}
-use Rattle.tm_types.specs.declared.step.Turn.{Turn}
-use Rattle.tm_legal.specs.Legal.{Scene, Legal, final_policy}
-use Rattle.tm_legal.specs.Play.{Player, CanPlay, turns, run_of}
+use Rattle.tm_rules.specs.Types.{Book, Policy, Run, Start, Turn}
+use Rattle.tm_legal.specs.Prelude.{CanPlay, Legal, Player, Scene, final_policy, run_of, turns}
 use Rattle.tm_legal.specs.Play as core
 use Rattle.tm_steal.specs.Machine.{Course}
 use Rattle.tm_verify.specs.Scenes.{IsReached}

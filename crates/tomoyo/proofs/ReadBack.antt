@@ -1,17 +1,13 @@
 -- What is stored of a run is read back as that run.
 use Rattle.std.proofs.Common.{◌≡◌, ◌∙◌, refl, ap}
 use Rattle.std.specs.Prelude.{true, Ok, Option, Some, None}
-use Rattle.tm_word.specs.Words.{Text}
-use Rattle.tm_rules.specs.Words.{DomainName}
-use Rattle.tm_rules.specs.Policy.{live_domain}
-use Rattle.tm_types.specs.declared.policy.Policy.{Policy}
-use Rattle.tm_types.specs.declared.step.Run.{Run}
+use Rattle.tm_word.specs.Prelude.{Text}
+use Rattle.tm_rules.specs.Prelude.{DomainName, live_domain}
+use Rattle.tm_rules.specs.Types.{Policy, Run}
 use Rattle.tm_io.specs.declared.names.FileName.{FileName}
 use Rattle.tm_trace.proofs.TraceRead.{trace_read}
 use Rattle.tm_script.proofs.ReadLaws.{editors_right}
-use Rattle.tm_legal.specs.Clean.{switched}
-use Rattle.tm_legal.specs.Legal.{Legal, final_policy}
-use Rattle.tm_legal.specs.Play.{IsOpened}
+use Rattle.tm_legal.specs.Prelude.{IsOpened, Legal, final_policy, switched}
 use Rattle.tm_run.specs.RunText.{run_text}
 use Rattle.tm_run.specs.Reading.{run_of}
 use Rattle.tm_run.specs.Typed.{is_typed}

@@ -2,11 +2,7 @@
 use Rattle.std.proofs.Common.{◌≡◌, ℕ, Bool, true, false, Some, Result, Ok, Err, subst, sym, ◌⊎◌, inl, inr, length, List, nat_lt, if◌then◌else◌}
 use Rattle.tm_io.specs.declared.names.FileName.{FileName}
 use Rattle.tm_io.specs.Files.{Files}
-use Rattle.tm_types.specs.declared.request.ScriptKind.{ScriptKind}
-use Rattle.tm_types.specs.declared.request.TraceKind.{TraceKind}
-use Rattle.tm_types.specs.declared.step.FileKind.{FileKind}
-use Rattle.tm_types.specs.declared.step.EditReply.{EditReply}
-use Rattle.tm_types.specs.declared.step.LoadFault.{LoadFault}
+use Rattle.tm_rules.specs.Types.{EditReply, FileKind, LoadFault, ScriptKind, TraceKind}
 use Rattle.tm_sort.specs.declared.record.Record.{Record}
 use Rattle.tm_sort.specs.declared.rules.Rule.{Rule}
 use Rattle.tm_sort.specs.Records.{records_of}

@@ -3,24 +3,12 @@
 use Rattle.std.proofs.Common.{◌≡◌, ◌∙◌, ◌≤◌, ℕ, ◌+◌, true, false, not, ◌&&◌, List, [], ◌∷◌, length, refl, sym, ap, subst, arith}
 use Rattle.std.specs.Prelude.{map, Option, Some, None, IsSome, IsTrue, is_some}
 use Rattle.std.specs.List.{AllByRecursion, position_from}
-use Rattle.tm_word.specs.Texts.{texts_equal}
-use Rattle.tm_rules.specs.Words.{DomainName, Trace}
-use Rattle.tm_rules.specs.Clean.{is_plain, is_clean}
-use Rattle.tm_rules.specs.Few.{IsFewHere, IsFew}
-use Rattle.tm_rules.specs.Policy.{domain_at, live_domain}
-use Rattle.tm_types.specs.declared.policy.Domain.{Domain}
-use Rattle.tm_types.specs.declared.policy.Namespace.{Namespace}
-use Rattle.tm_types.specs.declared.policy.Policy.{Policy}
-use Rattle.tm_types.specs.declared.policy.Profile.{Profile}
-use Rattle.tm_types.specs.declared.request.Tree.{Tree}
-use Rattle.tm_types.specs.declared.step.Run.{Run}
+use Rattle.tm_word.specs.Prelude.{texts_equal}
+use Rattle.tm_rules.specs.Prelude.{DomainName, IsFew, IsFewHere, Trace, domain_at, is_clean, is_plain, live_domain}
+use Rattle.tm_rules.specs.Types.{Domain, Namespace, Policy, Profile, Run, Tree}
 use Rattle.tm_run_laws.specs.Tomoyo.{tomoyo_grammar}
 use Rattle.tm_run_laws.proofs.IsOne.{is_one}
-use Rattle.tm_legal.specs.Clean.{switched, switched_profile}
-use Rattle.tm_legal.specs.Steps.{after}
-use Rattle.tm_legal.specs.Legal.{Scene, Legal, state_at, final_policy}
-use Rattle.tm_legal.specs.Play.{IsOpened, IsNamed, CanPlay}
-use Rattle.tm_legal.specs.Replay.{Grows, CleanRunGrows, LearnedRunRepeats, alone}
+use Rattle.tm_legal.specs.Prelude.{CanPlay, CleanRunGrows, Grows, IsNamed, IsOpened, LearnedRunRepeats, Legal, Scene, after, alone, final_policy, state_at, switched, switched_profile}
 use Rattle.tm_legal.proofs.Kept.{some_of, position_holds}
 use Rattle.tm_legal.proofs.Opened.{position-none, final_is_opened}
 use Rattle.tm_legal.proofs.Named.{final_is_named}

@@ -3,7 +3,7 @@ use Rattle.std.proofs.Common.{◌≡◌, ◌∙◌, ℕ, ◌+◌, ◌<◌, ◌�
 use Rattle.std.specs.List.{AllByRecursion, filter}
 use Rattle.std.proofs.lemmas.Bool.Decides.{nat_tests}
 use Rattle.std.proofs.lemmas.Bool.{eqb-true}
-use Rattle.tm_word.specs.Words.{Text}
+use Rattle.tm_word.specs.Prelude.{Text}
 use Rattle.tm_io.specs.declared.names.FileName.{FileName}
 use Rattle.tm_io.specs.Names.{same_name}
 use Rattle.tm_io.specs.Files.{FileState, Files, changed}

@@ -4,8 +4,8 @@ use Rattle.std.specs.Prelude.{Option, Some, None, Result, MatchOption}
 use Rattle.tm_io.specs.declared.names.FileName.{FileName}
 use Rattle.tm_io.specs.Files.{FileState, Files}
 use Rattle.tm_io.specs.Bytes.{then_bytes}
-use Rattle.tm_types.specs.declared.step.Run.{Run}
-use Rattle.tm_legal.specs.Legal.{Scene, Legal}
+use Rattle.tm_rules.specs.Types.{Run}
+use Rattle.tm_legal.specs.Prelude.{Legal, Scene}
 use Rattle.tm_run.specs.Reading.{run_of}
 use Rattle.tm_run.specs.RunText.{run_text}
 use Rattle.tm_verify_laws.specs.declared.broken.Broken.{Broken}

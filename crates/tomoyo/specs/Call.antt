@@ -3,8 +3,7 @@ use Rattle.std.specs.Prelude.{◌≡◌, ℕ, ◌⊎◌, List, [], ◌∷◌, �
 use Rattle.std.specs.Prelude.{Result, Ok, Err, Option, Some, None}
 use Rattle.std.specs.List.{AllByRecursion}
 use Rattle.tm_io.specs.declared.names.FileName.{FileName}
-use Rattle.tm_types.specs.declared.policy.Policy.{Policy}
-use Rattle.tm_types.specs.declared.step.LoadFault.{LoadFault}
+use Rattle.tm_rules.specs.Types.{LoadFault, Policy, Run}
 use Rattle.tm_text.specs.DomainText.{domain_text}
 use Rattle.tm_text.specs.ExceptionText.{exception_text}
 use Rattle.tm_text.specs.ManagerText.{manager_text}
@@ -17,7 +16,7 @@ use Rattle.tm_call.specs.declared.status.Status.{Status}
 use Rattle.tm_call.specs.declared.status.OutName.{OutName}
 use Rattle.tm_call.specs.declared.fetches.Want.{Want}
 use Rattle.tm_call.specs.declared.carry.Outcome.{Outcome}
-use Rattle.tm_word.specs.Words.{Text}
+use Rattle.tm_word.specs.Prelude.{Text}
 use Rattle.tomoyo.specs.declared.play.Printed.{Printed}
 use Rattle.tomoyo.specs.declared.play.Played.{Played}
 use Rattle.tomoyo.specs.declared.learn.RerunTexts.{RerunTexts}
@@ -29,8 +28,7 @@ use Rattle.tm_call.specs.Stores.{names_of, is_named}
 use Rattle.tm_io.specs.Notes.{Noted}
 use Rattle.tm_call.specs.Calls.{Names, wanted, FetchesOf, StoresOf}
 use Rattle.tm_call.specs.Ends.{Outside, Untouched, Ends}
-use Rattle.tm_types.specs.declared.step.Run.{Run}
-use Rattle.tm_legal.specs.Legal.{Legal}
+use Rattle.tm_legal.specs.Prelude.{Legal}
 use Rattle.tm_run.specs.Reading.{run_of}
 use Rattle.tm_run.specs.RunText.{run_text}
 use Rattle.tm_gen_laws.specs.CallInputLoaded.{Loaded}

@@ -1,12 +1,10 @@
 -- What the closure keeps that plays what was read.
 use Rattle.std.specs.Prelude.{◌≡◌, Result, Ok, ⊤}
 use Rattle.std.specs.Fn.{Shared}
-use Rattle.tm_rules.specs.Few.{IsFew}
-use Rattle.tm_types.specs.declared.policy.Policy.{Policy}
-use Rattle.tm_types.specs.declared.step.Run.{Run}
-use Rattle.tm_types.specs.declared.step.Start.{Start}
+use Rattle.tm_rules.specs.Prelude.{IsFew}
+use Rattle.tm_rules.specs.Types.{Policy, Run, Start}
 use Rattle.tm_trace.specs.Written.{IsTrace}
-use Rattle.tm_legal.specs.Play.{CanPlay}
+use Rattle.tm_legal.specs.Prelude.{CanPlay}
 use Rattle.tm_call.specs.declared.words.How.{How}
 use Rattle.tm_call.specs.declared.words.Command.{Command}
 use Rattle.tm_gen_laws.specs.CallInputLoaded.{Loaded}

@@ -1,12 +1,9 @@
 -- What a play of the files gives, by turns or on threads.
 use Rattle.std.specs.Prelude.{◌≡◌, true, List, [], Result, Ok, unwrap_or}
 use Rattle.std.specs.List.{flat_map}
-use Rattle.tm_word.specs.Words.{Text}
-use Rattle.tm_types.specs.declared.policy.Policy.{Policy}
-use Rattle.tm_types.specs.declared.step.Take.{Take}
-use Rattle.tm_types.specs.declared.step.Run.{Run}
-use Rattle.tm_types.specs.declared.step.Turn.{Turn}
-use Rattle.tm_legal.specs.Legal.{Scene, Legal, NoLookBeforeAttach, final_policy}
+use Rattle.tm_word.specs.Prelude.{Text}
+use Rattle.tm_rules.specs.Types.{Policy, Run, Take, Turn}
+use Rattle.tm_legal.specs.Prelude.{Legal, NoLookBeforeAttach, Scene, final_policy}
 use Rattle.tm_legal.specs.Play as core
 use Rattle.tm_run.specs.Reading.{run_of}
 use Rattle.tm_run.specs.RunText.{run_text}

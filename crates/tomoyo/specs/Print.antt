@@ -1,7 +1,7 @@
 -- What `print` gives of the files.
 use Rattle.std.specs.Prelude.{ℕ, [], ◌∷◌, ◌++◌, codes, decimal}
-use Rattle.tm_word.specs.Words.{Text}
-use Rattle.tm_types.specs.declared.policy.Policy.{Policy}
+use Rattle.tm_word.specs.Prelude.{Text}
+use Rattle.tm_rules.specs.Types.{Policy}
 use Rattle.tm_verify.specs.Counts.{counted}
 use Rattle.tm_text.specs.DomainText.{domain_text}
 use Rattle.tm_text.specs.ExceptionText.{exception_text}

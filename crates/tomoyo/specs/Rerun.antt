@@ -2,17 +2,10 @@
 -- nobody else.
 use Rattle.std.specs.Prelude.{◌≡◌, ◌↔◌, Bool, true, [], Option, Some, None, IsSome, IsTrue, Ok, ⊤}
 use Rattle.std.specs.List.{AllByRecursion, list_all}
-use Rattle.tm_rules.specs.Words.{Trace}
-use Rattle.tm_rules.specs.Requests.{item_is_request}
-use Rattle.tm_rules.specs.Clean.{is_plain, is_clean}
-use Rattle.tm_types.specs.declared.policy.Policy.{Policy}
-use Rattle.tm_types.specs.declared.request.Tree.{Tree}
-use Rattle.tm_types.specs.declared.step.Run.{Run}
+use Rattle.tm_rules.specs.Prelude.{Trace, is_clean, is_plain, item_is_request}
+use Rattle.tm_rules.specs.Types.{Policy, Run, Tree}
 use Rattle.tm_run_laws.specs.Tomoyo.{tomoyo_grammar}
-use Rattle.tm_legal.specs.Clean.{switched, SameDomains}
-use Rattle.tm_legal.specs.Legal.{Scene, Legal, final_policy}
-use Rattle.tm_legal.specs.Play.{IsOpened, IsNamed}
-use Rattle.tm_legal.specs.Replay.{alone, Repeats}
+use Rattle.tm_legal.specs.Prelude.{IsNamed, IsOpened, Legal, Repeats, SameDomains, Scene, alone, final_policy, switched}
 use Rattle.tm_run.specs.Reading.{run_of}
 use Rattle.tm_run.specs.RunText.{run_text}
 use Rattle.tm_run.specs.Typed.{is_typed}

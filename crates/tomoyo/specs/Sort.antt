@@ -1,8 +1,7 @@
 -- What `sort` reads of the files, what is refused of them, and what it stores and puts.
 use Rattle.std.specs.Prelude.{ℕ, nat_lt, List, length, map, Result, Ok, Err, if◌then◌else◌}
-use Rattle.tm_word.specs.Words.{Text}
-use Rattle.tm_word.specs.Gives.{◌>>=◌}
-use Rattle.tm_types.specs.declared.request.ScriptKind.{ScriptKind}
+use Rattle.tm_word.specs.Prelude.{Text, ◌>>=◌}
+use Rattle.tm_rules.specs.Types.{ScriptKind}
 use Rattle.tm_io.specs.declared.names.FileName.{FileName}
 use Rattle.tm_sort.specs.declared.record.Record.{Record}
 use Rattle.tm_sort.specs.declared.rules.Rule.{Rule}

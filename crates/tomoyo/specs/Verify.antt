@@ -1,6 +1,6 @@
 -- What `verify` puts of a given run.
 use Rattle.std.specs.Prelude.{ℕ, ◌==◌, List, [], ◌∷◌, ◌++◌, Option, Some, None, codes, decimal, if◌then◌else◌}
-use Rattle.tm_word.specs.Words.{Text}
+use Rattle.tm_word.specs.Prelude.{Text}
 use Rattle.tm_verify_laws.specs.declared.broken.Broken.{Broken}
 use Rattle.tm_call.specs.declared.carry.Outcome.{Outcome}
 

@@ -1,9 +1,8 @@
 //! The rerun of a run: the same trace under the run's final policy with its profiles enforcing.
 ghost use Rattle.std.specs.Prelude.{◌≡◌, IfOk, IfErr, None};
-ghost use Rattle.tm_rules.specs.Few.{IsFew};
+ghost use Rattle.tm_rules.specs.Prelude.{IsFew};
 ghost use Rattle.tm_run_laws.specs.Tomoyo.{tomoyo_grammar};
-ghost use Rattle.tm_legal.specs.Play.{CanPlay};
-ghost use Rattle.tm_legal.specs.Replay.{alone};
+ghost use Rattle.tm_legal.specs.Prelude.{CanPlay, alone};
 ghost use Rattle.tm_trace.specs.Written.{IsTrace};
 ghost use Rattle.tm_call.specs.declared.words.How.{How};
 ghost use Rattle.tm_gen_laws.specs.Reading.{refused, RefusedBy};

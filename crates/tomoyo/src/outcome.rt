@@ -1,6 +1,6 @@
 //! What commands store and put of what they have made.
 ghost use Rattle.std.specs.Prelude.{◌≡◌, ◌++◌, IfOk, OnOk};
-ghost use Rattle.tm_rules.specs.Few.{IsFew};
+ghost use Rattle.tm_rules.specs.Prelude.{IsFew};
 ghost use Rattle.tm_gen_laws.specs.Generated.{generated_files};
 ghost use Rattle.tomoyo.specs.Call.{stores_of, policy_stores, step_outcome, rerun_stores, rerun_line, learn_outcome, with_files, print_outcome};
 

@@ -1,6 +1,6 @@
 //! The line of the counts that `print` puts.
 ghost use Rattle.std.specs.Prelude.{◌≡◌, ◌++◌, decimal, IfOk, OnOk};
-ghost use Rattle.tm_rules.specs.Few.{IsFew};
+ghost use Rattle.tm_rules.specs.Prelude.{IsFew};
 ghost use Rattle.tomoyo.specs.Print.{counts_text};
 
 use std::alloc::Global;

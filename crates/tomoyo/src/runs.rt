@@ -1,9 +1,9 @@
 //! How what was read is played: by turns on one thread, or on threads.
 ghost use Rattle.std.specs.Prelude.{◌≡◌, ◌<◌, true, IfOk};
-ghost use Rattle.tm_rules.specs.Few.{IsFew};
+ghost use Rattle.tm_rules.specs.Prelude.{IsFew};
 ghost use Rattle.tm_trace.specs.Written.{IsTrace};
 ghost use Rattle.tm_script.specs.Written.{has_supervisor};
-ghost use Rattle.tm_legal.specs.Play.{CanPlay};
+ghost use Rattle.tm_legal.specs.Prelude.{CanPlay};
 ghost use Rattle.tm_steal.specs.Machine.{course_from};
 ghost use Rattle.tm_call.specs.Words.{is_by_turns, HasWorkers};
 ghost use Rattle.tm_call.specs.declared.words.How.{How};
@@ -15,11 +15,11 @@ use std::alloc::{AllocError, Global};
 use std::sync::Wait;
 use std::thread::Threads;
 use tm_call::How;
-use tm_desk::{Desk, book_code};
+use tm_desk::Desk;
 use tm_engine::gate::Gate;
 use tm_gen_laws::call_input::Loaded;
 use tm_list::{NoMemory, Seq};
-use tm_script::has_supervisor;
+use tm_script::{book_code, has_supervisor};
 use tm_steal::machine::Machine;
 use tm_steal::replay::replay_run;
 use tm_steal::steal_run;

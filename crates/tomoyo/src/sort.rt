@@ -1,6 +1,6 @@
 //! The audit sorter: the records of `audit` in the parts that the rules of `sorter` name.
 ghost use Rattle.std.specs.Prelude.{◌≡◌, ◌<◌, nat_lt, length, map, IfOk, IfErr};
-ghost use Rattle.tm_word.specs.Gives.{Gives};
+ghost use Rattle.tm_word.specs.Prelude.{Gives};
 ghost use Rattle.tm_sort.specs.Records.{records_of};
 ghost use Rattle.tm_sort.specs.Rules.{rules_of};
 ghost use Rattle.tm_io.specs.declared.names.FileName.{FileName};

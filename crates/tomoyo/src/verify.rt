@@ -1,7 +1,7 @@
 //! The judge of a given run: whether it is legal for the other files, or what it breaks first.
 ghost use Rattle.std.specs.Prelude.{◌≡◌, ◌++◌, Option, IfOk, IfErr, OnOk};
-ghost use Rattle.tm_rules.specs.Few.{IsFew};
-ghost use Rattle.tm_legal.specs.Play.{CanPlay};
+ghost use Rattle.tm_rules.specs.Prelude.{IsFew};
+ghost use Rattle.tm_legal.specs.Prelude.{CanPlay};
 ghost use Rattle.tm_call.specs.declared.words.Command.{Command};
 ghost use Rattle.tm_gen_laws.specs.Reading.{scene_of};
 ghost use Rattle.tm_verify_laws.specs.declared.broken.Broken.{Broken};
@@ -16,8 +16,9 @@ use tm_gen_laws::call_input::{Judging, read_judging};
 use tm_io::FileList;
 use tm_list::NoMemory;
 use tm_script::has_supervisor;
+use tm_verify::legal;
 use tm_verify::rep::Rep;
-use tm_verify::{Broken, legal};
+use tm_verify_laws::Broken;
 use tm_word::Text;
 
 // Judges a run by the scene that was read with it.

@@ -2,8 +2,10 @@
 //! of how a call ends.
 //! Stands on `tomoyo`, whose top calls do the command, with threads or without, and on tm_io, whose
 //! folder and standard output it hands in.
-//! Promises what these calls promise; which words ask for help and version, and which for threads, is
-//! proved.
+//! Of its own, so that rows and tests make the same top call with files in memory.
+//! Promises what these calls promise; which words ask for help and version, and which for threads,
+//! is proved.
+//! Only tested: the folder of `-C`, the help, the version, a refusal's line and the exit status.
 #![tactic(auto)]
 
 mod command_line;
@@ -15,9 +17,10 @@ use std::process::ExitCode;
 use std::rt::Runtime;
 use std::sync::Wait;
 use std::thread::Threads;
+use tm_call::{OutName, Status};
 use tm_engine::gate::NoGate;
 use tm_io::{DiskShelf, Folder, OutSink, Sink, Stored};
-use tomoyo::{OutName, Status, run, run_alone};
+use tomoyo::{run, run_alone};
 
 // Prints a text that was asked for by `--help` or `--version`.
 fn show<R: Runtime>(rt: &R, text: &str) -> Status {

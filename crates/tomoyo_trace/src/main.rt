@@ -2,6 +2,7 @@
 //! told of it to standard error.
 //! Stands on `tm_log`, which reads the log, and on `tm_log_trace`, which makes and prints its
 //! trace.
+//! Of its own, so that it stands on nothing that changes, searches or plays policies.
 //! Promises what these promise of what they are given; nothing is claimed of files and streams.
 #![tactic(auto)]
 

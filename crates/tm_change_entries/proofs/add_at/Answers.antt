@@ -1,7 +1,7 @@
 use Rattle.std.proofs.Common.{◌≡◌, ◌++◌, ◌∷◌, [], Some, None, sym, ◌∙◌, rules}
 use Rattle.std.specs.List.{position_from}
-use Rattle.tm_types.specs.declared.entry.Entry.{Entry}
-use Rattle.tm_rules.specs.Policy.{same_line}
+use Rattle.tm_rules.specs.Types.{Entry}
+use Rattle.tm_rules.specs.Prelude.{same_line}
 use Rattle.tm_change_entries.proofs.Edits.{place_within, adding_last}
 use Rattle.tm_change_entries.proofs.add_at.Goals as goal
 

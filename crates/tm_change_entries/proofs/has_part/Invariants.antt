@@ -1,5 +1,5 @@
 use Rattle.std.proofs.Common.{◌≡◌, drop}
-use Rattle.tm_rules.specs.Policy.{has_part}
+use Rattle.tm_rules.specs.Prelude.{has_part}
 use Rattle.tm_change_entries.proofs.has_part.Given as goal
 
 -- the entries from here on have it where all have it

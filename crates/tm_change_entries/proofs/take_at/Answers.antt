@@ -1,6 +1,6 @@
 use Rattle.std.proofs.Common.{◌≡◌, get_or, slice_set, ◌∙◌, rules}
 use Rattle.std.specs.List.{remove}
-use Rattle.tm_rules.specs.Policy.{without_permissions}
+use Rattle.tm_rules.specs.Prelude.{without_permissions}
 use Rattle.tm_change_entries.proofs.Edits.{left_entry, deleting_out, deleting_at}
 use Rattle.tm_change_entries.proofs.take_at.Goals as goal
 

@@ -1,6 +1,6 @@
 use Rattle.std.proofs.Common.{◌≡◌, drop}
 use Rattle.std.specs.List.{list_all}
-use Rattle.tm_rules.specs.Condition.{clause_holds}
+use Rattle.tm_rules.specs.Prelude.{clause_holds}
 use Rattle.tm_cond.proofs.holds.Given as goal
 
 abbrev pub invariant-loop-clause : goal.invariant-loop-clause

@@ -1,7 +1,7 @@
 use Rattle.std.proofs.Common.{◌≡◌, ℕ, List, drop}
 use Rattle.std.specs.List.{find}
-use Rattle.tm_word.specs.declared.Component.{Component}
-use Rattle.tm_word.specs.Matching.{matches}
+use Rattle.tm_rules.specs.Types.{Component}
+use Rattle.tm_word.specs.Prelude.{matches}
 use Rattle.tm_except.proofs.find_name.Given as goal
 
 abbrev pub invariant-loop-first : goal.invariant-loop-first

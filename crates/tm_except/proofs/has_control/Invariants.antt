@@ -1,7 +1,7 @@
 use Rattle.std.proofs.Common.{◌≡◌, ◌==◌, ◌&&◌, drop}
 use Rattle.std.specs.List.{list_any}
-use Rattle.tm_types.specs.declared.policy.Control.{Control}
-use Rattle.tm_rules.specs.Transition.{kind_number, control_matches}
+use Rattle.tm_rules.specs.Types.{Control}
+use Rattle.tm_rules.specs.Prelude.{control_matches, kind_number}
 use Rattle.tm_except.proofs.has_control.Given as goal
 
 -- from here on it finds what the whole finds

@@ -1,6 +1,6 @@
 use Rattle.std.proofs.Common.{◌≡◌, ◌&&◌, ℕ, List, drop}
 use Rattle.std.specs.List.{list_any}
-use Rattle.tm_rules.specs.AddrRange.{AddrRange}
+use Rattle.tm_rules.specs.Types.{AddrRange}
 use Rattle.tm_rules.specs.Addresses.{addr_range_has}
 use Rattle.tm_pattern.specs.Texts.{texts_equal}
 use Rattle.tm_union.proofs.addr_group_has.Given as goal

@@ -1,6 +1,6 @@
 use Rattle.std.proofs.Common.{◌≡◌, ◌&&◌, ℕ, List, drop}
 use Rattle.std.specs.List.{position_from}
-use Rattle.tm_pattern.specs.Component.{Component}
+use Rattle.tm_rules.specs.Types.{Component}
 use Rattle.tm_pattern.specs.Matching.{matches}
 use Rattle.tm_pattern.specs.Texts.{texts_equal}
 use Rattle.tm_union.proofs.first_member.Given as goal

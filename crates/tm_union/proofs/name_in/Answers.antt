@@ -1,7 +1,7 @@
 use Rattle.std.proofs.Common.{ap, ◌∙◌}
 use Rattle.std.specs.Prelude.{option_map}
-use Rattle.tm_rules.specs.NamePlace.{NamePlace}
-use Rattle.tm_rules.specs.Group.{name_in}
+use Rattle.tm_rules.specs.Types.{NamePlace}
+use Rattle.tm_rules.specs.Prelude.{name_in}
 use Rattle.tm_union.proofs.name_in.Goals as goal
 
 pub returns-in-Group : goal.returns-in-Group

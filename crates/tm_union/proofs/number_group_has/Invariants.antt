@@ -1,6 +1,6 @@
 use Rattle.std.proofs.Common.{◌≡◌, ◌&&◌, ℕ, List, drop}
 use Rattle.std.specs.List.{list_any}
-use Rattle.tm_rules.specs.Range.{Range}
+use Rattle.tm_rules.specs.Types.{Range}
 use Rattle.tm_rules.specs.Ranges.{range_has}
 use Rattle.tm_pattern.specs.Texts.{texts_equal}
 use Rattle.tm_union.proofs.number_group_has.Given as goal

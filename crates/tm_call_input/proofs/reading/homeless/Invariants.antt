@@ -1,8 +1,8 @@
 use Rattle.std.proofs.Common.{◌≡◌, drop, not}
 use Rattle.std.specs.Prelude.{is_some}
 use Rattle.std.specs.List.{position_from}
-use Rattle.tm_types.specs.declared.request.Tree.{Tree}
-use Rattle.tm_rules.specs.Policy.{live_domain}
+use Rattle.tm_rules.specs.Types.{Tree}
+use Rattle.tm_rules.specs.Prelude.{live_domain}
 use Rattle.tm_call_input.proofs.reading.homeless.Given as goal
 
 -- from here on it finds what the whole finds

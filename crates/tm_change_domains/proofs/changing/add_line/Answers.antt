@@ -1,7 +1,7 @@
 use Rattle.std.proofs.Common.{◌≡◌, ◌+◌, slice_set, get_or, sum_by, rules}
-use Rattle.tm_types.specs.declared.policy.Domain.{Domain}
+use Rattle.tm_rules.specs.Types.{Domain}
 use Rattle.std.proofs.Common.{ap}
-use Rattle.tm_rules.specs.Policy.{adding}
+use Rattle.tm_rules.specs.Prelude.{adding}
 use Rattle.tm_change_entries.specs.Counting.{permissions_of}
 use Rattle.tm_change_domains.proofs.Domains.{changed_here, counted_here, lent_here}
 use Rattle.tm_change_domains.proofs.changing.add_line.Goals as goal

@@ -1,7 +1,7 @@
 use Rattle.std.proofs.Common.{◌≡◌, slice_set, get_or, rules}
-use Rattle.tm_types.specs.declared.policy.Domain.{Domain}
+use Rattle.tm_rules.specs.Types.{Domain}
 use Rattle.std.proofs.Common.{ap}
-use Rattle.tm_rules.specs.Edit.{remove_key}
+use Rattle.tm_rules.specs.Prelude.{remove_key}
 use Rattle.tm_change_domains.proofs.Domains.{changed_here}
 use Rattle.tm_change_domains.proofs.changing.remove_group.Goals as goal
 

@@ -1,5 +1,5 @@
 use Rattle.std.proofs.Common.{◌≡◌, slice_set, get_or, refl, rules}
-use Rattle.tm_types.specs.declared.policy.Domain.{Domain}
+use Rattle.tm_rules.specs.Types.{Domain}
 use Rattle.tm_change_domains.proofs.Domains.{changed_here}
 use Rattle.tm_change_domains.proofs.changing.set_quota.Goals as goal
 

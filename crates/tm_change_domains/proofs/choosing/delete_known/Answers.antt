@@ -1,6 +1,6 @@
 use Rattle.std.proofs.Common.{◌≡◌, rules}
 use Rattle.std.specs.Prelude.{Some}
-use Rattle.tm_rules.specs.Policy.{live_domain}
+use Rattle.tm_rules.specs.Prelude.{live_domain}
 use Rattle.tm_change_domains.proofs.Domains.{live_within}
 use Rattle.tm_change_domains.proofs.choosing.delete_known.Goals as goal
 

@@ -1,8 +1,8 @@
 use Rattle.std.proofs.Common.{◌≡◌, drop}
 use Rattle.std.specs.Prelude.{◌&&◌}
 use Rattle.std.specs.List.{position_from}
-use Rattle.tm_types.specs.declared.policy.Domain.{Domain}
-use Rattle.tm_word.specs.Texts.{texts_equal}
+use Rattle.tm_rules.specs.Types.{Domain}
+use Rattle.tm_word.specs.Prelude.{texts_equal}
 use Rattle.tm_change_domains.proofs.finding.live_domain.Given as goal
 
 abbrev pub invariant-loop-place : goal.invariant-loop-place

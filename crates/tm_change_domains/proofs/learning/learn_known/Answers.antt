@@ -1,12 +1,8 @@
 use Rattle.std.proofs.Common.{◌≡◌, true, sym, ap, ◌∙◌, rules}
 use Rattle.std.specs.Prelude.{Option, Some}
-use Rattle.tm_types.specs.declared.policy.Policy.{Policy}
-use Rattle.tm_types.specs.declared.policy.Domain.{Domain}
-use Rattle.tm_types.specs.declared.step.LearnReply.{LearnReply}
+use Rattle.tm_rules.specs.Types.{Domain, Entry, LearnReply, Policy}
 use Rattle.std.specs.List.{position_from}
-use Rattle.tm_types.specs.declared.entry.Entry.{Entry}
-use Rattle.tm_rules.specs.Policy.{with_domain, adding, same_line}
-use Rattle.tm_rules.specs.Changes.{count}
+use Rattle.tm_rules.specs.Prelude.{adding, count, same_line, with_domain}
 use Rattle.tm_change_domains.proofs.Lists.{there_less}
 use Rattle.tm_change_domains.proofs.LearnLaws.{IsLearned, learned, kept_here, counts_after, counts_kept, count_flag}
 use Rattle.tm_change_domains.proofs.learning.learn_known.Goals as goal

@@ -1,6 +1,6 @@
 use Rattle.std.proofs.Common.{◌≡◌, ℕ, suc, ◌-◌, ◌≤◌, ◌+◌, true, false, Some, None, sym, ap, ◌∙◌, arith, rules}
 use Rattle.std.specs.Prelude.{unwrap_or}
-use Rattle.tm_rules.specs.Policy.{has_permission}
+use Rattle.tm_rules.specs.Prelude.{has_permission}
 use Rattle.tm_change_domains.proofs.Places.{first_place, place_from, place_here, place_later, no_place, place_is}
 use Rattle.tm_change_domains.proofs.learning.permission_place.Goals as goal
 

@@ -1,9 +1,8 @@
 use Rattle.std.proofs.Common.{◌≡◌, ap, ◌∙◌, rules}
 use Rattle.std.specs.Prelude.{Some}
 use Rattle.std.specs.List.{position_from}
-use Rattle.tm_types.specs.declared.entry.Entry.{Entry}
-use Rattle.tm_types.specs.declared.policy.Domain.{Domain}
-use Rattle.tm_rules.specs.Policy.{domain_at, same_line}
+use Rattle.tm_rules.specs.Types.{Domain, Entry}
+use Rattle.tm_rules.specs.Prelude.{domain_at, same_line}
 use Rattle.tm_change_domains.proofs.Domains.{one_domain}
 use Rattle.tm_change_domains.proofs.lines.add_acl.Goals as goal
 

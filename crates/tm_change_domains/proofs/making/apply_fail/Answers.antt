@@ -1,7 +1,7 @@
 use Rattle.std.proofs.Common.{◌≡◌, sym, ap, ◌∙◌, rules}
 use Rattle.std.specs.Prelude.{Some}
 use Rattle.std.specs.Option.{option_copied}
-use Rattle.tm_rules.specs.Policy.{domain_at}
+use Rattle.tm_rules.specs.Prelude.{domain_at}
 use Rattle.tm_change_domains.proofs.MakeLaws.{failed, failed_there}
 use Rattle.tm_change_domains.proofs.making.apply_fail.Goals as goal
 

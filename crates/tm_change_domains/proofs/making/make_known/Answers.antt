@@ -1,11 +1,8 @@
 use Rattle.std.proofs.Common.{◌≡◌, ℕ, List, [], ◌∷◌, ◌++◌, length, sym, ap, ◌∙◌, rules}
 use Rattle.std.specs.Prelude.{Some, None}
 use Rattle.std.specs.Option.{option_copied}
-use Rattle.tm_types.specs.declared.policy.Domain.{Domain}
-use Rattle.tm_types.specs.declared.policy.Policy.{Policy}
-use Rattle.tm_types.specs.declared.step.MakeReply.{MakeReply}
-use Rattle.tm_rules.specs.Policy.{domain_at, live_domain}
-use Rattle.tm_rules.specs.Edit.{new_domain}
+use Rattle.tm_rules.specs.Types.{Domain, MakeReply, Policy}
+use Rattle.tm_rules.specs.Prelude.{domain_at, live_domain, new_domain}
 use Rattle.tm_change_domains.proofs.MakeLaws.{made, made_old, made_last}
 use Rattle.tm_change_domains.proofs.making.make_known.Goals as goal
 

@@ -1,6 +1,6 @@
 use Rattle.std.proofs.Common.{◌≡◌, drop}
 use Rattle.std.specs.List.{list_any}
-use Rattle.tm_word.specs.Texts.{texts_equal}
+use Rattle.tm_word.specs.Prelude.{texts_equal}
 use Rattle.tm_change_domains.proofs.managers.has_manager.Given as goal
 
 -- it is among those from here on where it is among all

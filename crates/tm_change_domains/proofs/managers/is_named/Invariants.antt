@@ -1,8 +1,7 @@
 use Rattle.std.proofs.Common.{◌≡◌, drop}
 use Rattle.std.specs.Prelude.{◌||◌}
 use Rattle.std.specs.List.{list_any}
-use Rattle.tm_word.specs.Texts.{texts_equal}
-use Rattle.tm_word.specs.Spelling.{spell}
+use Rattle.tm_word.specs.Prelude.{spell, texts_equal}
 use Rattle.tm_change_domains.proofs.managers.is_named.Given as goal
 
 -- one of those from here on names the editor where one of all does

@@ -1,8 +1,7 @@
 use Rattle.std.proofs.Common.{◌≡◌, filter, ap, ◌∙◌, rules}
 use Rattle.std.specs.Prelude.{not}
 use Rattle.std.proofs.lemmas.Fn.{filter_same}
-use Rattle.tm_word.specs.Words.{Text}
-use Rattle.tm_word.specs.Texts.{texts_equal}
+use Rattle.tm_word.specs.Prelude.{Text, texts_equal}
 use Rattle.tm_change_domains.proofs.managers.remove_manager.Goals as goal
 
 pub returns : goal.returns

@@ -1,7 +1,7 @@
 use Rattle.std.proofs.Common.{◌≡◌, drop}
 use Rattle.std.specs.List.{find, position_from}
-use Rattle.tm_types.specs.declared.policy.Namespace.{Namespace}
-use Rattle.tm_word.specs.Texts.{texts_equal}
+use Rattle.tm_rules.specs.Types.{Namespace}
+use Rattle.tm_word.specs.Prelude.{texts_equal}
 use Rattle.tm_change_domains.proofs.standing.namespace_at.Given as goal
 
 -- from here on it finds what the whole finds

@@ -1,9 +1,9 @@
 use Rattle.std.proofs.Common.{◌≡◌, sym}
 use Rattle.std.specs.Prelude.{Some}
 use Rattle.std.specs.List.{find}
-use Rattle.tm_word.specs.Texts.{texts_equal}
-use Rattle.tm_types.specs.declared.policy.Namespace.{Namespace}
-use Rattle.tm_rules.specs.Policy.{namespace_word}
+use Rattle.tm_word.specs.Prelude.{texts_equal}
+use Rattle.tm_rules.specs.Types.{Namespace}
+use Rattle.tm_rules.specs.Prelude.{namespace_word}
 use Rattle.tm_change_domains.proofs.Standings.{no_profile}
 use Rattle.tm_change_domains.proofs.standing.standing_at.Goals as goal
 

@@ -1,6 +1,6 @@
 use Rattle.std.proofs.Common.{◌≡◌, ap, ◌∙◌, rules}
 use Rattle.std.proofs.lemmas.Fn.{filter_same}
-use Rattle.tm_rules.specs.Edit.{leaving}
+use Rattle.tm_rules.specs.Prelude.{leaving}
 use Rattle.tm_change_namespaces.proofs.alike.leave.Goals as goal
 
 pub returns-clause-done : goal.returns-clause-done

@@ -1,10 +1,8 @@
 use Rattle.std.proofs.Common.{◌≡◌, Some, ap, ◌∙◌, rules}
 use Rattle.std.specs.List.{position_from}
-use Rattle.tm_word.specs.Texts.{texts_equal}
-use Rattle.tm_types.specs.declared.entry.Entry.{Entry}
-use Rattle.tm_types.specs.declared.policy.Namespace.{Namespace}
-use Rattle.tm_rules.specs.Policy.{changed_at, same_line}
-use Rattle.tm_rules.specs.Edit.{acl_group}
+use Rattle.tm_word.specs.Prelude.{texts_equal}
+use Rattle.tm_rules.specs.Types.{Entry, Namespace}
+use Rattle.tm_rules.specs.Prelude.{acl_group, changed_at, same_line}
 use Rattle.tm_change_namespaces.specs.AclGroups.{line_added}
 use Rattle.tm_change_namespaces.proofs.GroupLaws.{named_at}
 use Rattle.tm_change_namespaces.proofs.Outcomes.{done_so}

@@ -1,8 +1,7 @@
 use Rattle.std.proofs.Common.{◌≡◌, List, [], refl, sym, subst, ap, ◌∙◌}
 use Rattle.std.specs.Prelude.{Option, Some, None, IsSome, unwrap_or}
-use Rattle.tm_types.specs.declared.entry.Entry.{Entry}
-use Rattle.tm_rules.specs.Policy.{at_key}
-use Rattle.tm_rules.specs.Edit.{put_key}
+use Rattle.tm_rules.specs.Types.{Entry}
+use Rattle.tm_rules.specs.Prelude.{at_key, put_key}
 use Rattle.tm_change_namespaces.proofs.Outcomes.{done_so, either_so, kept_anyway}
 use Rattle.tm_change_namespaces.specs.AclGroups.{AreShort}
 use Rattle.tm_change_namespaces.proofs.MapLaws.{put_again, put_back}

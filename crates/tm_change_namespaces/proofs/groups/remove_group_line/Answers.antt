@@ -1,7 +1,7 @@
 use Rattle.std.proofs.Common.{◌≡◌, Some, None, ◌∙◌, rules}
 use Rattle.std.specs.List.{position_from}
-use Rattle.tm_word.specs.Texts.{texts_equal}
-use Rattle.tm_types.specs.declared.policy.Namespace.{Namespace}
+use Rattle.tm_word.specs.Prelude.{texts_equal}
+use Rattle.tm_rules.specs.Types.{Namespace}
 use Rattle.tm_change_namespaces.specs.AclGroups.{line_taken}
 use Rattle.tm_change_namespaces.specs.Named.{named}
 use Rattle.tm_change_namespaces.proofs.GroupLaws.{named_there, part_somewhere}

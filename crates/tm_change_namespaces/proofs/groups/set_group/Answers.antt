@@ -1,7 +1,6 @@
 use Rattle.std.proofs.Common.{◌≡◌, [], sym, subst, ap, ◌∙◌}
 use Rattle.std.specs.Prelude.{IsSome, unwrap_or}
-use Rattle.tm_rules.specs.Policy.{at_key}
-use Rattle.tm_rules.specs.Edit.{put_key}
+use Rattle.tm_rules.specs.Prelude.{at_key, put_key}
 use Rattle.tm_change_namespaces.proofs.MapLaws.{gone, put_there}
 use Rattle.tm_change_namespaces.proofs.groups.set_group.Goals as goal
 

@@ -1,9 +1,8 @@
 use Rattle.std.proofs.Common.{◌≡◌, List, [], refl, sym, subst, ap, ◌∙◌}
 use Rattle.std.specs.Prelude.{Option, Some, None, IsSome, unwrap_or}
-use Rattle.tm_types.specs.declared.entry.Entry.{Entry}
+use Rattle.tm_rules.specs.Types.{Entry}
 use Rattle.tm_list.proofs.MapLaws.{Rises-put}
-use Rattle.tm_rules.specs.Policy.{at_key, deleting}
-use Rattle.tm_rules.specs.Edit.{put_group, put_key}
+use Rattle.tm_rules.specs.Prelude.{at_key, deleting, put_group, put_key}
 use Rattle.tm_change_namespaces.specs.AclGroups.{Rising}
 use Rattle.tm_change_namespaces.proofs.MapLaws.{put_there}
 use Rattle.tm_change_namespaces.proofs.GroupLaws.{group_none, group_set, none_left, short_at, short_set}

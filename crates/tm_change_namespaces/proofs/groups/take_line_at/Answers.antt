@@ -1,8 +1,7 @@
 use Rattle.std.proofs.Common.{◌≡◌, get_or, slice_set, subst, ◌∙◌, rules}
 use Rattle.tm_change_namespaces.specs.AclGroups.{line_taken}
-use Rattle.tm_types.specs.declared.policy.Namespace.{Namespace}
-use Rattle.tm_rules.specs.Policy.{deleting}
-use Rattle.tm_rules.specs.Edit.{acl_group}
+use Rattle.tm_rules.specs.Types.{Namespace}
+use Rattle.tm_rules.specs.Prelude.{acl_group, deleting}
 use Rattle.tm_change_namespaces.proofs.GroupLaws.{got}
 use Rattle.tm_change_namespaces.proofs.Places.{changed_there}
 use Rattle.tm_change_namespaces.proofs.groups.take_line_at.Goals as goal

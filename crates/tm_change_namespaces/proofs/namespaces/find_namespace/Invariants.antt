@@ -1,7 +1,7 @@
 use Rattle.std.proofs.Common.{◌≡◌, drop}
 use Rattle.std.specs.List.{find}
-use Rattle.tm_types.specs.declared.policy.Namespace.{Namespace}
-use Rattle.tm_word.specs.Texts.{texts_equal}
+use Rattle.tm_rules.specs.Types.{Namespace}
+use Rattle.tm_word.specs.Prelude.{texts_equal}
 use Rattle.tm_change_namespaces.proofs.namespaces.find_namespace.Given as goal
 
 abbrev pub invariant-loop-namespace : goal.invariant-loop-namespace

@@ -1,8 +1,8 @@
 use Rattle.std.proofs.Common.{◌≡◌, Some, None, [], ◌∷◌, ◌++◌, ap, ◌∙◌, rules}
 use Rattle.std.specs.List.{position_from}
-use Rattle.tm_word.specs.Texts.{texts_equal}
-use Rattle.tm_types.specs.declared.policy.Namespace.{Namespace}
-use Rattle.tm_rules.specs.Policy.{changed_at, empty_namespace}
+use Rattle.tm_word.specs.Prelude.{texts_equal}
+use Rattle.tm_rules.specs.Types.{Namespace}
+use Rattle.tm_rules.specs.Prelude.{changed_at, empty_namespace}
 use Rattle.tm_change_namespaces.proofs.Outcomes.{done_so}
 use Rattle.tm_change_namespaces.proofs.Places.{namespace_there, namespace_last}
 use Rattle.tm_change_namespaces.proofs.namespaces.in_namespace.Goals as goal

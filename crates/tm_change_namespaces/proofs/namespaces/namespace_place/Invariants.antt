@@ -1,7 +1,7 @@
 use Rattle.std.proofs.Common.{◌≡◌, drop}
 use Rattle.std.specs.List.{position_from}
-use Rattle.tm_types.specs.declared.policy.Namespace.{Namespace}
-use Rattle.tm_word.specs.Texts.{texts_equal}
+use Rattle.tm_rules.specs.Types.{Namespace}
+use Rattle.tm_word.specs.Prelude.{texts_equal}
 use Rattle.tm_change_namespaces.proofs.namespaces.namespace_place.Given as goal
 
 abbrev pub invariant-loop-place : goal.invariant-loop-place

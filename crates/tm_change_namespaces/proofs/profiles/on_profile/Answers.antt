@@ -1,8 +1,7 @@
 use Rattle.std.proofs.Common.{◌≡◌, refl, sym, subst, ap, ◌∙◌}
 use Rattle.std.specs.Prelude.{Option, Some, IsSome, unwrap_or}
-use Rattle.tm_types.specs.declared.policy.Profile.{Profile}
-use Rattle.tm_rules.specs.Policy.{at_key}
-use Rattle.tm_rules.specs.Edit.{new_profile, put_key}
+use Rattle.tm_rules.specs.Types.{Profile}
+use Rattle.tm_rules.specs.Prelude.{at_key, new_profile, put_key}
 use Rattle.tm_change_namespaces.specs.Effects.{profile_after}
 use Rattle.tm_change_namespaces.proofs.Outcomes.{done_so, kept_so}
 use Rattle.tm_change_namespaces.proofs.MapLaws.{put_again, put_back}

@@ -1,8 +1,8 @@
 use Rattle.std.proofs.Common.{◌≡◌, Some, None, ◌∙◌, rules}
 use Rattle.std.specs.List.{position_from}
-use Rattle.tm_word.specs.Texts.{texts_equal}
-use Rattle.tm_types.specs.declared.policy.Namespace.{Namespace}
-use Rattle.tm_rules.specs.Edit.{except_removed}
+use Rattle.tm_word.specs.Prelude.{texts_equal}
+use Rattle.tm_rules.specs.Types.{Namespace}
+use Rattle.tm_rules.specs.Prelude.{except_removed}
 use Rattle.tm_change_namespaces.proofs.Exceptions.{there_somewhere}
 use Rattle.tm_change_namespaces.proofs.Places.{namespace_there}
 use Rattle.tm_change_namespaces.proofs.rules.remove_rule.Goals as goal

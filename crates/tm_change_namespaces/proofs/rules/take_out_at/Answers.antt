@@ -1,5 +1,5 @@
 use Rattle.std.proofs.Common.{◌≡◌, get_or, slice_set, ◌∙◌, rules}
-use Rattle.tm_rules.specs.Edit.{except_removed}
+use Rattle.tm_rules.specs.Prelude.{except_removed}
 use Rattle.tm_change_namespaces.proofs.Places.{changed_there}
 use Rattle.tm_change_namespaces.proofs.rules.take_out_at.Goals as goal
 

@@ -1,5 +1,5 @@
 use Rattle.std.proofs.Common.{◌≡◌, drop}
-use Rattle.tm_rules.specs.Condition.{stat_value, first_of_all}
+use Rattle.tm_rules.specs.Prelude.{first_of_all, stat_value}
 use Rattle.tm_cond.proofs.attributes.first_number.Given as goal
 
 abbrev pub invariant-loop-stat : goal.invariant-loop-stat

@@ -1,5 +1,5 @@
 use Rattle.std.proofs.Common.{◌≡◌, true, sym, ◌∙◌}
-use Rattle.tm_rules.specs.Condition.{is_execute, word_of}
+use Rattle.tm_rules.specs.Prelude.{is_execute, word_of}
 use Rattle.tm_cond.proofs.attributes.word_of.Goals as goal
 
 pub returns-then-executes-2 : goal.returns-then-executes-2

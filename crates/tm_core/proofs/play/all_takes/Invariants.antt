@@ -1,6 +1,6 @@
 use Rattle.std.proofs.Common.{◌≡◌, map}
 use Rattle.std.specs.Prelude.{flat_map}
-use Rattle.tm_legal.specs.Play.{Way}
+use Rattle.tm_legal.specs.Prelude.{Way}
 use Rattle.tm_take.specs.Ways.{way_of}
 use Rattle.tm_core.proofs.play.all_takes.Given as goal
 

@@ -1,7 +1,7 @@
 use Rattle.std.proofs.Common.{subst}
 use Rattle.tm_desk.specs.Desks.{desk_book}
-use Rattle.tm_types.specs.declared.step.Start.{Start}
-use Rattle.tm_legal.specs.Legal.{Scene}
+use Rattle.tm_rules.specs.Types.{Start}
+use Rattle.tm_legal.specs.Prelude.{Scene}
 use Rattle.tm_core.specs.Scenes.{scene_of}
 use Rattle.tm_core.specs.Rounds.{IsOver}
 use Rattle.tm_core.specs.Players.{course_of, player_of}

@@ -1,5 +1,5 @@
 use Rattle.std.proofs.Common.{◌≡◌, map, take}
-use Rattle.tm_types.specs.declared.step.Editor.{Editor}
+use Rattle.tm_rules.specs.Types.{Editor}
 use Rattle.tm_core.proofs.player.begin_scripts.Given as goal
 
 abbrev pub invariant-loop-editor : goal.invariant-loop-editor

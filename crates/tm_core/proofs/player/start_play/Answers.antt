@@ -1,6 +1,5 @@
 use Rattle.std.proofs.Common.{◌≡◌, ◌∙◌, ap, rules, map}
-use Rattle.tm_types.specs.declared.step.Editor.{Editor}
-use Rattle.tm_types.specs.declared.step.Start.{Start}
+use Rattle.tm_rules.specs.Types.{Editor, Start}
 use Rattle.tm_take.specs.Ways.{way_of}
 use Rattle.tm_core.specs.Players.{course_of, player_of, way_at_start}
 use Rattle.tm_core.proofs.PlayerLaws.{starts-so}

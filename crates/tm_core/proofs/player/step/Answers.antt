@@ -1,5 +1,5 @@
 use Rattle.std.proofs.Common.{refl}
-use Rattle.tm_legal.specs.Play.{player_event, supervisor_step}
+use Rattle.tm_legal.specs.Prelude.{player_event, supervisor_step}
 use Rattle.tm_core.proofs.player.step.Goals as goal
 
 pub returns-in-Tree-clause-event : goal.returns-in-Tree-clause-event

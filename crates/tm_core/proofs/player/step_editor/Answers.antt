@@ -1,8 +1,6 @@
 use Rattle.std.proofs.Common.{◌≡◌, ◌≤◌, ◌<◌, ◌-◌, length, map, refl, sym, ap, ◌∙◌, inl, inr, arith}
 use Rattle.std.specs.Prelude.{Some, slice_get}
-use Rattle.tm_types.specs.declared.step.Maker.{Maker}
-use Rattle.tm_types.specs.declared.step.Made.{Made}
-use Rattle.tm_types.specs.declared.step.Step.{Step}
+use Rattle.tm_rules.specs.Types.{Made, Maker, Step}
 use Rattle.tm_take.specs.Ways.{way_of}
 use Rattle.tm_core.specs.Players.{course_of, player_of}
 use Rattle.tm_core.proofs.PlayerLaws.{get-index, no-editor, past-editors, editor-fits, editor-answers, editor-still, script-same}

@@ -1,9 +1,8 @@
 use Rattle.std.proofs.Common.{◌≡◌, map, refl, sym, ◌∙◌, inr}
 use Rattle.std.specs.Prelude.{Some, None}
-use Rattle.tm_types.specs.declared.step.Maker.{Maker}
-use Rattle.tm_types.specs.declared.step.Made.{Made}
+use Rattle.tm_rules.specs.Types.{Made, Maker}
 use Rattle.tm_audit.specs.Tomoyo.{tomoyo_grammar}
-use Rattle.tm_legal.specs.Play.{supervisor_step}
+use Rattle.tm_legal.specs.Prelude.{supervisor_step}
 use Rattle.tm_take.specs.Ways.{way_of}
 use Rattle.tm_core.specs.Moves.{at_course}
 use Rattle.tm_core.specs.Players.{course_of, player_of}

@@ -1,6 +1,6 @@
 use Rattle.std.proofs.Common.{◌≡◌, map}
-use Rattle.tm_types.specs.declared.step.Turn.{Turn}
-use Rattle.tm_legal.specs.Play.{numbers_to}
+use Rattle.tm_rules.specs.Types.{Turn}
+use Rattle.tm_legal.specs.Prelude.{numbers_to}
 use Rattle.tm_core.proofs.rounds.editor_turns.Given as goal
 
 abbrev pub invariant-loop-place : goal.invariant-loop-place

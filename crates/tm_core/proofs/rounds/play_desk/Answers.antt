@@ -2,7 +2,7 @@ use Rattle.std.proofs.Common.{rules, ◌≡◌, Bool, true, false, refl, sym, �
 use Rattle.std.specs.Prelude.{None, Some}
 use Rattle.tm_desk.specs.Desks.{desk_book}
 use Rattle.tm_audit.specs.Tomoyo.{tomoyo_grammar}
-use Rattle.tm_legal.specs.Play.{desk_turn, player_event}
+use Rattle.tm_legal.specs.Prelude.{desk_turn, player_event}
 use Rattle.tm_core.specs.Scenes.{Answers}
 use Rattle.tm_core.specs.Players.{course_of, player_of}
 use Rattle.tm_core.proofs.RoundLaws.{no-desk, desk-rests, desk-has}

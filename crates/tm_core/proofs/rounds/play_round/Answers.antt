@@ -1,10 +1,9 @@
 use Rattle.std.proofs.Common.{◌≡◌, ◌||◌, length, true, refl, ap, ◌∙◌, subst}
 use Rattle.std.specs.Prelude.{List, Some, is_some}
-use Rattle.tm_types.specs.declared.step.Start.{Start}
-use Rattle.tm_types.specs.declared.step.Turn.{Turn}
+use Rattle.tm_rules.specs.Types.{Start, Turn}
 use Rattle.tm_desk.specs.Desks.{desk_book}
 use Rattle.tm_audit.specs.Tomoyo.{tomoyo_grammar}
-use Rattle.tm_legal.specs.Play.{numbers_to, player_event}
+use Rattle.tm_legal.specs.Prelude.{numbers_to, player_event}
 use Rattle.tm_core.specs.Scenes.{scene_of}
 use Rattle.tm_core.specs.Rounds.{HasPlayed}
 use Rattle.tm_core.specs.Players.{course_of, player_of}

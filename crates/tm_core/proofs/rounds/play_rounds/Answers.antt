@@ -1,8 +1,7 @@
 use Rattle.std.proofs.Common.{rules, ◌≡◌, false, suc, length, refl, ap, ◌∙◌, subst}
 use Rattle.tm_desk.specs.Desks.{desk_book}
-use Rattle.tm_types.specs.declared.step.Start.{Start}
-use Rattle.tm_legal.specs.Legal.{Scene}
-use Rattle.tm_legal.specs.Play.{everybody}
+use Rattle.tm_rules.specs.Types.{Start}
+use Rattle.tm_legal.specs.Prelude.{Scene, everybody}
 use Rattle.tm_core.specs.Scenes.{scene_of}
 use Rattle.tm_core.specs.Rounds.{HasPlayed, one_round}
 use Rattle.tm_core.specs.Players.{course_of, player_of}

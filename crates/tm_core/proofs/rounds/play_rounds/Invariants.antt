@@ -1,7 +1,7 @@
 use Rattle.std.specs.Prelude.{◌≡◌, ℕ, if◌then◌else◌, Some, None}
-use Rattle.tm_rules.specs.Words.{Trace}
+use Rattle.tm_rules.specs.Prelude.{Trace}
 use Rattle.tm_desk.specs.Desks.{desk_book}
-use Rattle.tm_legal.specs.Play.{rounds, left_with, retries_of}
+use Rattle.tm_legal.specs.Prelude.{left_with, retries_of, rounds}
 use Rattle.tm_core.specs.Scenes.{scene_of, IsReached}
 use Rattle.tm_core.specs.Players.{course_of, player_of}
 use Rattle.tm_core.specs.Resting.{OthersRest}

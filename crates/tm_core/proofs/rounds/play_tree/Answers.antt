@@ -1,7 +1,7 @@
 use Rattle.std.proofs.Common.{rules, ◌≡◌, true, false, subst}
-use Rattle.tm_types.specs.declared.step.Turn.{Turn}
+use Rattle.tm_rules.specs.Types.{Turn}
 use Rattle.tm_audit.specs.Tomoyo.{tomoyo_grammar}
-use Rattle.tm_legal.specs.Play.{player_event}
+use Rattle.tm_legal.specs.Prelude.{player_event}
 use Rattle.tm_core.specs.Scenes.{Answers}
 use Rattle.tm_core.specs.Players.{course_of, player_of}
 use Rattle.tm_core.proofs.RoundLaws.{tree-has}

@@ -2,7 +2,7 @@ use Rattle.std.proofs.Common.{rules, ◌≡◌, ◌≤◌, ◌<◌, ◌+◌, ℕ
 use Rattle.std.specs.Ordering.{nat_cmp}
 use Rattle.std.specs.List.Sorted.{IsStrictlySortedBy}
 use Rattle.std.proofs.lemmas.List.{take_all}
-use Rattle.tm_types.specs.declared.step.Turn.{Turn}
+use Rattle.tm_rules.specs.Types.{Turn}
 use Rattle.tm_core.specs.Scenes.{scene_of}
 use Rattle.tm_core.specs.Rounds.{HasPlayed}
 use Rattle.tm_core.specs.Players.{course_of, player_of}

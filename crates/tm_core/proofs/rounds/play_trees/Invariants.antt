@@ -1,7 +1,6 @@
 use Rattle.std.specs.Prelude.{◌≡◌, take, map}
-use Rattle.tm_types.specs.declared.step.Book.{Book}
-use Rattle.tm_types.specs.declared.step.Turn.{Turn}
-use Rattle.tm_rules.specs.Words.{Trace}
+use Rattle.tm_rules.specs.Types.{Book, Turn}
+use Rattle.tm_rules.specs.Prelude.{Trace}
 use Rattle.tm_core.specs.Scenes.{scene_of, IsReached}
 use Rattle.tm_core.specs.Rounds.{HasPlayed}
 use Rattle.tm_core.specs.Players.{course_of, player_of}

@@ -1,7 +1,7 @@
 use Rattle.std.proofs.Common.{refl}
 use Rattle.tm_desk.specs.Desks.{desk_book}
 use Rattle.tm_audit.specs.Tomoyo.{tomoyo_grammar}
-use Rattle.tm_legal.specs.Play.{event, player_event}
+use Rattle.tm_legal.specs.Prelude.{event, player_event}
 use Rattle.tm_core.specs.Scenes.{scene_of}
 use Rattle.tm_core.specs.Players.{course_of, player_of}
 use Rattle.tm_core.proofs.RoundLaws.{tree-turn, editor-turn, event-as}

@@ -1,5 +1,5 @@
 use Rattle.std.specs.Prelude.{◌≡◌, take}
-use Rattle.tm_rules.specs.Words.{Trace}
+use Rattle.tm_rules.specs.Prelude.{Trace}
 use Rattle.tm_desk.specs.Desks.{desk_book}
 use Rattle.tm_core.specs.Scenes.{scene_of, IsReached}
 use Rattle.tm_core.specs.Rounds.{HasPlayed}

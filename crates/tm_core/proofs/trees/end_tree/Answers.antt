@@ -1,9 +1,6 @@
 use Rattle.std.proofs.Common.{rules, ◌≡◌, ◌==◌, true, false, subst}
 use Rattle.std.specs.List.{list_any}
-use Rattle.tm_types.specs.declared.step.Made.{Made}
-use Rattle.tm_types.specs.declared.step.Maker.{Maker}
-use Rattle.tm_types.specs.declared.step.Step.{Step}
-use Rattle.tm_types.specs.declared.step.Reply.{Reply}
+use Rattle.tm_rules.specs.Types.{Made, Maker, Reply, Step}
 use Rattle.tm_core.specs.Moves.{Makes}
 use Rattle.tm_core.proofs.TreeLaws.{end-fits, end-replied}
 use Rattle.tm_core.proofs.trees.end_tree.Goals as goal

@@ -1,8 +1,7 @@
 use Rattle.std.proofs.Common.{◌≡◌, ℕ, ◌++◌, ◌∷◌, [], suc, length, ap, ◌∙◌}
-use Rattle.tm_types.specs.declared.step.Made.{Made}
-use Rattle.tm_types.specs.declared.step.Maker.{Maker}
+use Rattle.tm_rules.specs.Types.{Made, Maker}
 use Rattle.tm_audit.specs.Tomoyo.{tomoyo_grammar}
-use Rattle.tm_legal.specs.Play.{going_on, after_step}
+use Rattle.tm_legal.specs.Prelude.{after_step, going_on}
 use Rattle.tm_take.specs.Taking.{rest_of}
 use Rattle.tm_take.specs.Ways.{way_of}
 use Rattle.tm_core.proofs.TreeLaws.{version-next}

@@ -1,5 +1,5 @@
 use Rattle.std.proofs.Common.{rules, ◌≡◌, sym}
-use Rattle.tm_word.specs.Spelling.{spell}
+use Rattle.tm_word.specs.Prelude.{spell}
 use Rattle.tm_except.specs.Printing.{range_text, number_group_words}
 use Rattle.tm_except.proofs.printing.push_number_group.Goals as goal
 

@@ -1,7 +1,6 @@
 use Rattle.std.proofs.Common.{◌≡◌, refl, sym, subst, ◌∙◌}
 use Rattle.std.specs.Prelude.{Some, None, IsSome}
-use Rattle.tm_rules.specs.Policy.{at_key}
-use Rattle.tm_rules.specs.Edit.{put_key}
+use Rattle.tm_rules.specs.Prelude.{at_key, put_key}
 use Rattle.tm_change_namespaces.proofs.MapLaws.{put_again}
 use Rattle.tm_index.specs.Listing.{noting}
 use Rattle.tm_index.proofs.GroupLists.{list_back, noted_there}

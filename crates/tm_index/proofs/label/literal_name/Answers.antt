@@ -1,6 +1,6 @@
 use Rattle.std.proofs.Common.{sym, ap, subst, ◌∙◌}
 use Rattle.std.specs.Prelude.{Some}
-use Rattle.tm_word.specs.Patterns.{IsNoLiteral}
+use Rattle.tm_word.specs.Prelude.{IsNoLiteral}
 use Rattle.tm_index.proofs.KeptLaws.{name_kept, no_name_kept}
 use Rattle.tm_index.proofs.label.literal_name.Goals as goal
 

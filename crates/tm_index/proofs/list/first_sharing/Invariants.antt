@@ -1,7 +1,7 @@
 use Rattle.std.proofs.Common.{◌≡◌, drop}
 use Rattle.std.specs.List.{find}
-use Rattle.tm_types.specs.declared.entry.Entry.{Entry}
-use Rattle.tm_rules.specs.Policy.{same_line}
+use Rattle.tm_rules.specs.Types.{Entry}
+use Rattle.tm_rules.specs.Prelude.{same_line}
 use Rattle.tm_index.specs.Listing.{holds_at}
 use Rattle.tm_index.proofs.list.first_sharing.Given as goal
 

@@ -1,6 +1,6 @@
 use Rattle.std.proofs.Common.{sym, ◌∙◌}
-use Rattle.tm_rules.specs.Edit.{domain_line}
-use Rattle.tm_types.specs.declared.policy.DomainRule.{DomainRule}
+use Rattle.tm_rules.specs.Prelude.{domain_line}
+use Rattle.tm_rules.specs.Types.{DomainRule}
 use Rattle.tm_indexed.proofs.LineLaws.{choose_old, edit_either}
 use Rattle.tm_indexed.proofs.choosing.choose.Goals as goal
 

@@ -1,5 +1,5 @@
 use Rattle.std.proofs.Common.{sym, ap, ◌∙◌}
-use Rattle.tm_rules.specs.Words.{DomainName}
+use Rattle.tm_rules.specs.Prelude.{DomainName}
 use Rattle.tm_index.specs.Index.{told, telling, noting_domain}
 use Rattle.tm_indexed.proofs.LineLaws.{choose_new, choose_refused}
 use Rattle.tm_indexed.proofs.choosing.choose_new.Goals as goal

@@ -1,9 +1,7 @@
 use Rattle.std.proofs.Common.{◌≡◌, List, sym, ap, subst, ◌∙◌}
 use Rattle.std.specs.Prelude.{Some, None}
-use Rattle.tm_types.specs.declared.entry.Entry.{Entry}
-use Rattle.tm_types.specs.declared.policy.Namespace.{Namespace}
-use Rattle.tm_rules.specs.Few.{IsShort}
-use Rattle.tm_rules.specs.Edit.{acl_group}
+use Rattle.tm_rules.specs.Types.{Entry, Namespace}
+use Rattle.tm_rules.specs.Prelude.{IsShort, acl_group}
 use Rattle.tm_change_namespaces.specs.Named.{named}
 use Rattle.tm_change_namespaces.proofs.GroupLaws.{named_at, named_there}
 use Rattle.tm_indexed.specs.Gone.{gone_at}

@@ -1,7 +1,7 @@
 use Rattle.std.proofs.Common.{arith, ℕ, List, [], sym, ap, subst, ◌∙◌}
 use Rattle.std.specs.Option.{option_map_or}
-use Rattle.tm_types.specs.declared.entry.Entry.{Entry}
-use Rattle.tm_rules.specs.Few.{IsShort}
+use Rattle.tm_rules.specs.Types.{Entry}
+use Rattle.tm_rules.specs.Prelude.{IsShort}
 use Rattle.tm_index.specs.Listing.{Listed, listed, listing}
 use Rattle.tm_indexed.proofs.GroupLaws.{short_group}
 use Rattle.tm_indexed.proofs.group_lines.look_among.Goals as goal

@@ -1,5 +1,5 @@
 use Rattle.std.proofs.Common.{ap, ◌∙◌}
-use Rattle.tm_rules.specs.Edit.{acl_group}
+use Rattle.tm_rules.specs.Prelude.{acl_group}
 use Rattle.tm_change_namespaces.specs.AclGroups.{line_taken}
 use Rattle.tm_change_namespaces.specs.Named.{named}
 use Rattle.tm_indexed.specs.Gone.{gone_at}

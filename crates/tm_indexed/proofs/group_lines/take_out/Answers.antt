@@ -1,7 +1,7 @@
 use Rattle.std.proofs.Common.{◌≡◌, None, rules}
 use Rattle.std.specs.List.{position_from}
-use Rattle.tm_word.specs.Texts.{texts_equal}
-use Rattle.tm_types.specs.declared.policy.Namespace.{Namespace}
+use Rattle.tm_word.specs.Prelude.{texts_equal}
+use Rattle.tm_rules.specs.Types.{Namespace}
 use Rattle.tm_change_namespaces.proofs.GroupLaws.{part_somewhere}
 use Rattle.tm_indexed.proofs.group_lines.take_out.Goals as goal
 

@@ -1,6 +1,6 @@
 use Rattle.std.proofs.Common.{sym, ap, ◌∙◌}
 use Rattle.std.specs.Prelude.{Some}
-use Rattle.tm_types.specs.declared.step.LearnReply.{LearnReply}
+use Rattle.tm_rules.specs.Types.{LearnReply}
 use Rattle.tm_policy.proofs.LearnLaws.{learns_there}
 use Rattle.tm_index.specs.declared.label.Label.{Label}
 use Rattle.tm_index.specs.Labels.{label_of}

@@ -1,10 +1,8 @@
 use Rattle.std.proofs.Common.{◌≡◌, ℕ, length, sym, ap, ◌∙◌}
 use Rattle.std.specs.Prelude.{Some}
 use Rattle.std.specs.List.{position_from}
-use Rattle.tm_types.specs.declared.entry.Entry.{Entry}
-use Rattle.tm_types.specs.declared.policy.Domain.{Domain}
-use Rattle.tm_rules.specs.Policy.{has_line, same_line}
-use Rattle.tm_rules.specs.Changes.{count}
+use Rattle.tm_rules.specs.Types.{Domain, Entry}
+use Rattle.tm_rules.specs.Prelude.{count, has_line, same_line}
 use Rattle.tm_index.specs.Listing.{Listed, listing}
 use Rattle.tm_index.specs.Index.{told, domain_listed}
 use Rattle.tm_indexed.proofs.KnownLaws.{noted_somewhere, own_noted}

@@ -1,5 +1,5 @@
 use Rattle.std.proofs.Common.{◌∙◌}
-use Rattle.tm_rules.specs.Edit.{manager_line}
+use Rattle.tm_rules.specs.Prelude.{manager_line}
 use Rattle.tm_indexed.proofs.LineLaws.{line_either}
 use Rattle.tm_indexed.proofs.SettingLaws.{manager_told}
 use Rattle.tm_indexed.proofs.lines.edit_manager.Goals as goal

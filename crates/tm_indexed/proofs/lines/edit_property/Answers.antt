@@ -1,5 +1,5 @@
 use Rattle.std.proofs.Common.{◌∙◌}
-use Rattle.tm_rules.specs.Edit.{domain_line}
+use Rattle.tm_rules.specs.Prelude.{domain_line}
 use Rattle.tm_indexed.proofs.LineLaws.{property_told, line_either}
 use Rattle.tm_indexed.proofs.lines.edit_property.Goals as goal
 

@@ -1,7 +1,7 @@
 use Rattle.std.proofs.Common.{[], ap, sym, subst, ◌∙◌}
 use Rattle.std.specs.Prelude.{None, Some, unwrap_or}
-use Rattle.tm_types.specs.declared.policy.Namespace.{Namespace}
-use Rattle.tm_rules.specs.Edit.{acl_group}
+use Rattle.tm_rules.specs.Types.{Namespace}
+use Rattle.tm_rules.specs.Prelude.{acl_group}
 use Rattle.tm_change_domains.specs.Standing.{StandsIn}
 use Rattle.tm_index.specs.Listing.{listing}
 use Rattle.tm_indexed.proofs.lists.search_standing.Goals as goal

@@ -1,5 +1,5 @@
 use Rattle.std.proofs.Common.{sym, ap, ◌∙◌}
-use Rattle.tm_rules.specs.Words.{DomainName}
+use Rattle.tm_rules.specs.Prelude.{DomainName}
 use Rattle.tm_index.specs.Index.{told, telling, noting_domain}
 use Rattle.tm_indexed.proofs.MakeLaws.{make_new}
 use Rattle.tm_indexed.proofs.making.make_new.Goals as goal

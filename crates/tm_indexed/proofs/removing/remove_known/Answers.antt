@@ -1,8 +1,7 @@
 use Rattle.std.proofs.Common.{sym, ap, subst, refl, ◌∙◌}
 use Rattle.std.specs.Prelude.{IsSome}
-use Rattle.tm_types.specs.declared.policy.Domain.{Domain}
-use Rattle.tm_rules.specs.Policy.{deleting}
-use Rattle.tm_rules.specs.Changes.{count}
+use Rattle.tm_rules.specs.Types.{Domain}
+use Rattle.tm_rules.specs.Prelude.{count, deleting}
 use Rattle.tm_index.specs.Index.{counting_in}
 use Rattle.tm_indexed.specs.Gone.{closing_if}
 use Rattle.tm_indexed.proofs.LineLaws.{chosen-there}

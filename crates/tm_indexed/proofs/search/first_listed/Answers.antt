@@ -1,8 +1,7 @@
 use Rattle.std.proofs.Common.{sym, ap, ◌∙◌}
 use Rattle.std.specs.Prelude.{Some, option_map}
 use Rattle.std.specs.Option.{option_copied}
-use Rattle.tm_types.specs.declared.verdict.EntryPlace.{EntryPlace}
-use Rattle.tm_types.specs.declared.verdict.Found.{Found}
+use Rattle.tm_rules.specs.Types.{EntryPlace, Found}
 use Rattle.tm_index.specs.Listing.{listed}
 use Rattle.tm_indexed.specs.Candidates.{first_at}
 use Rattle.tm_indexed.specs.Known.{found_in_list}

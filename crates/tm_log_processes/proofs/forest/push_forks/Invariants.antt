@@ -1,6 +1,6 @@
 use Rattle.std.proofs.Common.{◌≡◌, ◌++◌, take}
 use Rattle.std.specs.Prelude.{map}
-use Rattle.tm_types.specs.declared.request.Item.{Item}
+use Rattle.tm_rules.specs.Types.{Item}
 use Rattle.tm_log_processes.proofs.forest.push_forks.Given as goal
 
 -- those so far

@@ -1,5 +1,5 @@
 use Rattle.std.proofs.Common.{◌∙◌, ap}
-use Rattle.tm_word.specs.Texts.{texts_equal}
+use Rattle.tm_word.specs.Prelude.{texts_equal}
 use Rattle.tm_pattern.proofs.LiteralLaws.{literal_matches}
 use Rattle.tm_pattern.proofs.matching.literal_matches.Goals as goal
 

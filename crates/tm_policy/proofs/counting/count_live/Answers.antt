@@ -1,5 +1,5 @@
 use Rattle.std.proofs.Common.{◌≡◌, ◌<◌, List, length, get_or, true, subst, arith}
-use Rattle.tm_types.specs.declared.policy.Domain.{Domain}
+use Rattle.tm_rules.specs.Types.{Domain}
 use Rattle.tm_policy.proofs.CountLaws.{room}
 use Rattle.tm_policy.proofs.counting.count_live.Goals as goal
 

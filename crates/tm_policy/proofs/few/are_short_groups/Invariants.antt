@@ -1,6 +1,6 @@
 use Rattle.std.proofs.Common.{◌≡◌, ℕ, List, length, drop}
 use Rattle.std.specs.List.{list_all}
-use Rattle.tm_types.specs.declared.entry.Entry.{Entry}
+use Rattle.tm_rules.specs.Types.{Entry}
 use Rattle.tm_policy.specs.FewTests.{is_short}
 use Rattle.tm_policy.proofs.few.are_short_groups.Given as goal
 

@@ -1,6 +1,6 @@
 use Rattle.std.proofs.Common.{◌≡◌, length, drop}
 use Rattle.std.specs.List.{list_all}
-use Rattle.tm_types.specs.declared.policy.Domain.{Domain}
+use Rattle.tm_rules.specs.Types.{Domain}
 use Rattle.tm_policy.specs.FewTests.{is_short}
 use Rattle.tm_policy.proofs.few.have_short_entries.Given as goal
 

@@ -1,6 +1,6 @@
 use Rattle.std.proofs.Common.{◌≡◌, drop}
 use Rattle.std.specs.List.{position_from}
-use Rattle.tm_rules.specs.Load.{wants_profile}
+use Rattle.tm_rules.specs.Prelude.{wants_profile}
 use Rattle.tm_policy.proofs.loading.first_without_profile.Given as goal
 
 -- from here on it finds what the whole finds

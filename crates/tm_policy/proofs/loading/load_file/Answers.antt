@@ -1,5 +1,5 @@
 use Rattle.std.proofs.lemmas.Result.{err_from_is_err_and}
-use Rattle.tm_rules.specs.Load.{load_file}
+use Rattle.tm_rules.specs.Prelude.{load_file}
 use Rattle.tm_rep.specs.Tomoyo.{tomoyo_grammar}
 use Rattle.tm_policy.proofs.FileLaws.{last_done, last_fails}
 use Rattle.tm_policy.proofs.loading.load_file.Goals as goal

@@ -1,8 +1,7 @@
 use Rattle.std.proofs.Common.{◌≡◌, ◌+◌, ◌≤◌, length}
 use Rattle.std.specs.Prelude.{None}
-use Rattle.tm_word.specs.Texts.{lines_of}
-use Rattle.tm_rules.specs.Few.{IsFew}
-use Rattle.tm_rules.specs.Load.{load_lines}
+use Rattle.tm_word.specs.Prelude.{lines_of}
+use Rattle.tm_rules.specs.Prelude.{IsFew, load_lines}
 use Rattle.tm_rep.specs.Tomoyo.{tomoyo_grammar}
 use Rattle.tm_policy.proofs.loading.load_file.Given as goal
 

@@ -1,7 +1,7 @@
 use Rattle.std.proofs.Common.{◌≡◌, true, sym, ◌∙◌}
 use Rattle.std.specs.Option.{option_copied}
 use Rattle.tm_rep.proofs.Executes.{execute_path}
-use Rattle.tm_rules.specs.Condition.{is_execute}
+use Rattle.tm_rules.specs.Prelude.{is_execute}
 use Rattle.tm_policy.proofs.Finds.{alone_execute, alone_plain}
 use Rattle.tm_policy.proofs.searching.search_alone.Goals as goal
 

@@ -1,10 +1,8 @@
 use Rattle.std.proofs.Common.{sym, ap, ◌∙◌}
 use Rattle.std.specs.Prelude.{option_map}
-use Rattle.tm_types.specs.declared.policy.Namespace.{Namespace}
-use Rattle.tm_word.specs.Texts.{texts_equal}
-use Rattle.tm_rules.specs.Few.{IsFewHere}
-use Rattle.tm_rules.specs.Policy.{at_key, namespace_word}
-use Rattle.tm_rules.specs.Search.{first, found_of}
+use Rattle.tm_rules.specs.Types.{Namespace}
+use Rattle.tm_word.specs.Prelude.{texts_equal}
+use Rattle.tm_rules.specs.Prelude.{IsFewHere, at_key, first, found_of, namespace_word}
 use Rattle.tm_policy.proofs.Lists.{each_found}
 use Rattle.tm_policy.proofs.Finds.{namespace-found, namespace-none}
 use Rattle.tm_policy.proofs.searching.search_domain.Goals as goal

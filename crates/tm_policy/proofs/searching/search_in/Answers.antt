@@ -1,5 +1,5 @@
 use Rattle.std.proofs.Common.{◌≡◌, true, sym, ◌∙◌}
-use Rattle.tm_rules.specs.Condition.{is_execute}
+use Rattle.tm_rules.specs.Prelude.{is_execute}
 use Rattle.tm_policy.proofs.Finds.{found_execute, found_plain}
 use Rattle.tm_policy.proofs.searching.search_in.Goals as goal
 

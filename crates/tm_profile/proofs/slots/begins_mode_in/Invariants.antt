@@ -1,7 +1,7 @@
 use Rattle.std.proofs.Common.{◌≡◌, drop}
 use Rattle.std.specs.List.{list_any}
-use Rattle.tm_types.specs.declared.policy.Mode.{Mode}
-use Rattle.tm_word.specs.Texts.{begins}
+use Rattle.tm_rules.specs.Types.{Mode}
+use Rattle.tm_word.specs.Prelude.{begins}
 use Rattle.tm_profile.specs.Slots.{mode_word}
 use Rattle.tm_profile.proofs.slots.begins_mode_in.Given as goal
 

@@ -1,7 +1,7 @@
 use Rattle.std.proofs.Common.{◌≡◌, drop}
 use Rattle.std.specs.List.{find}
-use Rattle.tm_types.specs.declared.policy.Mode.{Mode}
-use Rattle.tm_word.specs.Texts.{texts_equal}
+use Rattle.tm_rules.specs.Types.{Mode}
+use Rattle.tm_word.specs.Prelude.{texts_equal}
 use Rattle.tm_profile.specs.Slots.{mode_word}
 use Rattle.tm_profile.proofs.slots.mode_in.Given as goal
 

@@ -1,6 +1,6 @@
 use Rattle.std.proofs.Common.{length, ◌∙◌, subst}
 use Rattle.std.proofs.lemmas.Result.{IfOk-weaker}
-use Rattle.tm_types.specs.declared.step.Start.{Start}
+use Rattle.tm_rules.specs.Types.{Start}
 use Rattle.tm_publish.specs.Words.{known, made_of}
 use Rattle.tm_seat.proofs.Opening.{begins-further}
 use Rattle.tm_seat.specs.Parts.{deed}
@@ -13,9 +13,9 @@ returns-clause-did g c =
     let old = c.args.pass in
     let mid = c.arrive.new.self.pass in
     let new = c.work-rows.new.seat.pass in
-    IfOk-weaker c.work-rows.result _ (λ rows. g.K.Work.did c.args.way.now (home_of old) (length (known old)) c.args.hand (deed (known new) (made_of new) rows.items))
+    IfOk-weaker c.work-rows.result _ (λ rows. g.K.Work.did c.args.field.now.way.now (home_of old) (length (known old)) c.args.hand (deed (known new) (made_of new) rows.items))
     (λ rows did.
-    subst (λ (start : Start). g.K.Work.did c.args.way.now start (length (known old)) c.args.hand (deed (known new) (made_of new) rows.items))
+    subst (λ (start : Start). g.K.Work.did c.args.field.now.way.now start (length (known old)) c.args.hand (deed (known new) (made_of new) rows.items))
     c.arrive.ensures.opening
     (did (length (known old)) (begins-long (known old) (known mid) c.arrive.ensures.grows)))
     c.work-rows.ensures.did

@@ -1,5 +1,5 @@
 use Rattle.std.proofs.Common.{◌≡◌, List}
-use Rattle.tm_types.specs.declared.step.Made.{Made}
+use Rattle.tm_rules.specs.Types.{Made}
 use Rattle.tm_publish.specs.Words.{home, HasSeen, made_of}
 use Rattle.tm_replay.proofs.looks.arrive.Given as goal
 

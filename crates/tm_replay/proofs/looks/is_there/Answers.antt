@@ -1,6 +1,5 @@
 use Rattle.std.proofs.Common.{sym, subst}
-use Rattle.tm_legal.specs.Steps.{State}
-use Rattle.tm_legal.specs.Stages.{DomainIn}
+use Rattle.tm_legal.specs.Prelude.{DomainIn, State}
 use Rattle.tm_machine.proofs.Offices.{course-state}
 use Rattle.tm_replay.proofs.Passes.{stands-there}
 use Rattle.tm_replay.proofs.looks.is_there.Goals as goal

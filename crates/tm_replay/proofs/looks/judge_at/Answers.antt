@@ -2,8 +2,7 @@ use Rattle.std.proofs.Common.{◌≡◌, sym, subst}
 use Rattle.std.specs.Prelude.{IfOk}
 use Rattle.tm_machine.specs.Tomoyo.{tomoyo_grammar}
 use Rattle.tm_machine.proofs.IsOne.{is_one}
-use Rattle.tm_legal.specs.Steps.{State, opening}
-use Rattle.tm_legal.specs.Play.{IsNamed}
+use Rattle.tm_legal.specs.Prelude.{IsNamed, State, opening}
 use Rattle.tm_legal.proofs.Named.{steps_keep_names}
 use Rattle.tm_core.specs.Judging.{judged}
 use Rattle.tm_machine.specs.Machine.{steps_made}

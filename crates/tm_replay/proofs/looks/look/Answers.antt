@@ -1,6 +1,6 @@
 use Rattle.std.proofs.Common.{◌≡◌, subst}
 use Rattle.std.specs.Prelude.{Option, Some, IfOk}
-use Rattle.tm_types.specs.declared.step.Start.{Start}
+use Rattle.tm_rules.specs.Types.{Start}
 use Rattle.tm_publish.specs.Words.{known}
 use Rattle.tm_replay.specs.Seats.{IsLookAt}
 use Rattle.tm_replay.proofs.looks.look.Goals as goal

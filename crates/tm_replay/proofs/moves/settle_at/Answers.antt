@@ -1,9 +1,9 @@
 use Rattle.std.proofs.Common.{subst}
 use Rattle.std.specs.Prelude.{IsSome}
 use Rattle.std.proofs.lemmas.Result.{IfOk-weaker}
-use Rattle.tm_types.specs.declared.step.Start.{Start}
+use Rattle.tm_rules.specs.Types.{Start}
 use Rattle.tm_machine.specs.Tomoyo.{tomoyo_grammar}
-use Rattle.tm_legal.specs.Steps.{apply}
+use Rattle.tm_legal.specs.Prelude.{apply}
 use Rattle.tm_publish.specs.Words.{known}
 use Rattle.tm_seat.specs.Seats.{state_of, FitsFrom, IsMade}
 use Rattle.tm_replay.specs.Seats.{home_of}

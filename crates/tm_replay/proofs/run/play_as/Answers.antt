@@ -1,7 +1,5 @@
 use Rattle.std.proofs.Common.{◌<◌, ◌++◌, length, map, ap, sym, ◌∙◌, subst}
-use Rattle.tm_types.specs.declared.step.Made.{Made}
-use Rattle.tm_types.specs.declared.step.Reply.{Reply}
-use Rattle.tm_types.specs.declared.step.Start.{Start}
+use Rattle.tm_rules.specs.Types.{Made, Reply, Start}
 use Rattle.tm_legal.proofs.Walks.{All-map}
 use Rattle.tm_desk.specs.Desks.{desk_book}
 use Rattle.tm_seat.specs.Parts.{IsWorking, PartWaits, desk_parts}

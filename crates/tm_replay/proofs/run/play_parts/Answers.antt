@@ -1,6 +1,6 @@
 use Rattle.std.proofs.Common.{List, length, take, ap, sym, ◌∙◌, subst}
 use Rattle.std.specs.List.{AllByRecursion}
-use Rattle.tm_types.specs.declared.step.Start.{Start}
+use Rattle.tm_rules.specs.Types.{Start}
 use Rattle.tm_desk.specs.Desks.{desk_book}
 use Rattle.tm_seat.specs.Parts.{PartWaits, working_parts}
 use Rattle.tm_seat.proofs.Plans.{parts-wait}

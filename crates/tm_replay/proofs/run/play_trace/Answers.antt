@@ -1,6 +1,6 @@
 use Rattle.std.proofs.Common.{ap, sym, ◌∙◌, subst}
-use Rattle.tm_types.specs.declared.step.Start.{Start}
-use Rattle.tm_legal.specs.Steps.{State}
+use Rattle.tm_rules.specs.Types.{Start}
+use Rattle.tm_legal.specs.Prelude.{State}
 use Rattle.tm_seat.specs.Dealing.{IsGathered}
 use Rattle.tm_seat.specs.Parts.{trees_from}
 use Rattle.tm_seat.proofs.Plans.{hands-ready}

@@ -1,6 +1,6 @@
 use Rattle.std.proofs.Common.{◌≡◌, drop}
 use Rattle.std.specs.List.{list_all}
-use Rattle.tm_rules.specs.Clean.{is_plain_entry}
+use Rattle.tm_rules.specs.Prelude.{is_plain_entry}
 use Rattle.tm_rerun.proofs.plainness.are_plain_groups.Given as goal
 
 abbrev pub invariant-loop-group : goal.invariant-loop-group

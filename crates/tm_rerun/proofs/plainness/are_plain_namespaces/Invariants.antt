@@ -1,6 +1,6 @@
 use Rattle.std.proofs.Common.{◌≡◌, drop}
 use Rattle.std.specs.List.{list_all}
-use Rattle.tm_rules.specs.Clean.{are_plain_groups}
+use Rattle.tm_rules.specs.Prelude.{are_plain_groups}
 use Rattle.tm_rerun.proofs.plainness.are_plain_namespaces.Given as goal
 
 abbrev pub invariant-loop-namespace : goal.invariant-loop-namespace

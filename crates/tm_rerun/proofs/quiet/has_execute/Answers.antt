@@ -3,7 +3,7 @@ use Rattle.std.specs.Prelude.{◌==◌, codes}
 use Rattle.std.proofs.lemmas.Bool.Decides.{nat_tests}
 use Rattle.std.proofs.lemmas.Iterator.Splits.{YieldsList-from_slice_split}
 use Rattle.std.proofs.lemmas.Iterator.Consumers.{YieldsList-end}
-use Rattle.tm_rules.specs.Clean.{is_one_of}
+use Rattle.tm_rules.specs.Prelude.{is_one_of}
 use Rattle.tm_rerun.proofs.quiet.has_execute.Goals as goal
 
 pub returns : goal.returns

@@ -1,8 +1,7 @@
 use Rattle.std.proofs.Common.{◌≡◌, ℕ, take}
 use Rattle.std.specs.Prelude.{map}
-use Rattle.tm_types.specs.declared.policy.Profile.{Profile}
-use Rattle.tm_types.specs.declared.policy.Namespace.{Namespace}
-use Rattle.tm_legal.specs.Clean.{switched_profile}
+use Rattle.tm_rules.specs.Types.{Namespace, Profile}
+use Rattle.tm_legal.specs.Prelude.{switched_profile}
 use Rattle.tm_rerun.proofs.switching.switched_namespaces.Given as goal
 
 -- the namespaces before this one are made

@@ -1,5 +1,5 @@
 use Rattle.std.proofs.Common.{◌<◌, ℕ, length, arith}
-use Rattle.tm_legal.specs.Clean.{switched_profile}
+use Rattle.tm_legal.specs.Prelude.{switched_profile}
 use Rattle.tm_rerun.proofs.Values.{changed-there}
 use Rattle.tm_rerun.proofs.switching.switched_profiles.Goals as goal
 

@@ -1,4 +1,4 @@
-use Rattle.tm_legal.specs.Clean.{switched_profile}
+use Rattle.tm_legal.specs.Prelude.{switched_profile}
 use Rattle.tm_rerun.proofs.Values.{ChangedTo}
 use Rattle.tm_rerun.proofs.switching.switched_profiles.Given as goal
 

@@ -1,7 +1,7 @@
 use Rattle.std.proofs.Common.{◌<◌, length, arith}
 use Rattle.std.proofs.lemmas.List.{get_or_default}
-use Rattle.tm_types.specs.Slot.{slot_rank}
-use Rattle.tm_legal.specs.Clean.{switched_config}
+use Rattle.tm_rules.specs.Types.{slot_rank}
+use Rattle.tm_legal.specs.Prelude.{switched_config}
 use Rattle.tm_rerun.proofs.Values.{changed-there}
 use Rattle.tm_rerun.proofs.switching.switched_slots.Goals as goal
 

@@ -1,5 +1,5 @@
 use Rattle.std.proofs.Common.{◌≡◌, ◌++◌, length}
-use Rattle.tm_word.specs.Texts.{pieces}
+use Rattle.tm_word.specs.Prelude.{pieces}
 use Rattle.tm_run.proofs.fields.pieces.Given as goal
 
 -- what has been cut off, and the pieces of the rest

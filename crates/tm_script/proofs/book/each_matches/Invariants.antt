@@ -1,7 +1,6 @@
 use Rattle.std.proofs.Common.{◌≡◌, drop}
-use Rattle.tm_word.specs.Spelling.{words_of}
-use Rattle.tm_rules.specs.Book.{each_matches}
-use Rattle.tm_word.specs.Texts.{words_left}
+use Rattle.tm_word.specs.Prelude.{words_left, words_of}
+use Rattle.tm_rules.specs.Prelude.{each_matches}
 use Rattle.tm_script.proofs.book.each_matches.Given as goal
 
 -- from here on it gives what the whole gives

@@ -1,5 +1,5 @@
 use Rattle.std.proofs.Common.{◌≡◌, ◌+◌, ◌≤◌, length}
-use Rattle.tm_word.specs.Texts.{lines_of}
+use Rattle.tm_word.specs.Prelude.{lines_of}
 use Rattle.tm_script.specs.Lines.{script_lines, script_of}
 use Rattle.tm_script.proofs.lines.read_script.Given as goal
 

@@ -1,6 +1,6 @@
 use Rattle.std.specs.Prelude.{◌≤◌, length}
 use Rattle.std.proofs.Common.{refl, subst, sym}
-use Rattle.tm_types.specs.declared.step.Start.{Start}
+use Rattle.tm_rules.specs.Types.{Start}
 use Rattle.tm_seat.proofs.EditEvents.{edit-fits, edits-from}
 use Rattle.tm_seat.proofs.editor.play_line.Goals as goal
 

@@ -1,5 +1,5 @@
 use Rattle.std.proofs.Common.{◌∙◌, ap}
-use Rattle.tm_rules.specs.Requests.{is_request}
+use Rattle.tm_rules.specs.Prelude.{is_request}
 use Rattle.tm_take.specs.Tomoyo.{tomoyo_grammar}
 use Rattle.tm_seat.proofs.TakeEvents.{playing-there, again-ok}
 use Rattle.tm_seat.proofs.take.look_again.Goals as goal

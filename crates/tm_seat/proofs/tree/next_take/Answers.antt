@@ -1,8 +1,7 @@
 use Rattle.std.proofs.Common.{◌≡◌, ◌∙◌, sym, ap, subst, ◌∷◌}
 use Rattle.std.specs.Prelude.{Some, None}
-use Rattle.tm_types.specs.declared.request.Item.{Item}
-use Rattle.tm_legal.specs.Run.{Situation}
-use Rattle.tm_legal.specs.Stages.{DomainIn}
+use Rattle.tm_rules.specs.Types.{Item}
+use Rattle.tm_legal.specs.Prelude.{DomainIn, Situation}
 use Rattle.tm_legal.proofs.Trees.{same_number}
 use Rattle.tm_take.specs.Situations.{situations}
 use Rattle.tm_seat.specs.Seats.{state_of}

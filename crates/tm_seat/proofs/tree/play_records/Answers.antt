@@ -1,5 +1,5 @@
 use Rattle.std.proofs.Common.{rules, ◌≡◌, ◌∷◌, [], refl, ◌∙◌, subst, List}
-use Rattle.tm_types.specs.declared.request.Item.{Item}
+use Rattle.tm_rules.specs.Types.{Item}
 use Rattle.tm_take.specs.Situations.{situations}
 use Rattle.tm_seat.specs.Playing.{Walk, IsPlayingTree}
 use Rattle.tm_seat.proofs.TreeEvents.{tree-starts, tree-same, tree-carries, tree-ends}

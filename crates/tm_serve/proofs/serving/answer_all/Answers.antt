@@ -1,6 +1,6 @@
 -- One query more has its answer, or none is left.
 use Rattle.std.proofs.Common.{◌≡◌, ◌≤◌, ◌<◌, true≢false, length, Some, refl, sym, ap, ◌∙◌, arith, inl, inr}
-use Rattle.tm_types.specs.declared.step.Book.{Book}
+use Rattle.tm_rules.specs.Types.{Book}
 use Rattle.tm_desk.specs.Desks.{desk_book}
 use Rattle.tm_publish.specs.Words.{known}
 use Rattle.tm_serve.proofs.Turns.{some_of, none_of, starts, goes_on, waits}

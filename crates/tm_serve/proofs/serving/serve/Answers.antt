@@ -2,7 +2,7 @@
 use Rattle.std.proofs.Common.{◌≡◌, ◌≤◌, ◌<◌, ℕ, [], ◌∷◌, ◌++◌, length, sym, ap, ◌∙◌, subst, arith, inl, inr, ◌⊎◌, ⊎_elim}
 use Rattle.std.specs.Prelude.{IfSome}
 use Rattle.tm_desk.specs.Desks.{desk_book}
-use Rattle.tm_joint.specs.Played.{last_from}
+use Rattle.tm_legal.specs.Prelude.{last_from}
 use Rattle.tm_publish.specs.Words.{known}
 use Rattle.tm_publish.proofs.Prefixes.{prefix_take}
 use Rattle.tm_serve.proofs.Answering.{from_later, rises_push}

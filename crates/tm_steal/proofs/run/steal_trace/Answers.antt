@@ -1,11 +1,9 @@
 use Rattle.std.proofs.Common.{◌≡◌, ◌∙◌, true, List, length, Bool, sym, ap, subst, arith}
 use Rattle.std.specs.Prelude.{Option}
 use Rattle.std.specs.List.{AllByRecursion, list_all}
-use Rattle.tm_types.specs.declared.request.Tree.{Tree}
-use Rattle.tm_types.specs.declared.step.Start.{Start}
-use Rattle.tm_legal.specs.Steps.{State}
-use Rattle.tm_rules.specs.Words.{Trace}
-use Rattle.tm_rules.specs.Requests.{item_is_request}
+use Rattle.tm_rules.specs.Types.{Start, Tree}
+use Rattle.tm_legal.specs.Prelude.{State}
+use Rattle.tm_rules.specs.Prelude.{Trace, item_is_request}
 use Rattle.tm_replay.specs.Tomoyo.{tomoyo_grammar}
 use Rattle.tm_desk.specs.Desks.{desk_book}
 use Rattle.tm_replay.specs.Office.{list_of}

@@ -1,6 +1,6 @@
 use Rattle.std.proofs.Common.{rules, ◌≡◌, ◌++◌, ◌∷◌, ◌∙◌, [], sym, ap}
 use Rattle.std.specs.Prelude.{Some}
-use Rattle.tm_rules.specs.Words.{Trace}
+use Rattle.tm_rules.specs.Prelude.{Trace}
 use Rattle.tm_steal_rows.specs.declared.played.PlayedTake.{PlayedTake}
 use Rattle.tm_steal_rows.specs.Playing.{Event, StealsOn}
 use Rattle.tm_steal_rows.specs.Records.{request_at}

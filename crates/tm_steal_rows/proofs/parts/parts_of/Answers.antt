@@ -2,8 +2,8 @@ use Rattle.std.proofs.Common.{rules, ◌≡◌, ◌<◌, ◌+◌, ◌++◌, ◌�
 use Rattle.std.specs.Prelude.{flat_map}
 use Rattle.std.proofs.lemmas.List.{at_drop_more}
 use Rattle.std.proofs.Math.ListN.{drop_of_length-le}
-use Rattle.tm_types.specs.declared.request.Tree.{Tree}
-use Rattle.tm_rules.specs.Words.{Trace}
+use Rattle.tm_rules.specs.Types.{Tree}
+use Rattle.tm_rules.specs.Prelude.{Trace}
 use Rattle.tm_steal_rows.proofs.RowSteps.{PartsSoFar, parts-more, parts-end}
 use Rattle.tm_steal_rows.proofs.parts.parts_of.Goals as goal
 

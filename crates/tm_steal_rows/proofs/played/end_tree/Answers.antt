@@ -1,7 +1,5 @@
 use Rattle.std.proofs.Common.{refl}
-use Rattle.tm_types.specs.declared.step.Made.{Made}
-use Rattle.tm_types.specs.declared.step.Maker.{Maker}
-use Rattle.tm_types.specs.declared.step.Step.{Step}
+use Rattle.tm_rules.specs.Types.{Made, Maker, Step}
 use Rattle.tm_steal_rows.proofs.Stealing.{end-fits, steals-end}
 use Rattle.tm_steal_rows.proofs.played.end_tree.Goals as goal
 

@@ -1,5 +1,5 @@
 use Rattle.std.proofs.Common.{◌∷◌, [], sym, subst}
-use Rattle.tm_types.specs.declared.step.Take.{Take}
+use Rattle.tm_rules.specs.Types.{Take}
 use Rattle.tm_steal_rows.specs.Playing.{Event, StealsOn}
 use Rattle.tm_steal_rows.proofs.Stealing.{steals-take}
 use Rattle.tm_steal_rows.proofs.played.play_at.Goals as goal

@@ -1,5 +1,5 @@
 use Rattle.std.proofs.Common.{◌≡◌, drop}
-use Rattle.tm_legal.specs.Run.{raised}
+use Rattle.tm_legal.specs.Prelude.{raised}
 use Rattle.tm_joint.specs.Played.{seen_by}
 use Rattle.tm_steal_rows.proofs.rows.highest_seen.Given as goal
 

@@ -1,5 +1,5 @@
 use Rattle.std.proofs.Common.{◌≡◌, ◌≤◌, length, take}
-use Rattle.tm_legal.specs.Run.{do_pids}
+use Rattle.tm_legal.specs.Prelude.{do_pids}
 use Rattle.tm_take.proofs.lines.count_requests.Given as goal
 
 abbrev pub invariant-loop-item : goal.invariant-loop-item

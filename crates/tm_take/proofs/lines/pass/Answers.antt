@@ -1,6 +1,6 @@
 use Rattle.std.proofs.Common.{rules, ◌≡◌, [], ◌∷◌, None, Some, refl}
 use Rattle.tm_take.specs.Situations.{situations}
-use Rattle.tm_legal.specs.Run.{do_pids}
+use Rattle.tm_legal.specs.Prelude.{do_pids}
 use Rattle.tm_take.specs.Passing.{PassesLine}
 use Rattle.tm_take.proofs.Walking.{pass_more, pids_more, pass_met, no_pids, all_passed}
 use Rattle.tm_take.proofs.lines.pass.Goals as goal

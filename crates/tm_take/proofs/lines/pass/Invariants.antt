@@ -1,7 +1,6 @@
 use Rattle.std.proofs.Common.{◌≡◌, length}
-use Rattle.tm_rules.specs.Grammar.{Grammar}
-use Rattle.tm_legal.specs.Run.{do_pids}
-use Rattle.tm_legal.specs.Play.{passed}
+use Rattle.tm_rules.specs.Prelude.{Grammar}
+use Rattle.tm_legal.specs.Prelude.{do_pids, passed}
 use Rattle.tm_take.specs.Situations.{situations}
 use Rattle.tm_take.proofs.lines.pass.Given as goal
 

@@ -1,11 +1,7 @@
 use Rattle.std.proofs.Common.{rules, ◌≡◌, ℕ, refl}
 use Rattle.std.specs.Prelude.{Some, IsSome}
-use Rattle.tm_types.specs.declared.entry.Entry.{Entry}
-use Rattle.tm_types.specs.declared.policy.Domain.{Domain}
-use Rattle.tm_types.specs.declared.policy.Policy.{Policy}
-use Rattle.tm_types.specs.declared.policy.Profile.{Profile}
-use Rattle.tm_rules.specs.Policy.{domain_at, profile_of}
-use Rattle.tm_rules.specs.Changes.{learn}
+use Rattle.tm_rules.specs.Types.{Domain, Entry, Policy, Profile}
+use Rattle.tm_rules.specs.Prelude.{domain_at, learn, profile_of}
 use Rattle.tm_tests.proofs.policy.learn.Goals as goal
 
 learns-there : (policy : Policy) (d : ℕ) (line : Entry) (domain : Domain) (profile : Profile) → domain_at policy d ≡ Some domain → profile_of policy domain ≡ Some profile → IsSome (learn policy d line)

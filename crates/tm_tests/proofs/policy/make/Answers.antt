@@ -1,11 +1,7 @@
 use Rattle.std.proofs.Common.{rules, ◌≡◌, ℕ, refl}
 use Rattle.std.specs.Prelude.{Some, IsSome}
-use Rattle.tm_rules.specs.Words.{DomainName}
-use Rattle.tm_types.specs.declared.policy.Domain.{Domain}
-use Rattle.tm_types.specs.declared.policy.Policy.{Policy}
-use Rattle.tm_types.specs.declared.policy.Profile.{Profile}
-use Rattle.tm_rules.specs.Policy.{domain_at, profile_of}
-use Rattle.tm_rules.specs.Changes.{make}
+use Rattle.tm_rules.specs.Prelude.{DomainName, domain_at, make, profile_of}
+use Rattle.tm_rules.specs.Types.{Domain, Policy, Profile}
 use Rattle.tm_tests.proofs.policy.make.Goals as goal
 
 makes-there : (policy : Policy) (d : ℕ) (name : DomainName) (domain : Domain) (profile : Profile) → domain_at policy d ≡ Some domain → profile_of policy domain ≡ Some profile → IsSome (make policy d name)

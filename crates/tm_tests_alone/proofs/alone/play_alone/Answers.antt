@@ -1,9 +1,8 @@
 use Rattle.std.proofs.Common.{◌≡◌, List, sym, ap, ◌∙◌, subst}
 use Rattle.std.specs.Prelude.{map}
 use Rattle.std.specs.List.{AllByRecursion}
-use Rattle.tm_types.specs.declared.step.Made.{Made}
-use Rattle.tm_types.specs.declared.step.Reply.{Reply}
-use Rattle.tm_legal.specs.Steps.{State}
+use Rattle.tm_rules.specs.Types.{Made, Reply}
+use Rattle.tm_legal.specs.Prelude.{State}
 use Rattle.tm_made.specs.Made.{told_from}
 use Rattle.tm_machine.specs.Machine.{Course}
 use Rattle.tm_machine.specs.Office.{list_of}

@@ -1,5 +1,5 @@
 use Rattle.std.proofs.Common.{◌≡◌, ◌+◌, ◌≤◌, length}
-use Rattle.tm_word.specs.Texts.{lines_of}
+use Rattle.tm_word.specs.Prelude.{lines_of}
 use Rattle.tm_trace.specs.Reading.{trace_from, trace_of}
 use Rattle.tm_trace.proofs.reading.read_trace.Given as goal
 

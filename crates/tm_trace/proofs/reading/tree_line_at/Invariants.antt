@@ -1,5 +1,5 @@
 use Rattle.std.proofs.Common.{◌≡◌, ◌+◌, ◌≤◌, length}
-use Rattle.tm_word.specs.Texts.{lines_of}
+use Rattle.tm_word.specs.Prelude.{lines_of}
 use Rattle.tm_trace.specs.Reading.{tree_line_from, tree_line_at}
 use Rattle.tm_trace.proofs.reading.tree_line_at.Given as goal
 

@@ -1,5 +1,5 @@
 use Rattle.std.proofs.Common.{rules, ◌≡◌, [], ◌∷◌, ◌++◌, IfOk, subst, ◌∙◌}
-use Rattle.tm_word.specs.Spelling.{joined}
+use Rattle.tm_word.specs.Prelude.{joined}
 use Rattle.tm_line.specs.Namespaces.{line_text}
 use Rattle.tm_except.specs.Printing.{rule_words}
 use Rattle.tm_vectors.proofs.RuleLaws.{rule_line}

@@ -1,5 +1,5 @@
 use Rattle.std.proofs.Common.{◌≡◌, ◌+◌, ◌++◌, ◌≤◌, length}
-use Rattle.tm_word.specs.Texts.{lines_of}
+use Rattle.tm_word.specs.Prelude.{lines_of}
 use Rattle.tm_vectors.specs.Reports.{agreeing, differing, all_said}
 use Rattle.tm_vectors.proofs.rows.judge_lines.Given as goal
 

@@ -1,6 +1,6 @@
 use Rattle.std.proofs.Common.{◌≡◌, true, false, Some, None, sym, ◌∙◌}
-use Rattle.tm_word.specs.Texts.{texts_equal}
-use Rattle.tm_rules.specs.Policy.{live_domain, namespace_word}
+use Rattle.tm_word.specs.Prelude.{texts_equal}
+use Rattle.tm_rules.specs.Prelude.{live_domain, namespace_word}
 use Rattle.tm_verdict.proofs.WayLaws.{to_live, to_new, to_other}
 use Rattle.tm_verdict.proofs.targets.way_to.Goals as goal
 

@@ -1,7 +1,7 @@
 use Rattle.std.proofs.Common.{◌≡◌, true, false, not, ◌&&◌, ◌||◌, sym, ap, ◌∙◌}
 use Rattle.tm_domain.specs.Names.{is_path}
-use Rattle.tm_rules.specs.Learned.{line_of}
-use Rattle.tm_legal.specs.Verdict.{is_enforcing}
+use Rattle.tm_rules.specs.Prelude.{line_of}
+use Rattle.tm_legal.specs.Prelude.{is_enforcing}
 use Rattle.tm_verdict.specs.declared.targets.BareVerdict.{BareVerdict}
 use Rattle.tm_verdict.specs.Bare.{completed}
 use Rattle.tm_verdict.proofs.VerdictLaws.{execute_barred, execute_goes}

@@ -1,10 +1,10 @@
 use Rattle.std.proofs.Common.{◌≡◌, ap, sym, subst, ◌∙◌}
 use Rattle.std.specs.Prelude.{option_map}
-use Rattle.tm_types.specs.declared.policy.Policy.{Policy}
+use Rattle.tm_rules.specs.Types.{Policy}
 use Rattle.tm_domain.specs.Names.{is_path}
-use Rattle.tm_rules.specs.Search.{first, found_of}
+use Rattle.tm_rules.specs.Prelude.{first, found_of}
 use Rattle.tm_rep.specs.Standing.{Standing, StandsIn}
-use Rattle.tm_legal.specs.Verdict.{verdict}
+use Rattle.tm_legal.specs.Prelude.{verdict}
 use Rattle.tm_verdict.specs.Bare.{with_line_of}
 use Rattle.tm_verdict.proofs.VerdictLaws.{by_standing, if_ok}
 use Rattle.tm_verdict.proofs.verdicts.verdict_in.Goals as goal

@@ -1,5 +1,5 @@
 use Rattle.std.proofs.Common.{rules, ◌≡◌, ◌≤◌, ◌↔◌, true, Some, length}
-use Rattle.tm_rules.specs.Queries.{answer_of}
+use Rattle.tm_rules.specs.Prelude.{answer_of}
 use Rattle.tm_verify_notes.specs.Given.{scene_of, history_of}
 use Rattle.tm_verify.proofs.SeenLaws.{hears_is, at_version}
 use Rattle.tm_verify.proofs.judging.hears_answer.Goals as goal

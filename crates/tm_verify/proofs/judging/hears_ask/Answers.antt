@@ -1,9 +1,7 @@
 use Rattle.std.proofs.Common.{rules, ◌≡◌, ◌↔◌, true, Some, IfOk, sym, subst}
 use Rattle.std.specs.Prelude.{Option}
-use Rattle.tm_types.specs.declared.step.Reply.{Reply}
-use Rattle.tm_types.specs.declared.step.Held.{Held}
-use Rattle.tm_legal.specs.Run.{reply_at}
-use Rattle.tm_legal.specs.Legal.{Hears}
+use Rattle.tm_rules.specs.Types.{Held, Reply}
+use Rattle.tm_legal.specs.Prelude.{Hears, reply_at}
 use Rattle.tm_verify_notes.specs.Given.{scene_of, history_of}
 use Rattle.tm_verify.proofs.judging.hears_ask.Goals as goal
 

@@ -1,6 +1,7 @@
 use Rattle.tm_verify_notes.specs.Given.{scene_of, history_of}
 use Rattle.tm_verify.specs.Passing.{IsAt}
-use Rattle.tm_verify_notes.specs.Noting.{EachWith, IsPartNote}
+use Rattle.tm_take.specs.Each.{EachWith}
+use Rattle.tm_verify_notes.specs.Noting.{IsPartNote}
 use Rattle.tm_verify.proofs.judging.judge_all.Given as goal
 
 -- the machine is at its version, and what was noted is right

@@ -1,5 +1,5 @@
 use Rattle.std.proofs.Common.{◌≡◌, ◌++◌, ◌+◌, drop}
-use Rattle.tm_legal.specs.Run.{cases_from, cases}
+use Rattle.tm_legal.specs.Prelude.{cases, cases_from}
 use Rattle.tm_verify_notes.proofs.cases.all_cases.Given as goal
 
 -- with those from here on it is all of them

@@ -1,5 +1,5 @@
 use Rattle.std.proofs.Common.{◌≡◌, ◌+◌, ◌≤◌, length, drop}
-use Rattle.tm_legal.specs.Run.{do_pids}
+use Rattle.tm_legal.specs.Prelude.{do_pids}
 use Rattle.tm_verify_notes.proofs.cases.count_dos.Given as goal
 
 -- with those from here on it is the number of all

@@ -1,5 +1,5 @@
 use Rattle.std.proofs.Common.{◌≡◌, ◌++◌, drop, map}
-use Rattle.tm_types.specs.declared.step.Look.{Look}
+use Rattle.tm_rules.specs.Types.{Look}
 use Rattle.tm_verify_notes.specs.Noting.{looks_on}
 use Rattle.tm_verify_notes.proofs.flat.push_looks.Given as goal
 

@@ -1,5 +1,5 @@
 use Rattle.std.proofs.Common.{take}
-use Rattle.tm_verify_notes.specs.Noting.{EachWith}
+use Rattle.tm_take.specs.Each.{EachWith}
 use Rattle.tm_verify_notes.specs.Sums.{Completes}
 use Rattle.tm_verify_notes.proofs.sums.all_completed.Given as goal
 

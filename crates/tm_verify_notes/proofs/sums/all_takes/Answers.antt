@@ -1,7 +1,8 @@
 use Rattle.std.proofs.Common.{rules, ◌≡◌, ◌<◌, ◌+◌, ◌∷◌, ◌∙◌, length, take, drop, sym, ap, subst}
 use Rattle.std.proofs.lemmas.List.{at_drop_more}
 use Rattle.tm_verify_notes.specs.Given.{scene_of, history_of}
-use Rattle.tm_verify_notes.specs.Noting.{EachWith, looks_on, all_looks, IsLookNote, IsTakeNote}
+use Rattle.tm_take.specs.Each.{EachWith}
+use Rattle.tm_verify_notes.specs.Noting.{looks_on, all_looks, IsLookNote, IsTakeNote}
 use Rattle.tm_verify_notes.proofs.EachLaws.{each_next}
 use Rattle.tm_verify_notes.proofs.SumLaws.{first_notes}
 use Rattle.tm_verify_notes.proofs.sums.all_takes.Goals as goal

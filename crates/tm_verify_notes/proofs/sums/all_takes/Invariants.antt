@@ -1,6 +1,7 @@
 use Rattle.std.proofs.Common.{take, drop}
 use Rattle.tm_verify_notes.specs.Given.{scene_of, history_of}
-use Rattle.tm_verify_notes.specs.Noting.{EachWith, all_looks, IsLookNote, IsTakeNote}
+use Rattle.tm_take.specs.Each.{EachWith}
+use Rattle.tm_verify_notes.specs.Noting.{all_looks, IsLookNote, IsTakeNote}
 use Rattle.tm_verify_notes.proofs.sums.all_takes.Given as goal
 
 -- the notes that are left are of the looks from here on; those so far are noted

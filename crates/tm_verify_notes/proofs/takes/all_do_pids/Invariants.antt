@@ -1,5 +1,5 @@
 use Rattle.std.proofs.Common.{◌≡◌, ◌++◌, drop}
-use Rattle.tm_legal.specs.Run.{all_do_pids}
+use Rattle.tm_legal.specs.Prelude.{all_do_pids}
 use Rattle.tm_verify_notes.proofs.takes.all_do_pids.Given as goal
 
 -- with those from here on it is all of them

@@ -1,5 +1,5 @@
 use Rattle.std.proofs.Common.{◌≡◌, ◌+◌, ◌≤◌, drop}
-use Rattle.tm_legal.specs.Run.{Case}
+use Rattle.tm_legal.specs.Prelude.{Case}
 use Rattle.tm_verify_laws.specs.First.{first_failing}
 use Rattle.tm_verify_laws.specs.Scans.{do_rise}
 use Rattle.tm_verify_steps.proofs.clauses.rise_fault.Given as goal

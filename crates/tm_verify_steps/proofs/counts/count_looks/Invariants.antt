@@ -1,6 +1,6 @@
 use Rattle.std.proofs.Common.{◌≡◌, drop}
 use Rattle.std.specs.Prelude.{flat_map}
-use Rattle.tm_types.specs.declared.step.Look.{Look}
+use Rattle.tm_rules.specs.Types.{Look}
 use Rattle.tm_verify_steps.specs.Counting.{counted}
 use Rattle.tm_verify_steps.proofs.counts.count_looks.Given as goal
 

@@ -1,5 +1,5 @@
 use Rattle.std.proofs.Common.{rules, ◌≡◌, ◌<◌, length, flat_map}
-use Rattle.tm_types.specs.declared.step.Look.{Look}
+use Rattle.tm_rules.specs.Types.{Look}
 use Rattle.tm_verify_steps.specs.Counting.{counted}
 use Rattle.tm_verify_steps.proofs.CountLaws.{take_counted}
 use Rattle.tm_verify_steps.proofs.counts.count_takes.Goals as goal

@@ -1,5 +1,5 @@
 use Rattle.std.proofs.Common.{◌≡◌, drop}
-use Rattle.tm_legal.specs.Legal.{own_numbers}
+use Rattle.tm_legal.specs.Prelude.{own_numbers}
 use Rattle.tm_verify_steps.specs.Counting.{counted}
 use Rattle.tm_verify_steps.proofs.counts.count_takes.Given as goal
 

@@ -1,7 +1,7 @@
 use Rattle.std.proofs.Common.{rules, ◌∙◌, ap}
-use Rattle.tm_types.specs.declared.entry.Entry.{Entry}
-use Rattle.tm_word.specs.Spelling.{joined}
-use Rattle.tm_verify_notes.specs.Entries.{entry_words}
+use Rattle.tm_rules.specs.Types.{Entry}
+use Rattle.tm_word.specs.Prelude.{joined}
+use Rattle.tm_take.specs.Entries.{entry_words}
 use Rattle.tm_verify_steps.proofs.OwnLaws.{ask_owned}
 use Rattle.tm_verify_steps.proofs.owned.owns_by_ask.Goals as goal
 

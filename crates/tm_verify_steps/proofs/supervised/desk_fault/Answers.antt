@@ -1,7 +1,7 @@
 use Rattle.std.proofs.Common.{rules, ◌≡◌, ℕ, sym, ◌∙◌}
 use Rattle.std.specs.Prelude.{Option, Result, Ok, Err, IfOk, MatchOption}
-use Rattle.tm_types.specs.declared.step.Run.{Run}
-use Rattle.tm_legal.specs.Legal.{Scene}
+use Rattle.tm_rules.specs.Types.{Run}
+use Rattle.tm_legal.specs.Prelude.{Scene}
 use Rattle.tm_verify_laws.specs.Desk.{DeskHolds, DeskFails, desk_fault}
 use Rattle.tm_verify_notes.specs.Given.{scene_of, run_of}
 use Rattle.tm_verify_laws.proofs.DeskActs.{fault_found}

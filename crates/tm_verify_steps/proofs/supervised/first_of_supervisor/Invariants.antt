@@ -1,7 +1,6 @@
 use Rattle.std.proofs.Common.{◌≡◌, ◌+◌, ◌≤◌, not, drop}
-use Rattle.tm_types.specs.declared.step.Step.{Step}
-use Rattle.tm_types.specs.declared.step.Reply.{Reply}
-use Rattle.tm_legal.specs.Legal.{is_of_supervisor}
+use Rattle.tm_rules.specs.Types.{Reply, Step}
+use Rattle.tm_legal.specs.Prelude.{is_of_supervisor}
 use Rattle.tm_verify_laws.specs.First.{first_failing}
 use Rattle.tm_verify_steps.proofs.supervised.first_of_supervisor.Given as goal
 

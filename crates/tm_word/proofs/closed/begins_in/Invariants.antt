@@ -1,5 +1,5 @@
 use Rattle.std.proofs.Common.{◌≡◌, drop, map}
-use Rattle.tm_word.specs.Closed.{begins_row}
+use Rattle.tm_word.specs.Prelude.{begins_row}
 use Rattle.tm_word.proofs.closed.begins_in.Given as goal
 
 abbrev pub invariant-loop-name : goal.invariant-loop-name

@@ -1,5 +1,5 @@
 use Rattle.std.proofs.Common.{◌≡◌, drop, map}
-use Rattle.tm_word.specs.Closed.{name_of}
+use Rattle.tm_word.specs.Prelude.{name_of}
 use Rattle.tm_word.proofs.closed.name_of.Given as goal
 
 abbrev pub invariant-loop-name : goal.invariant-loop-name

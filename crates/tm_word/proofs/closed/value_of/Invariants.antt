@@ -1,5 +1,5 @@
 use Rattle.std.proofs.Common.{◌≡◌, drop, map}
-use Rattle.tm_word.specs.Closed.{named}
+use Rattle.tm_word.specs.Prelude.{named}
 use Rattle.tm_word.proofs.closed.value_of.Given as goal
 
 abbrev pub invariant-loop-name : goal.invariant-loop-name

@@ -1,6 +1,6 @@
 use Rattle.std.proofs.Common.{◌≡◌, drop}
 use Rattle.std.specs.List.{list_all}
-use Rattle.tm_word.specs.Spelling.{is_own_spelling}
+use Rattle.tm_word.specs.Prelude.{is_own_spelling}
 use Rattle.tm_word.proofs.spelling.are_own_spellings.Given as goal
 
 abbrev pub invariant-loop-byte : goal.invariant-loop-byte

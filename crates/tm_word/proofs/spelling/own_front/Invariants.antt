@@ -1,5 +1,5 @@
 use Rattle.std.proofs.Common.{◌≡◌, true, take}
-use Rattle.tm_word.specs.Spelling.{are_own_spellings}
+use Rattle.tm_word.specs.Prelude.{are_own_spellings}
 use Rattle.tm_word.proofs.spelling.own_front.Given as goal
 
 abbrev pub invariant-loop-place : goal.invariant-loop-place

@@ -1,8 +1,7 @@
 use Rattle.std.proofs.Common.{◌≡◌, [], drop, refl, sym, ap, subst, ◌∙◌, arith}
 use Rattle.std.proofs.lemmas.Grind.{common_steps}
 use Rattle.tm_word.specs.declared.spelling.Head.TheVariants as head
-use Rattle.tm_word.specs.Words.{Text}
-use Rattle.tm_word.specs.Spelling.{BeginsWith, HasBadByte, HasBadEscape, word_from, word_of}
+use Rattle.tm_word.specs.Prelude.{BeginsWith, HasBadByte, HasBadEscape, Text, word_from, word_of}
 use Rattle.tm_word.proofs.Spelled.{spelled_within, spelled_more, bytes_more, lent, stops_at, reads_on}
 use Rattle.tm_word.proofs.spelling.read_spellings.Goals as goal
 

@@ -1,6 +1,6 @@
 use Rattle.std.proofs.Common.{◌≡◌, ◌+◌, ◌-◌, ◌≤◌, ◌++◌, List, ℕ, length, take, drop, ap, subst, ◌∙◌, arith}
 use Rattle.std.proofs.lemmas.Grind.{common_steps}
-use Rattle.tm_word.specs.Spelling.{spell}
+use Rattle.tm_word.specs.Prelude.{spell}
 use Rattle.tm_word.proofs.Own.{pieces_pushed}
 use Rattle.tm_word.proofs.spelling.write_word.Goals as goal
 

@@ -1,7 +1,6 @@
 use Rattle.std.proofs.Common.{◌+◌, ◌<◌, ◌==◌, length, take, drop, sym, subst, ◌∙◌, arith, length-drop}
 use Rattle.std.proofs.lemmas.List.{take_rest}
-use Rattle.tm_word.specs.Words.{Text}
-use Rattle.tm_word.specs.Texts.{IsCut}
+use Rattle.tm_word.specs.Prelude.{IsCut, Text}
 use Rattle.tm_word.proofs.Cuts.{cut_some, cut_none}
 use Rattle.tm_word.proofs.texts.cut_at.Goals as goal
 

@@ -1,7 +1,6 @@
 use Rattle.std.proofs.Common.{◌≡◌, ◌+◌, take, sym, subst, ◌++◌, ◌∙◌}
 use Rattle.std.proofs.lemmas.List.{take_rest}
-use Rattle.tm_word.specs.Spelling.{words_of}
-use Rattle.tm_word.specs.Texts.{if_word}
+use Rattle.tm_word.specs.Prelude.{if_word, words_of}
 use Rattle.tm_word.proofs.WordLaws.{piece_cut, piece_last}
 use Rattle.tm_word.proofs.texts.cut_piece.Goals as goal
 

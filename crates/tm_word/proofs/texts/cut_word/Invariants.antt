@@ -1,5 +1,5 @@
 use Rattle.std.proofs.Common.{◌≡◌, length}
-use Rattle.tm_word.specs.Spelling.{words_of}
+use Rattle.tm_word.specs.Prelude.{words_of}
 use Rattle.tm_word.proofs.texts.cut_word.Given as goal
 
 -- no word has been passed

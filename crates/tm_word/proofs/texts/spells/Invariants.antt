@@ -1,6 +1,5 @@
 use Rattle.std.proofs.Common.{◌≡◌, drop}
-use Rattle.tm_word.specs.Spelling.{spell}
-use Rattle.tm_word.specs.Texts.{texts_equal}
+use Rattle.tm_word.specs.Prelude.{spell, texts_equal}
 use Rattle.tm_word.proofs.texts.spells.Given as goal
 
 abbrev pub invariant-loop-byte : goal.invariant-loop-byte

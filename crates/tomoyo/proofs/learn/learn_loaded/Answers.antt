@@ -1,7 +1,7 @@
 use Rattle.std.proofs.Common.{◌≡◌, sym, ap, subst}
-use Rattle.tm_rules.specs.Words.{Trace}
+use Rattle.tm_rules.specs.Prelude.{Trace}
 use Rattle.tm_trace.specs.Written.{IsTrace}
-use Rattle.tm_types.specs.declared.step.Start.{Start}
+use Rattle.tm_rules.specs.Types.{Start}
 use Rattle.tomoyo.specs.Rerun.{CanRerun, Reruns}
 use Rattle.tomoyo.proofs.Rerunning.{rerun-needs, learned-so}
 use Rattle.tomoyo.proofs.learn.learn_loaded.Goals as goal

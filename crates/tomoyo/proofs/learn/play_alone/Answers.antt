@@ -1,5 +1,5 @@
 use Rattle.std.proofs.Common.{sym, subst}
-use Rattle.tm_rules.specs.Few.{IsFew}
+use Rattle.tm_rules.specs.Prelude.{IsFew}
 use Rattle.tm_gen_laws.specs.CallInputLoaded.{Loaded}
 use Rattle.tm_trace.specs.Written.{IsTrace}
 use Rattle.tomoyo.proofs.Rerunning.{alone-so, can-alone}

@@ -1,11 +1,9 @@
 use Rattle.std.proofs.Common.{◌≡◌, ◌∙◌, sym, subst}
 use Rattle.std.specs.Prelude.{None}
-use Rattle.tm_rules.specs.Few.{IsFew}
-use Rattle.tm_types.specs.declared.policy.Policy.{Policy}
+use Rattle.tm_rules.specs.Prelude.{IsFew}
+use Rattle.tm_rules.specs.Types.{Policy}
 use Rattle.tm_run_laws.specs.Tomoyo.{tomoyo_grammar}
-use Rattle.tm_legal.specs.Clean.{switched}
-use Rattle.tm_legal.specs.Play.{CanPlay}
-use Rattle.tm_legal.specs.Replay.{alone}
+use Rattle.tm_legal.specs.Prelude.{CanPlay, alone, switched}
 use Rattle.tm_gen_laws.specs.Reading.{homeless}
 use Rattle.tomoyo.specs.Rerun.{again, IsPlayAlone}
 use Rattle.tomoyo.proofs.Rerunning.{few-switched, all-at-home, can-rerun, homes-kept, rerun-so}

@@ -1,5 +1,5 @@
 use Rattle.std.proofs.Common.{◌≡◌, ap}
-use Rattle.tm_types.specs.declared.step.Start.{Start}
+use Rattle.tm_rules.specs.Types.{Start}
 use Rattle.tomoyo.proofs.Playing.{printed-so}
 use Rattle.tomoyo.proofs.play.play_loaded.Goals as goal
 

@@ -1,8 +1,8 @@
 use Rattle.std.proofs.Common.{rules, ◌≡◌, ◌∙◌, sym, ap, subst}
 use Rattle.tm_desk.specs.Desks.{desk_book}
-use Rattle.tm_types.specs.declared.step.Book.{Book}
+use Rattle.tm_rules.specs.Types.{Book}
 use Rattle.tm_steal.specs.Machine.{Course}
-use Rattle.tm_legal.specs.Play.{Player}
+use Rattle.tm_legal.specs.Prelude.{Player}
 use Rattle.tm_legal.specs.Play as core
 use Rattle.tm_verify.specs.Scenes.{IsReached}
 use Rattle.tm_verify.specs.Scenes as scenes

@@ -1,9 +1,7 @@
 use Rattle.std.proofs.Common.{◌≡◌, ℕ, List, sym, ap, ◌∙◌, rules}
 use Rattle.std.specs.Prelude.{Some, None, unwrap_or}
-use Rattle.tm_types.specs.declared.policy.Namespace.{Namespace}
-use Rattle.tm_types.specs.declared.policy.Profile.{Profile}
-use Rattle.tm_rules.specs.Policy.{at_key}
-use Rattle.tm_rules.specs.Edit.{new_profile, put_key}
+use Rattle.tm_rules.specs.Types.{Namespace, Profile}
+use Rattle.tm_rules.specs.Prelude.{at_key, new_profile, put_key}
 use Rattle.tm_change_namespaces.specs.Effects.{number_of, profile_after}
 use Rattle.tm_change_namespaces.proofs.Effects.{numbered_line, plain_line}
 use Rattle.tm_change_namespaces.proofs.Outcomes.{done_so}

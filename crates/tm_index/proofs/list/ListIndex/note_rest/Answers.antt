@@ -1,5 +1,5 @@
 use Rattle.std.proofs.Common.{ℕ, List, ap, ◌∙◌}
-use Rattle.tm_word.specs.Words.{Text}
+use Rattle.tm_word.specs.Prelude.{Text}
 use Rattle.tm_index.specs.Listing.{Listed, listed}
 use Rattle.tm_index.proofs.list.ListIndex.note_rest.Goals as goal
 

@@ -1,6 +1,6 @@
 use Rattle.std.proofs.Common.{◌≡◌, [], sym, ap, ◌∙◌}
 use Rattle.std.specs.Option.{option_copied, option_map_or}
-use Rattle.tm_types.specs.declared.policy.Policy.{Policy}
+use Rattle.tm_rules.specs.Types.{Policy}
 use Rattle.tm_index.specs.Listing.{listed, listing}
 use Rattle.tm_indexed.specs.Known.{list_of}
 use Rattle.tm_indexed.proofs.LiteralLaws.{lent_named, none_named}

@@ -1,5 +1,5 @@
 use Rattle.std.proofs.Common.{sym, ap}
-use Rattle.tm_legal.specs.Steps.{Applied}
+use Rattle.tm_legal.specs.Prelude.{Applied}
 use Rattle.tm_machine.proofs.Leaving.{leaves_domains, leaves_refused}
 use Rattle.tm_machine.proofs.Offices.{course-fits}
 use Rattle.tm_machine.proofs.office.MachineOffice.apply.Goals as goal

@@ -1,7 +1,7 @@
 use Rattle.std.proofs.Common.{◌≡◌, ap, subst}
 use Rattle.std.specs.Prelude.{Some, slice_get}
 use Rattle.std.specs.Option.{option_copied}
-use Rattle.tm_types.specs.Request.{argument_words}
+use Rattle.tm_rules.specs.Types.{argument_words}
 use Rattle.tm_policy.specs.Searching.{Asked, asked_request}
 use Rattle.tm_policy.proofs.Executes.{asked_path}
 use Rattle.tm_policy.proofs.granting.Asked.name.Goals as goal

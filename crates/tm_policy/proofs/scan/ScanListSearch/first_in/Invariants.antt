@@ -1,5 +1,5 @@
 use Rattle.std.proofs.Common.{◌≡◌, drop}
-use Rattle.tm_rules.specs.Search.{placed}
+use Rattle.tm_rules.specs.Prelude.{placed}
 use Rattle.tm_policy.specs.Searching.{place_in, found_in}
 use Rattle.tm_policy.proofs.scan.ScanListSearch.first_in.Given as goal
 

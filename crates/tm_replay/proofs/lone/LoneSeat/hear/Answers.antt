@@ -1,6 +1,6 @@
 use Rattle.std.proofs.Common.{sym, ap, ◌∙◌}
-use Rattle.tm_rules.specs.Queries.{answer_of}
-use Rattle.tm_legal.specs.Steps.{State}
+use Rattle.tm_rules.specs.Prelude.{answer_of}
+use Rattle.tm_legal.specs.Prelude.{State}
 use Rattle.tm_machine.proofs.Offices.{course-state}
 use Rattle.tm_replay.proofs.Courses.{course-fitted}
 use Rattle.tm_replay.proofs.lone.LoneSeat.hear.Goals as goal

@@ -1,7 +1,6 @@
 use Rattle.std.proofs.Common.{refl, sym, ◌∙◌}
 use Rattle.std.proofs.lemmas.List.{length-map}
-use Rattle.tm_types.specs.declared.step.Made.{Made}
-use Rattle.tm_types.specs.declared.step.Reply.{Reply}
+use Rattle.tm_rules.specs.Types.{Made, Reply}
 use Rattle.tm_machine.specs.Office.{list_of}
 use Rattle.tm_replay.proofs.Courses.{course-fitted}
 use Rattle.tm_replay.proofs.Passes.{shows-ok}

@@ -1,6 +1,6 @@
 use Rattle.std.proofs.Common.{rules, ◌≡◌, false}
-use Rattle.tm_word.specs.Matching.{is_empty}
-use Rattle.tm_legal.specs.Play.{Stage}
+use Rattle.tm_word.specs.Prelude.{is_empty}
+use Rattle.tm_legal.specs.Prelude.{Stage}
 use Rattle.tm_take.specs.Taking.{owed_steps}
 use Rattle.tm_take.proofs.Walking.{owes_one}
 use Rattle.tm_take.proofs.requests.RequestInProgress.next_event.Goals as goal

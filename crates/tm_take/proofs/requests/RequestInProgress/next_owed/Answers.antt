@@ -1,5 +1,5 @@
 use Rattle.std.proofs.Common.{rules, ◌∙◌, ap}
-use Rattle.tm_legal.specs.Play.{Stage, InProgress}
+use Rattle.tm_legal.specs.Prelude.{InProgress, Stage}
 use Rattle.tm_take.specs.Taking.{owed_steps}
 use Rattle.tm_take.proofs.requests.RequestInProgress.next_owed.Goals as goal
 

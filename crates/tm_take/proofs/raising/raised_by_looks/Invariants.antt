@@ -1,7 +1,7 @@
 use Rattle.std.proofs.Common.{◌≡◌, drop}
-use Rattle.std.specs.List.{flat_map}
-use Rattle.tm_legal.specs.Run.{seen, raised}
-use Rattle.tm_verify_notes.proofs.cases.raised_by_looks.Given as goal
+use Rattle.std.specs.Prelude.{flat_map}
+use Rattle.tm_legal.specs.Prelude.{raised, seen}
+use Rattle.tm_take.proofs.raising.raised_by_looks.Given as goal
 
 -- with the looks from here on it is raised by all of them
 abbrev pub invariant-loop-look : goal.invariant-loop-look

@@ -1,6 +1,6 @@
 use Rattle.std.proofs.Common.{◌≡◌, max, drop}
-use Rattle.tm_legal.specs.Run.{raised}
-use Rattle.tm_verify_notes.proofs.takes.raised_by.Given as goal
+use Rattle.tm_legal.specs.Prelude.{raised}
+use Rattle.tm_take.proofs.raising.raised_by.Given as goal
 
 -- with the numbers from here on it is raised by all of them
 abbrev pub invariant-loop-number : goal.invariant-loop-number
