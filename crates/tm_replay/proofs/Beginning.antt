@@ -1,5 +1,5 @@
 -- How jobs begin: with fresh passes, which are told of the supervisor's coming.
-use Rattle.std.proofs.Common.{◌≡◌, ◌≤◌, ◌<◌, ℕ, List, [], ◌∷◌, ◌++◌, length, map, refl, sym, ap, ◌∙◌, subst, arith, append-nil, append_assoc}
+use Rattle.std.proofs.Common.{◌≡◌, ◌<◌, ℕ, List, [], ◌∷◌, ◌++◌, length, map, refl, sym, ap, ◌∙◌, subst, arith}
 use Rattle.std.specs.Prelude.{Option, Some}
 use Rattle.std.specs.List.{AllByRecursion}
 use Rattle.std.proofs.lemmas.List.{map-append}
@@ -43,35 +43,22 @@ All-last P xs x h = (All-right P xs (x ∷ []) h).0
 
 module _ {L O H : Type 0} {n : _} {l : _} {o : _} {J : Type 0} (part_of : J → Option (Part H)) (pass_of : J → Option (Pass L O Start Made n l o)) where
   -- at the beginning
-  pub given-none : (front : Option (Front L O Start Made n l o)) (parts waiting : List (Part H)) (passes left : List (Pass L O Start Made n l o)) (jobs : List J) → waiting ≡ parts → left ≡ passes → jobs ≡ [] → AreGiven part_of pass_of front parts passes waiting left jobs
-  given-none front parts waiting passes left jobs all lined none =
+  pub given-none : (front : Option (Front L O Start Made n l o)) (passes left : List (Pass L O Start Made n l o)) (jobs : List J) → left ≡ passes → jobs ≡ [] → AreGiven part_of pass_of front passes [] left jobs
+  given-none front passes left jobs lined none =
       record {
-        done = [];
-        all = all;
         parts_are = rw none refl;
         fresh = λ start fresh. rw lined fresh;
         starts = λ start fresh of waits. rw none tt;
       }
 
   -- one job more
-  pub given-next : (front : Option (Front L O Start Made n l o)) (parts rest : List (Part H)) (passes left after : List (Pass L O Start Made n l o)) (jobs more : List J) (part : Part H) (pass : Pass L O Start Made n l o) (job : J) → AreGiven part_of pass_of front parts passes (part ∷ rest) left jobs → left ≡ pass ∷ after → more ≡ jobs ++ job ∷ [] → part_of job ≡ Some part → ((start : Start) → IsFresh start pass → IsFrontOf start front → IsWorking part → JobStarts start (told_of front) (part_of job) (pass_of job)) → AreGiven part_of pass_of front parts passes rest after more
-  given-next front parts rest passes left after jobs more part pass job h is pushed of_part begins =
+  pub given-next : (front : Option (Front L O Start Made n l o)) (done : List (Part H)) (passes left after : List (Pass L O Start Made n l o)) (jobs more : List J) (part : Part H) (pass : Pass L O Start Made n l o) (job : J) → AreGiven part_of pass_of front passes done left jobs → left ≡ pass ∷ after → more ≡ jobs ++ job ∷ [] → part_of job ≡ Some part → ((start : Start) → IsFresh start pass → IsFrontOf start front → IsWorking part → JobStarts start (told_of front) (part_of job) (pass_of job)) → AreGiven part_of pass_of front passes (done ++ part ∷ []) after more
+  given-next front done passes left after jobs more part pass job h is pushed of_part begins =
       record {
-        done = h.done ++ part ∷ [];
-        all = append_assoc h.done (part ∷ []) rest ∙ h.all;
-        parts_are = ap (map part_of) pushed ∙ map-append part_of jobs (job ∷ []) ∙ ap (λ (l : List (Option (Part H))). l ++ part_of job ∷ []) h.parts_are ∙ ap (λ (p : Option (Part H)). map Some h.done ++ p ∷ []) of_part ∙ sym (map-append Some h.done (part ∷ []));
+        parts_are = ap (map part_of) pushed ∙ map-append part_of jobs (job ∷ []) ∙ ap (λ (l : List (Option (Part H))). l ++ part_of job ∷ []) h.parts_are ∙ ap (λ (p : Option (Part H)). map Some done ++ p ∷ []) of_part ∙ sym (map-append Some done (part ∷ []));
         fresh = λ start all. (subst (AllByRecursion (IsFresh start)) is (h.fresh start all)).1;
         starts = λ start all of waits.
             subst (AllByRecursion (λ j. JobStarts start (told_of front) (part_of j) (pass_of j))) (sym pushed)
-            (jobs-more part_of pass_of start (told_of front) jobs job (h.starts start all of (All-first IsWorking h.done part waits))
-            (begins start (subst (AllByRecursion (IsFresh start)) is (h.fresh start all)).0 of (All-last IsWorking h.done part waits)));
+            (jobs-more part_of pass_of start (told_of front) jobs job (h.starts start all of (All-first IsWorking done part waits))
+            (begins start (subst (AllByRecursion (IsFresh start)) is (h.fresh start all)).0 of (All-last IsWorking done part waits)));
       }
-
-  -- at the end
-  pub given-parts : (front : Option (Front L O Start Made n l o)) (parts waiting : List (Part H)) (passes left : List (Pass L O Start Made n l o)) (jobs made : List J) → AreGiven part_of pass_of front parts passes waiting left jobs → waiting ≡ [] → made ≡ jobs → map part_of made ≡ map Some parts
-  given-parts front parts waiting passes left jobs made h none same = ap (map part_of) same ∙ h.parts_are ∙ ap (map Some) (sym (append-nil h.done) ∙ ap (λ (ps : List (Part H)). h.done ++ ps) (sym none) ∙ h.all)
-
-  pub given-starts : (front : Option (Front L O Start Made n l o)) (parts waiting : List (Part H)) (passes left : List (Pass L O Start Made n l o)) (jobs made : List J) → AreGiven part_of pass_of front parts passes waiting left jobs → waiting ≡ [] → made ≡ jobs → (start : Start) → AllByRecursion (IsFresh start) passes → IsFrontOf start front → AllByRecursion IsWorking parts → AllByRecursion (λ j. JobStarts start (told_of front) (part_of j) (pass_of j)) made
-  given-starts front parts waiting passes left jobs made h none same start fresh of waits =
-      subst (AllByRecursion (λ j. JobStarts start (told_of front) (part_of j) (pass_of j))) (sym same)
-      (h.starts start fresh of (subst (AllByRecursion IsWorking) (sym (sym (append-nil h.done) ∙ ap (λ (ps : List (Part H)). h.done ++ ps) (sym none) ∙ h.all)) waits))

@@ -10,12 +10,10 @@ use Rattle.tm_seat.specs.Parts.{IsWorking, desk_parts}
 use Rattle.tm_replay.specs.Jobs.{JobStarts, told_of, IsFrontOf, HasComing}
 
 module _ {L O H : Type 0} {n : _} {l : _} {o : _} {J : Type 0} (part_of : J → Option (Part H)) (pass_of : J → Option (Pass L O Start Made n l o)) where
-  -- jobs of the parts that wait no more, with as many passes, which were told of this front
-  pub record AreGiven (front : Option (Front L O Start Made n l o)) (parts : List (Part H))
-      (passes : List (Pass L O Start Made n l o)) (waiting : List (Part H))
+  -- jobs of the parts so far, with as many of the passes, which were told of this front
+  pub record AreGiven (front : Option (Front L O Start Made n l o))
+      (passes : List (Pass L O Start Made n l o)) (done : List (Part H))
       (left : List (Pass L O Start Made n l o)) (jobs : List J) : Type 0 where
-    pub done : List (Part H)
-    pub all : done ++ waiting ≡ parts
     pub parts_are : map part_of jobs ≡ map Some done
     pub fresh : (start : Start) → AllByRecursion (IsFresh start) passes → AllByRecursion (IsFresh start) left
     pub starts : (start : Start) → AllByRecursion (IsFresh start) passes → IsFrontOf start front

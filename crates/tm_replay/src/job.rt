@@ -10,13 +10,14 @@ use crate::at::At;
 use std::alloc::Global;
 use std::sync::Wait;
 use tm_desk::Desk;
-use tm_engine::engine::Engine;
+use tm_engine::engine::EngineOf;
 use tm_engine::gate::Gate;
 use tm_list::{NoMemory, Seq};
 use tm_machine::Machine;
 use tm_machine::rep::Rep;
 use tm_office::{Hall, Office};
 use tm_publish::front::Named;
+use tm_publish::page::{Page, Sheet};
 use tm_publish::pass::Pass;
 use tm_seat::{Part, Seat, Work, play_editor};
 use tm_serve::serve;
@@ -34,15 +35,17 @@ pub(crate) struct Job<L: Named, O: Office, H, D> {
 /// What is the same for all jobs of a replay: the runtime of its threads, where memory is taken, the
 /// engine, the desk, the gate, the way in which workers work, and whether a supervisor stands.
 #[derive(Drop)]
-pub(crate) struct Field<'a, 'b, L: Named, O: Hall, F, W, G, K> {
+pub(crate) struct FieldOf<'a, 'b, L: Named, O: Hall, T: Sheet<L, O>, F, W, G, K> {
     pub(crate) rt: &'a W,
     pub(crate) alloc: Global,
-    pub(crate) engine: &'a Engine<L, O>,
+    pub(crate) engine: &'a EngineOf<L, O, T>,
     pub(crate) desk: &'a Desk<'b, F>,
     pub(crate) gate: &'a G,
     pub(crate) way: &'a K,
     pub(crate) supervised: bool,
 }
+
+pub(crate) type Field<'a, 'b, L, O, F, W, G, K> = FieldOf<'a, 'b, L, O, Page<L, O>, F, W, G, K>;
 
 // A worker's hand.
 fn run_worker<L: Named, R: Rep, F, W: Wait, G: Gate, H, D, K: Work<H, D>>(

@@ -1,5 +1,5 @@
 //! All jobs of a replay: how they begin, how they are played beside each other, and what is left.
-ghost use Rattle.std.specs.Prelude.{◌≡◌, ◌<◌, ◌++◌, ◌∷◌, [], ℕ, List, length, map, Some, None, true, false, IfOk, OnOk, IfSome, MatchOption, slice_index_or};
+ghost use Rattle.std.specs.Prelude.{◌≡◌, ◌<◌, ◌++◌, ◌∷◌, [], ℕ, List, length, map, Some, None, true, false, IfOk, OnOk, IfSome, slice_index_or};
 ghost use Rattle.std.specs.List.{AllByRecursion};
 ghost use Rattle.tm_rules.specs.Types.{Made, Start};
 ghost use Rattle.tm_desk.specs.Desks.{desk_book, IsDesk};
@@ -47,20 +47,6 @@ fn job_of<L: Named, R: Rep, H, D>(
     }
 }
 
-// These elements, to be taken out from the front.
-fn line_up<T>(items: Vec<T>) -> VecDeque<T>
-    ensures { result.items ≡ items.items }
-{
-    VecDeque::from(items)
-}
-
-// Takes the first element out; None where none is left.
-fn take_first<T: Drop>(left: &mut VecDeque<T>) -> Option<T>
-    ensures { MatchOption result (left.old.items ≡ []) (λ first. left.old.items ≡ first ∷ left.new.items) }
-{
-    left.pop_front()
-}
-
 // A job of a part more, with the next pass.
 fn add_job<L: Named, R: Rep, H: Drop, D: Drop>(
     part: Part<H>,
@@ -68,30 +54,17 @@ fn add_job<L: Named, R: Rep, H: Drop, D: Drop>(
     front: &Option<Front<L, Machine<R>>>,
     jobs: &mut Vec<Job<L, Machine<R>, H, D>>,
 ) -> Result<(), NoMemory>
-    ensures { OnOk result ((parts rest : List (Part H)) (passes : List _)
-        → AreGiven (λ job. job.part) (λ job. job.pass) front.now parts passes (part ∷ rest)
+    ensures { OnOk result ((done : List (Part H)) (passes : List _)
+        → AreGiven (λ job. job.part) (λ job. job.pass) front.now passes done
         left.old.items jobs.old.items
-        → AreGiven (λ job. job.part) (λ job. job.pass) front.now parts passes rest
+        → AreGiven (λ job. job.part) (λ job. job.pass) front.now passes (done ++ part ∷ [])
         left.new.items jobs.new.items) }
 {
-    let Some(pass) = take_first(left) else {
+    let Some(pass) = left.pop_front() else {
         return Err(lost());
     };
     jobs.push(job_of(part, pass, front))?;
     Ok(())
-}
-
-// These jobs, where no part waits any more.
-fn all_given<L: Named, R: Rep, H: Drop, D: Drop>(
-    waiting: VecDeque<Part<H>>,
-    jobs: Vec<Job<L, Machine<R>, H, D>>,
-) -> Result<Vec<Job<L, Machine<R>, H, D>>, NoMemory>
-    ensures { IfOk result (λ made. (waiting.items ≡ []) × (made.items ≡ jobs.items)) }
-{
-    if waiting.is_empty() {
-        return Ok(jobs);
-    }
-    Err(lost())
 }
 
 // A job for each part, with the passes in their order, each of which is told of a front.
@@ -106,17 +79,12 @@ fn jobs_of<L: Named, R: Rep, H: Drop, D: Drop>(
         → IsFrontOf start front.now → AllByRecursion IsWorking parts.items
         → AllByRecursion (λ job. JobStarts start (told_of front.now) job.part job.pass) jobs.items) }
 {
-    let count = parts.len();
-    let mut waiting = line_up(parts);
-    let mut left = line_up(passes);
+    let mut left = VecDeque::from(passes);
     let mut jobs = Vec::new(alloc);
-    for _ in 0..count {
-        let Some(part) = take_first(&mut waiting) else {
-            return Err(lost());
-        };
+    for part in parts {
         add_job(part, &mut left, front, &mut jobs)?;
     }
-    all_given(waiting, jobs)
+    Ok(jobs)
 }
 
 // The jobs of these parts, where no supervisor stands.

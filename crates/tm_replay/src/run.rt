@@ -18,7 +18,7 @@ ghost use Rattle.tm_seat.specs.Replayed.{Replayed};
 ghost use Rattle.tm_replay.specs.Jobs.{ArePlayed};
 ghost use Rattle.tm_replay.specs.Replays.{AreAllPlayed};
 
-use crate::job::Field;
+use crate::job::FieldOf;
 use crate::jobs::{begin_jobs, run_jobs, take_apart};
 use std::alloc::{AllocError, Global};
 use std::marker::Brand;
@@ -122,7 +122,7 @@ fn play_at<
         r.0.items r.1) }
 {
     let jobs = begin_jobs(rt, alloc, engine, parts, passes, supervised)?;
-    let field = Field {
+    let field = FieldOf {
         rt,
         alloc,
         engine,

@@ -1,26 +1,23 @@
-use Rattle.std.proofs.Common.{List, subst}
-use Rattle.std.proofs.lemmas.Result.{IfOk-weaker}
-use Rattle.tm_seat.specs.declared.part.Part.{Part}
-use Rattle.tm_replay.specs.Beginnings.{AreGiven}
-use Rattle.tm_replay.proofs.Beginning.{given-none, given-parts, given-starts}
+use Rattle.std.proofs.Common.{rules, ◌≡◌, List, ◌∷◌, [], map, refl, sym, ap, ◌∙◌, subst}
+use Rattle.std.specs.List.{AllByRecursion}
+use Rattle.std.proofs.lemmas.Iterator.Adapters.{YieldsList-from_vec}
+use Rattle.std.proofs.lemmas.Iterator.Consumers.{YieldsList-end}
+use Rattle.tm_seat.specs.Parts.{IsWorking}
+use Rattle.tm_replay.proofs.Beginning.{given-none}
 use Rattle.tm_replay.proofs.jobs.jobs_of.Goals as goal
 
-pub loop-init : goal.loop-init
-loop-init g c = given-none (λ job. job.part) (λ job. job.pass) c.args.front.now c.args.parts.items c.line_up-waiting.result.items c.args.passes.items c.line_up-left.result.items c.new-jobs.result.items c.line_up-waiting.ensures c.line_up-left.ensures c.new-jobs.ensures.items
+pub loop-part-init : goal.loop-part-init
+loop-part-init g c = given-none (λ job. job.part) (λ job. job.pass) c.args.front.now c.args.passes.items c.from-left.result.items c.new-jobs.result.items c.from-left.ensures.0 c.new-jobs.ensures.items
 
-pub loop-preserved : goal.loop-preserved
-loop-preserved g c =
-    c.in_ok-add_job.ensures c.args.parts.items c.take_first.new.left.items c.args.passes.items
-    (subst (λ (waiting : List (Part g.row.H.Denot)). AreGiven (λ job. job.part) (λ job. job.pass) c.args.front.now c.args.parts.items c.args.passes.items waiting c.loop.left.items c.loop.jobs.items) c.in-Some.ensures c.loop.invariant)
+pub loop-part-preserved : goal.loop-part-preserved
+loop-part-preserved g c = c.in_ok-add_job.ensures c.loop-part.yielded c.args.passes.items c.loop-part.invariant
 
-pub returns-clause-parts : goal.returns-clause-parts
-returns-clause-parts g c =
-    IfOk-weaker c.all_given.result _ _
-    (λ made both. given-parts (λ job. job.part) (λ job. job.pass) c.args.front.now c.args.parts.items c.loop.waiting.items c.args.passes.items c.loop.left.items c.loop.jobs.items made.items c.loop.invariant both.0 both.1)
-    c.all_given.ensures
+map_same : {A : Type 0} (xs : List A) → map (λ y. y) xs ≡ xs
+map_same [] = refl
+map_same (x ∷ xs) = ap (λ ys. x ∷ ys) (map_same xs)
 
 pub returns-clause-starts : goal.returns-clause-starts
-returns-clause-starts g c =
-    IfOk-weaker c.all_given.result _ _
-    (λ made both start fresh of waits. given-starts (λ job. job.part) (λ job. job.pass) c.args.front.now c.args.parts.items c.loop.waiting.items c.args.passes.items c.loop.left.items c.loop.jobs.items made.items c.loop.invariant both.0 both.1 start fresh of waits)
-    c.all_given.ensures
+returns-clause-starts g c start fresh of waits =
+    let runs = YieldsList-end (YieldsList-from_vec c.args.parts.items (search rules) (search rules)) c.loop-part.yielded c.loop-part.part-iterator c.loop-part.yielded_by c.next.result c.next.new.self c.in-None.is c.next.ensures.steps in
+    let all : c.loop-part.yielded ≡ c.args.parts.items = sym (map_same c.loop-part.yielded) ∙ runs.0 in
+    c.loop-part.invariant.starts start fresh of (subst (AllByRecursion IsWorking) (sym all) waits)
