@@ -4,12 +4,12 @@ ghost use Rattle.tm_word.specs.Prelude.{pieces};
 ghost use Rattle.tm_run.specs.Fields.{u8_of, u32_of, u64_of, case_of, reason_of, way_of, move_of, numbers_of, answer_of, heard_of, file_of};
 
 use std::alloc::Global;
-use tm_list::{NoMemory, Seq};
+use tm_list::NoMemory;
 use tm_number::plain_number;
 use tm_types::brief::Brief;
 use tm_types::step::{Answered, FileKind, Heard};
 use tm_types::verdict::{EntryPlace, Move, Reason};
-use tm_word::{Text, bytes_equal, cut_at, of_word, value_of};
+use tm_word::{bytes_equal, cut_at, of_word, value_of};
 
 // A plain number of 8 bits, or 0.
 #[tactic(auto, unfolding(crate::specs::Fields::number_of))]
@@ -44,20 +44,6 @@ pub(crate) fn u64_of(word: &[u8]) -> u64
     }
 }
 
-// What stands between these bytes of a word.
-pub(crate) fn pieces(alloc: Global, byte: u8, word: &[u8]) -> Result<Vec<Text>, NoMemory>
-    ensures { IfOk result (λ made. made.items ≡ pieces byte word.now) }
-{
-    let mut made = Vec::new(alloc);
-    let mut rest = word;
-    while let Some((piece, after)) = cut_at(byte, rest) {
-        made.push(Seq::from_bytes(alloc, piece)?)?;
-        rest = after;
-    }
-    made.push(Seq::from_bytes(alloc, rest)?)?;
-    Ok(made)
-}
-
 /// The reasons that have no place, by their words.
 const REASONS: [(&str, Reason); 8] = [
     ("disabled", Reason::Disabled),
@@ -77,20 +63,19 @@ fn case_of(word: &[u8]) -> Reason
     value_of(&REASONS, word).unwrap_or(Reason::NoManual)
 }
 
-#[tactic(auto, unfolding(crate::specs::Fields::reason_of))]
-pub(crate) fn reason_of(alloc: Global, word: &[u8]) -> Result<Reason, NoMemory>
-    ensures { IfOk result (λ reason. reason ≡ reason_of word.now) }
+#[tactic(auto, using(crate::proofs::Pieces::reason_more), unfolding(crate::specs::Fields::reason_of))]
+pub(crate) fn reason_of(word: &[u8]) -> Reason
+    ensures { result ≡ reason_of word.now }
 {
-    let found = pieces(alloc, b':', word)?;
-    match found.as_slice() {
-        [word] => Ok(case_of(word.bytes())),
-        [_, place] => Ok(Reason::Entry(EntryPlace::Own(u32_of(place.bytes())))),
-        [_, group, place] => Ok(Reason::Entry(EntryPlace::Acl(
-            u8_of(group.bytes()),
-            u32_of(place.bytes()),
-        ))),
-        [] => Ok(Reason::NoManual),
-        [_, _, _, _, ..] => Ok(Reason::NoManual),
+    let Some((_, rest)) = cut_at(b':', word) else {
+        return case_of(word);
+    };
+    let Some((group, place)) = cut_at(b':', rest) else {
+        return Reason::Entry(EntryPlace::Own(u32_of(rest)));
+    };
+    match cut_at(b':', place) {
+        None => Reason::Entry(EntryPlace::Acl(u8_of(group), u32_of(place))),
+        Some(_) => Reason::NoManual,
     }
 }
 
@@ -107,27 +92,30 @@ fn way_of(word: &[u8]) -> Move
     Move::Fail
 }
 
-#[tactic(auto, unfolding(crate::specs::Fields::move_of))]
-pub(crate) fn move_of(alloc: Global, word: &[u8]) -> Result<Move, NoMemory>
-    ensures { IfOk result (λ step. step ≡ move_of word.now) }
+#[tactic(auto, using(crate::proofs::Pieces::move_more), unfolding(crate::specs::Fields::move_of))]
+pub(crate) fn move_of(word: &[u8]) -> Move
+    ensures { result ≡ move_of word.now }
 {
-    let found = pieces(alloc, b':', word)?;
-    match found.as_slice() {
-        [word] => Ok(way_of(word.bytes())),
-        [_, domain] => Ok(Move::Enter(u32_of(domain.bytes()))),
-        [] => Ok(Move::Fail),
-        [_, _, _, ..] => Ok(Move::Fail),
+    let Some((_, domain)) = cut_at(b':', word) else {
+        return way_of(word);
+    };
+    match cut_at(b':', domain) {
+        None => Move::Enter(u32_of(domain)),
+        Some(_) => Move::Fail,
     }
 }
 
 // The numbers between the commas of a word.
-fn listed(alloc: Global, pieces: &[Text]) -> Result<Brief<u64>, NoMemory>
-    ensures { IfOk result (λ numbers. numbers ≡ map u64_of pieces.now) }
+fn listed(alloc: Global, word: &[u8]) -> Result<Brief<u64>, NoMemory>
+    ensures { IfOk result (λ numbers. numbers ≡ map u64_of (pieces 44 word.now)) }
 {
     let mut numbers = Brief::new(alloc);
-    for piece in pieces {
-        numbers.push(u64_of(piece.bytes()))?;
+    let mut rest = word;
+    while let Some((piece, after)) = cut_at(b',', rest) {
+        numbers.push(u64_of(piece))?;
+        rest = after;
     }
+    numbers.push(u64_of(rest))?;
     Ok(numbers)
 }
 
@@ -138,8 +126,7 @@ pub(crate) fn numbers_of(alloc: Global, word: &[u8]) -> Result<Brief<u64>, NoMem
     if bytes_equal(word, b"-") {
         return Ok(Brief::new(alloc));
     }
-    let found = pieces(alloc, b',', word)?;
-    listed(alloc, &found)
+    listed(alloc, word)
 }
 
 /// What may become of a query, by its words.
@@ -157,19 +144,17 @@ fn answer_of(word: &[u8]) -> Option<Answered>
     value_of(&ANSWERS, word)
 }
 
-#[tactic(auto, unfolding(crate::specs::Fields::heard_of))]
-pub(crate) fn heard_of(alloc: Global, word: &[u8]) -> Result<Option<Heard>, NoMemory>
-    ensures { IfOk result (λ heard. heard ≡ heard_of word.now) }
+#[tactic(auto, using(crate::proofs::Pieces::heard_more), unfolding(crate::specs::Fields::heard_of))]
+pub(crate) fn heard_of(word: &[u8]) -> Option<Heard>
+    ensures { result ≡ heard_of word.now }
 {
-    let found = pieces(alloc, b'@', word)?;
-    match found.as_slice() {
-        [answer, version] => Ok(Some(Heard {
-            answer: answer_of(answer.bytes()),
-            version: u64_of(version.bytes()),
-        })),
-        [] => Ok(None),
-        [_] => Ok(None),
-        [_, _, _, ..] => Ok(None),
+    let (answer, version) = cut_at(b'@', word)?;
+    match cut_at(b'@', version) {
+        None => Some(Heard {
+            answer: answer_of(answer),
+            version: u64_of(version),
+        }),
+        Some(_) => None,
     }
 }
 

@@ -2,7 +2,7 @@
 ghost use Rattle.std.specs.Prelude.{◌≡◌, ◌+◌, ◌∷◌, ◌++◌, ◌&&◌, ◌<◌, [], length, true, false, Some, IfOk, MatchOption};
 ghost use Rattle.tm_run.specs.RunText.{run_text, take_line, look_text, audit_line};
 ghost use Rattle.tm_run.specs.Steps.{step_line};
-ghost use Rattle.tm_word.specs.Prelude.{Gives, texts_equal};
+ghost use Rattle.tm_word.specs.Prelude.{Gives, texts_equal, words_of};
 ghost use Rattle.tm_run.specs.Reading.{run_cause, fresh, has_number, with_step, with_take, with_look, with_audit, is_empty, starts, outside, within, line_read, lines_of, run_at, run_from, run_of};
 ghost use Rattle.tm_run.specs.Laws.{WrittenIsRead, ReadIsWritten, FaultIsFirst};
 
@@ -14,7 +14,7 @@ use crate::steps::push_step_line;
 use std::alloc::Global;
 use tm_list::{NoMemory, Seq};
 use tm_types::step::{Look, Reply, Run, RunFault, Step, Take};
-use tm_word::{Text, bytes_equal, normal_words, place_of};
+use tm_word::{Text, bytes_equal, cut_word, place_of};
 
 /// What has been read of a run: its steps, its takes, and the take that is begun, with its looks so
 /// far.
@@ -229,26 +229,21 @@ fn with_audit(
 }
 
 // Whether the first word is this one.
-fn starts(keyword: &[u8], words: &[Text]) -> bool
-    ensures { result ≡ starts keyword.now words.now }
+fn starts(keyword: &[u8], line: &[u8]) -> bool
+    ensures { result ≡ starts keyword.now (words_of line.now) }
 {
-    match words {
-        [] => false,
-        [word, ..] => bytes_equal(word.bytes(), keyword),
+    match cut_word(line) {
+        None => false,
+        Some((word, _)) => bytes_equal(word, keyword),
     }
 }
 
 // Between takes: the first line of a take, or a step before all takes.
-fn outside(
-    alloc: Global,
-    reading: Reading,
-    line: &[u8],
-    words: &[Text],
-) -> Result<Option<Reading>, NoMemory>
-    ensures { IfOk result (λ next. next ≡ outside reading line.now words.now) }
+fn outside(alloc: Global, reading: Reading, line: &[u8]) -> Result<Option<Reading>, NoMemory>
+    ensures { IfOk result (λ next. next ≡ outside reading line.now (words_of line.now)) }
 {
-    if starts(b"take", words) {
-        return match take_of(alloc, words) {
+    if starts(b"take", line) {
+        return match take_of(alloc, line) {
             Some(take) => with_take(alloc, reading, line, take),
             None => Ok(None),
         };
@@ -256,7 +251,7 @@ fn outside(
     if !reading.takes.is_empty() {
         return Ok(None);
     }
-    match step_of(alloc, words) {
+    match step_of(alloc, line) {
         Ok(Some(step)) => with_step(alloc, reading, line, step),
         Ok(None) => Ok(None),
         Err(fault) => Err(fault),
@@ -269,17 +264,16 @@ fn within(
     reading: Reading,
     take: Take,
     line: &[u8],
-    words: &[Text],
 ) -> Result<Option<Reading>, NoMemory>
-    ensures { IfOk result (λ next. next ≡ within reading take line.now words.now) }
+    ensures { IfOk result (λ next. next ≡ within reading take line.now (words_of line.now)) }
 {
-    if starts(b"audit", words) {
-        return match audit_of(alloc, words) {
+    if starts(b"audit", line) {
+        return match audit_of(alloc, line) {
             Ok(audit) => with_audit(alloc, reading, take, line, audit),
             Err(fault) => Err(fault),
         };
     }
-    match look_of(alloc, words) {
+    match look_of(alloc, line) {
         Ok(Some(look)) => with_look(alloc, reading, take, line, look),
         Ok(None) => Ok(None),
         Err(fault) => Err(fault),
@@ -291,7 +285,6 @@ fn within(
 fn line_read(alloc: Global, reading: Reading, line: &[u8]) -> Result<Option<Reading>, NoMemory>
     ensures { IfOk result (λ next. next ≡ line_read reading line.now) }
 {
-    let words = normal_words(alloc, line)?;
     let Reading {
         steps,
         takes,
@@ -303,8 +296,8 @@ fn line_read(alloc: Global, reading: Reading, line: &[u8]) -> Result<Option<Read
         begun: None,
     };
     match begun {
-        None => outside(alloc, rest, line, &words),
-        Some(take) => within(alloc, rest, take, line, &words),
+        None => outside(alloc, rest, line),
+        Some(take) => within(alloc, rest, take, line),
     }
 }
 

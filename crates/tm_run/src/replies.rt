@@ -1,14 +1,12 @@
 //! The reply in a step's line, one word.
-ghost use Rattle.std.specs.Prelude.{◌≡◌, IfOk};
+ghost use Rattle.std.specs.Prelude.{◌≡◌};
 ghost use Rattle.tm_run.specs.Fields.{reply_of};
 ghost use Rattle.tm_run.specs.Replies.{new_or_old, make_of, held_of, fault_of, kind_of, edited_of, edit_of};
 
-use crate::fields::{pieces, u32_of, u64_of};
-use std::alloc::Global;
-use tm_list::NoMemory;
+use crate::fields::{u32_of, u64_of};
 use tm_types::entry::LineKind;
 use tm_types::step::{AnswerFault, EditReply, Held, LearnReply, MakeReply};
-use tm_word::{bytes_equal, of_word, value_of};
+use tm_word::{bytes_equal, cut_at, of_word, value_of};
 
 #[tactic(auto, unfolding(crate::specs::Fields::reply_of))]
 pub(crate) fn reply_of(word: &[u8]) -> LearnReply
@@ -26,29 +24,29 @@ fn new_or_old(word: &[u8], domain: &[u8]) -> MakeReply
     MakeReply::Old(u32_of(domain))
 }
 
-#[tactic(auto, unfolding(crate::specs::Replies::make_of))]
-pub(crate) fn make_of(alloc: Global, word: &[u8]) -> Result<MakeReply, NoMemory>
-    ensures { IfOk result (λ reply. reply ≡ make_of word.now) }
+#[tactic(auto, using(crate::proofs::Pieces::make_more), unfolding(crate::specs::Replies::make_of))]
+pub(crate) fn make_of(word: &[u8]) -> MakeReply
+    ensures { result ≡ make_of word.now }
 {
-    let found = pieces(alloc, b':', word)?;
-    match found.as_slice() {
-        [word, domain] => Ok(new_or_old(word.bytes(), domain.bytes())),
-        [] => Ok(MakeReply::Old(0)),
-        [_] => Ok(MakeReply::Old(0)),
-        [_, _, _, ..] => Ok(MakeReply::Old(0)),
+    let Some((word, domain)) = cut_at(b':', word) else {
+        return MakeReply::Old(0);
+    };
+    match cut_at(b':', domain) {
+        None => new_or_old(word, domain),
+        Some(_) => MakeReply::Old(0),
     }
 }
 
-#[tactic(auto, unfolding(crate::specs::Replies::held_of))]
-pub(crate) fn held_of(alloc: Global, word: &[u8]) -> Result<Held, NoMemory>
-    ensures { IfOk result (λ held. held ≡ held_of word.now) }
+#[tactic(auto, using(crate::proofs::Pieces::held_more), unfolding(crate::specs::Replies::held_of))]
+pub(crate) fn held_of(word: &[u8]) -> Held
+    ensures { result ≡ held_of word.now }
 {
-    let found = pieces(alloc, b':', word)?;
-    match found.as_slice() {
-        [_, serial] => Ok(Held::Serial(u64_of(serial.bytes()))),
-        [] => Ok(Held::Nobody),
-        [_] => Ok(Held::Nobody),
-        [_, _, _, ..] => Ok(Held::Nobody),
+    let Some((_, serial)) = cut_at(b':', word) else {
+        return Held::Nobody;
+    };
+    match cut_at(b':', serial) {
+        None => Held::Serial(u64_of(serial)),
+        Some(_) => Held::Nobody,
     }
 }
 
@@ -86,15 +84,15 @@ fn edited_of(word: &[u8]) -> EditReply
     value_of(&edits, word).unwrap_or(EditReply::Done)
 }
 
-#[tactic(auto, unfolding(crate::specs::Replies::edit_of))]
-pub(crate) fn edit_of(alloc: Global, word: &[u8]) -> Result<EditReply, NoMemory>
-    ensures { IfOk result (λ reply. reply ≡ edit_of word.now) }
+#[tactic(auto, using(crate::proofs::Pieces::edit_more), unfolding(crate::specs::Replies::edit_of))]
+pub(crate) fn edit_of(word: &[u8]) -> EditReply
+    ensures { result ≡ edit_of word.now }
 {
-    let found = pieces(alloc, b':', word)?;
-    match found.as_slice() {
-        [word] => Ok(edited_of(word.bytes())),
-        [_, kind] => Ok(EditReply::BadLine(kind_of(kind.bytes()))),
-        [] => Ok(EditReply::Done),
-        [_, _, _, ..] => Ok(EditReply::Done),
+    let Some((_, kind)) = cut_at(b':', word) else {
+        return edited_of(word);
+    };
+    match cut_at(b':', kind) {
+        None => EditReply::BadLine(kind_of(kind)),
+        Some(_) => EditReply::Done,
     }
 }
